@@ -1,0 +1,18 @@
+-- What a sink has taken, and what writing adds to it.
+use Rattle.std.specs.Prelude.{◌≡◌, ℕ, ◌≤◌, Bool, List, ◌++◌, length, take}
+use Rattle.std.specs.Option.{option_map}
+use Rattle.std.specs.declared.option.Option.{Option}
+
+-- what an object keeps as a sink
+pub record Writing : Type 0 where
+  pub taken : Option (List ℕ)
+  pub write_faults : ℕ
+  pub sure : Bool
+
+-- what was taken, and then these bytes
+abbrev pub appended : Option (List ℕ) → List ℕ → Option (List ℕ)
+appended taken bytes = option_map (λ before. before ++ bytes) taken
+
+-- a front of these bytes is taken
+abbrev pub AppendsFront : Option (List ℕ) → Option (List ℕ) → List ℕ → Type 0
+AppendsFront old new bytes = (n : ℕ) × (n ≤ length bytes) × (new ≡ appended old (take n bytes))

@@ -1,0 +1,94 @@
+//! std's readers and writers as a source and a sink.
+//!
+//! Nothing is told of the bytes: what the process is connected to is trusted.
+ghost use Rattle.std.specs.Prelude.{◌≡◌, ◌<◌, ◌≤◌, length, take, IfSome, IfOk, IfErr, IsErr, None, false};
+ghost use Rattle.std.specs.Io.KnownBytes.{ReadConsumes, Appends};
+ghost use Rattle.tc_io.specs.Faults.{Counts};
+
+use crate::{Failed, Sink, SinkFault, Source};
+use std::io::{Read, Write};
+
+/// A reader, whose errors are counted.
+#[derive(Drop)]
+pub struct StdSource<R> {
+    reader: R,
+    faults: u64,
+}
+
+impl<R: Read> StdSource<R> {
+    pub fn new(reader: R) -> StdSource<R>
+        ensures { result ≡ record { reader = reader; faults = 0 } }
+    {
+        StdSource { reader, faults: 0 }
+    }
+}
+
+impl<R: Read> Source for StdSource<R> {
+    ghost left = { λ _. None };
+
+    ghost read_faults = { λ s. s.faults };
+
+    ghost sure = { λ _. false };
+
+    ghost other = { λ _. None };
+
+    fn read(&mut self, into: &mut [u8]) -> Result<usize, Failed>
+        ensures count { IfOk result (λ n. n ≤ length into.old) }
+        ensures counted { Counts (IsErr result) self.old.faults self.new.faults }
+
+        // The bytes are the reader's next ones, and none only at their end, where those are known.
+        ensures given { ReadConsumes
+            (R.remaining self.old.reader) (R.remaining self.new.reader) result into.new }
+    {
+        match self.reader.read(into) {
+            Ok(n) => Ok(n),
+            Err(_) => {
+                self.faults = self.faults.saturating_add(1);
+                Err(Failed)
+            }
+        }
+    }
+}
+
+/// A writer, whose errors are counted. Each piece is flushed as it is written.
+#[derive(Drop)]
+pub struct StdSink<W> {
+    writer: W,
+    faults: u64,
+}
+
+impl<W: Write> StdSink<W> {
+    pub fn new(writer: W) -> StdSink<W>
+        ensures { result ≡ record { writer = writer; faults = 0 } }
+    {
+        StdSink { writer, faults: 0 }
+    }
+}
+
+impl<W: Write> Sink for StdSink<W> {
+    ghost taken = { λ _. None };
+
+    ghost write_faults = { λ s. s.faults };
+
+    ghost sure = { λ _. false };
+
+    ghost other = { λ _. None };
+
+    fn write(&mut self, piece: &[u8]) -> Result<usize, SinkFault>
+        ensures count { IfOk result (λ n. (0 < n) × (n ≤ length piece.now)) }
+        ensures failed { IfErr result (λ fault. fault ≡ SinkFault.Failed) }
+        ensures counted { Counts (IsErr result) self.old.faults self.new.faults }
+
+        // The bytes went to the writer, where what it holds is known.
+        ensures written { IfOk result (λ n. Appends
+            (W.contents self.old.writer) (W.contents self.new.writer) (take n piece.now)) }
+    {
+        match self.writer.write(piece) {
+            Ok(n) if n > 0 && self.writer.flush().is_ok() => Ok(n),
+            _ => {
+                self.faults = self.faults.saturating_add(1);
+                Err(SinkFault::Failed)
+            }
+        }
+    }
+}
