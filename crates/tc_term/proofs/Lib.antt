@@ -1,0 +1,9 @@
+pub mod Trees
+pub mod Sizes
+pub mod Variables
+pub mod Places
+pub mod Renumbering
+pub mod Instances
+pub mod Solutions
+pub mod Numbered
+pub mod Matching

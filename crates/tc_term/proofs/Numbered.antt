@@ -1,0 +1,90 @@
+-- Terms whose variables are 0, 1, .. by first appearance.
+use Rattle.std.proofs.Common.{◌≡◌, ◌<◌, ◌≤◌, ◌-◌, ◌⊎◌, inl, inr, ℕ, List, [], length, refl, ap, sym, ◌∙◌, subst, arith}
+use Rattle.std.proofs.lemmas.Bool.{cases_lt}
+use Rattle.tc_term.proofs.Instances.{instance-Variable}
+use Rattle.tc_term.proofs.Places.{Stands, Stands-range, Stands-with_number_back, Stands-with_number_new, place_in-range}
+use Rattle.tc_term.proofs.Renumbering.{Stands-variables_after_all}
+use Rattle.tc_term.specs.Tree.{Tree, Variable, Atomic, Number, Compound, Trees, Last, More}
+use Rattle.tc_term.specs.Variables.{instance, instances, place_in, var_bound, var_bound_of_all, variables_after, variables_after_all, variables, renumbered, IsPattern}
+
+-- only the trees of the variables that stand in a term count
+mutual
+  pub instance-alike : (f g : ℕ → Tree) (t : Tree) (seen : List ℕ) →
+      ((n : ℕ) → Stands (variables_after seen t) n → f n ≡ g n) → instance f t ≡ instance g t
+  instance-alike f g (Variable n) seen alike = alike n (Stands-with_number_new seen n)
+  instance-alike f g (Atomic name) seen alike = refl
+  instance-alike f g (Number n) seen alike = refl
+  instance-alike f g (Compound name args) seen alike = ap (Compound name) (instances-alike f g args seen alike)
+
+  pub instances-alike : (f g : ℕ → Tree) (ts : Trees) (seen : List ℕ) →
+      ((n : ℕ) → Stands (variables_after_all seen ts) n → f n ≡ g n) → instances f ts ≡ instances g ts
+  instances-alike f g (Last t) seen alike = ap Last (instance-alike f g t seen alike)
+  instances-alike f g (More t ts) seen alike =
+      let first = instance-alike f g t seen (λ n stands. alike n (Stands-variables_after_all ts (variables_after seen t) n stands)) in
+      let rest = instances-alike f g ts (variables_after seen t) alike in
+      cc
+
+-- numbers below which all variables lie
+mutual
+  pub var_bound_within : (t : Tree) (seen : List ℕ) (len : ℕ) →
+      ((n : ℕ) → Stands (variables_after seen t) n → n < len) → var_bound t ≤ len
+  var_bound_within (Variable n) seen len below = omega (arith, below n (Stands-with_number_new seen n))
+  var_bound_within (Atomic name) seen len below = omega arith
+  var_bound_within (Number n) seen len below = omega arith
+  var_bound_within (Compound name args) seen len below = var_bound_of_all_within args seen len below
+
+  pub var_bound_of_all_within : (ts : Trees) (seen : List ℕ) (len : ℕ) →
+      ((n : ℕ) → Stands (variables_after_all seen ts) n → n < len) → var_bound_of_all ts ≤ len
+  var_bound_of_all_within (Last t) seen len below = var_bound_within t seen len below
+  var_bound_of_all_within (More t ts) seen len below =
+      omega (
+        arith,
+        var_bound_within t seen len (λ n stands. below n (Stands-variables_after_all ts (variables_after seen t) n stands)),
+        var_bound_of_all_within ts (variables_after seen t) len below,
+      )
+
+mutual
+  pub below_var_bound : (t : Tree) (seen : List ℕ) (m : ℕ) →
+      Stands (variables_after seen t) m → Stands seen m ⊎ (m < var_bound t)
+  below_var_bound (Variable n) seen m stands =
+      elim (Stands-with_number_back seen m n stands) [ inl old ↦ inl old | inr new ↦ inr (omega (arith, new)) ]
+  below_var_bound (Atomic name) seen m stands = inl stands
+  below_var_bound (Number n) seen m stands = inl stands
+  below_var_bound (Compound name args) seen m stands = below_var_bound_of_all args seen m stands
+
+  pub below_var_bound_of_all : (ts : Trees) (seen : List ℕ) (m : ℕ) →
+      Stands (variables_after_all seen ts) m → Stands seen m ⊎ (m < var_bound_of_all ts)
+  below_var_bound_of_all (Last t) seen m stands = below_var_bound t seen m stands
+  below_var_bound_of_all (More t ts) seen m stands =
+      elim (below_var_bound_of_all ts (variables_after seen t) m stands) [
+        | inl among ↦ elim (below_var_bound t seen m among) [ inl old ↦ inl old | inr below ↦ inr (omega (arith, below)) ]
+        | inr below ↦ inr (omega (arith, below))
+      ]
+
+-- a template is numbered as it is
+pub renumbered-pattern : (t : Tree) → IsPattern t → renumbered t ≡ t
+renumbered-pattern t pattern =
+    let len = length (variables t) in
+    instance-alike (λ n. Variable (place_in (variables t) n)) Variable t [] (λ n stands.
+    ap Variable (ap (λ vs. place_in vs n) pattern.numbered
+    ∙ (place_in-range len n (subst (λ vs. Stands vs n) pattern.numbered stands)).0))
+    ∙ instance-Variable t
+
+-- a template's variables are those below their number
+pub var_bound-pattern : (t : Tree) → IsPattern t → var_bound t ≡ length (variables t)
+var_bound-pattern t pattern =
+    let len = length (variables t) in
+    let within : var_bound t ≤ len = var_bound_within t [] len (λ n stands.
+    (place_in-range len n (subst (λ vs. Stands vs n) pattern.numbered stands)).1) in
+    let reached : len ≤ var_bound t =
+    elim (cases_lt 0 len) [
+      | inr none ↦ omega (arith, none)
+      | inl some ↦
+          let last : Stands (variables t) (len - 1) =
+          subst (λ vs. Stands vs (len - 1)) (sym pattern.numbered) (Stands-range len (len - 1) (omega (arith, some))) in
+          elim (below_var_bound t [] (len - 1) last) [
+            | inl absent ↦ absurd (omega (arith, absent))
+            | inr below ↦ omega (arith, below, some)
+          ]
+    ] in
+    omega (arith, within, reached)

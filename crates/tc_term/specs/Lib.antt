@@ -1,0 +1,15 @@
+pub mod Tree
+pub mod TreeView
+pub mod Same
+pub mod Ground
+pub mod Variables
+pub mod Pattern
+pub mod Equations
+pub mod Text
+pub mod Room
+pub mod TreeCode
+pub mod TreeFalls
+pub mod Tokens
+pub mod Layouts
+pub mod Grammar
+pub mod Faults

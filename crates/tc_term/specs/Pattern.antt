@@ -1,0 +1,13 @@
+-- Why a term is no template.
+use Rattle.std.specs.Prelude.{◌≡◌, ◌<◌, length}
+use Rattle.tc_term.specs.Tree.{Fits}
+use Rattle.tc_term.specs.TreeView.{tree_of}
+use Rattle.tc_term.specs.Variables.{variables}
+use Rattle.tc_term.specs.declared.template.NotPattern.{NotPattern}
+use Rattle.tc_term.specs.declared.template.NotPattern.TheVariants.{TooBig, TooMany}
+use Rattle.tc_term.specs.declared.terms.Term.{Term}
+
+-- the term, given back, is too big, or it fits and has too many variables
+abbrev pub HasExcess : Term → NotPattern → Type 0
+HasExcess t (TooBig u) = (u ≡ t) × (Fits (tree_of t) → ⊥)
+HasExcess t (TooMany u) = (u ≡ t) × Fits (tree_of t) × (256 < length (variables (tree_of t)))

@@ -1,0 +1,28 @@
+//! Terms: ground terms that are tuples, and templates that match them.
+//!
+//! A term is plain data in contracts: a tree of variables, atoms, whole numbers and compounds. What
+//! its text is, and what equations say of its variables, is defined here too. Nothing here knows of
+//! operations or tuple centres.
+#![tactic(auto)]
+
+mod comparison;
+mod laws;
+mod limits;
+mod name;
+mod numbering;
+mod template;
+mod terms;
+#[cfg(test)]
+mod tests;
+mod tuple;
+
+pub use comparison::Cmp;
+pub use laws::{
+    fewer_equations_have_more_solutions, ground_template_matches_itself, renumbering_keeps_matches,
+    template_keeps_its_numbers, value_is_a_tuple, value_is_unique,
+};
+pub use limits::fits;
+pub use name::Name;
+pub use template::{NotPattern, Pattern};
+pub use terms::{Args, Term};
+pub use tuple::{Ground, NotTuple};

@@ -1,0 +1,93 @@
+//! Templates: terms within the limits, whose few variables are numbered by first appearance.
+ghost use Rattle.std.specs.Prelude.{◌≡◌, IfErr, IfOk, length};
+ghost use Rattle.tc_term.specs.TreeView.{tree_of};
+ghost use Rattle.tc_term.specs.Variables.{var_bound, variables, renumbered, IsTemplate, IsPattern};
+
+use crate::limits::fits;
+use crate::numbering::{Seen, note};
+use crate::terms::Term;
+use std::alloc::Global;
+use std::marker::Model;
+use tc_lists::NoMemory;
+
+/// Why a term is no template. The term is given back.
+#[derive(Debug, Drop)]
+pub enum NotPattern {
+    TooBig(Term),
+    TooMany(Term),
+}
+
+/// A template: a term within the limits with at most 256 different variables, which are numbered
+/// 0, 1, .. by first appearance.
+#[derive(Debug, Drop)]
+pub struct Pattern {
+    term: Term,
+    vars: u32,
+}
+
+impl Model for Pattern {
+    ghost use Rattle.std.specs.Prelude.{◌≡◌, length};
+    ghost use Rattle.tc_term.specs.Tree.{Tree};
+    ghost use Rattle.tc_term.specs.TreeCode.{coded_tree};
+    ghost use Rattle.tc_term.specs.Variables.{variables, IsPattern};
+
+    ghost Value = { Tree };
+
+    ghost coded = { coded_tree };
+
+    ghost use Rattle.tc_term.specs.TreeView.{tree_of};
+
+    ghost view = { λ p. tree_of p.term };
+
+    ghost invariant = { λ p. IsPattern (tree_of p.term) × (p.vars ≡ length (variables (tree_of p.term))) };
+}
+
+impl Pattern {
+    ghost use Rattle.tc_term.specs.Pattern.{HasExcess};
+
+    /// The term as a template with its variables numbered anew, where it is one.
+    ///
+    /// No memory is taken. Takes O(nodes × variables) time.
+    pub fn of(mut t: Term) -> Result<Pattern, NotPattern>
+        ensures ok { IfOk result (λ p. (p ≡ renumbered (tree_of t)) × IsTemplate (tree_of t)) }
+        ensures err { IfErr result (HasExcess t) }
+    {
+        if !fits(&t) {
+            return Err(NotPattern::TooBig(t));
+        }
+        let mut seen = Seen::new();
+        if !note(&t, &mut seen) {
+            return Err(NotPattern::TooMany(t));
+        }
+        let numbers = seen.numbers();
+        t.renumber(numbers);
+        Ok(Pattern {
+            term: t,
+            vars: numbers.len() as u32,
+        })
+    }
+
+    pub fn term(&self) -> &Term
+        ensures term { tree_of result.now ≡ self.now }
+        ensures pattern { IsPattern self.now }
+    {
+        &self.term
+    }
+
+    /// How many different variables there are.
+    pub fn vars(&self) -> u32
+        ensures count { result ≡ length (variables self.now) }
+        ensures bound { result ≡ var_bound self.now }
+    {
+        self.vars
+    }
+
+    pub fn copy(&self, alloc: Global) -> Result<Pattern, NoMemory>
+        ensures { IfOk result (λ p. p ≡ self.now) }
+    {
+        Ok(Pattern {
+            term: self.term.copy(alloc)?,
+            vars: self.vars,
+        })
+    }
+}

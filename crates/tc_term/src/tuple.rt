@@ -1,0 +1,71 @@
+//! Tuples: ground terms within the limits.
+ghost use Rattle.std.specs.Prelude.{◌≡◌, IfErr, IfOk};
+ghost use Rattle.tc_term.specs.Tree.{IsTuple};
+ghost use Rattle.tc_term.specs.TreeView.{tree_of};
+
+use crate::limits::fits;
+use crate::terms::Term;
+use std::alloc::Global;
+use std::marker::Model;
+use tc_lists::NoMemory;
+
+/// Why a term is no tuple. The term is given back.
+#[derive(Debug, Drop)]
+pub enum NotTuple {
+    TooBig(Term),
+    NotGround(Term),
+}
+
+/// A tuple: a term without variables that is within the limits.
+#[derive(Debug, Drop)]
+pub struct Ground {
+    term: Term,
+}
+
+impl Model for Ground {
+    ghost use Rattle.tc_term.specs.Tree.{Tree, IsTuple};
+    ghost use Rattle.tc_term.specs.TreeCode.{coded_tree};
+
+    ghost Value = { Tree };
+
+    ghost coded = { coded_tree };
+
+    ghost use Rattle.tc_term.specs.TreeView.{tree_of};
+
+    ghost view = { λ g. tree_of g.term };
+
+    ghost invariant = { λ g. IsTuple (tree_of g.term) };
+}
+
+impl Ground {
+    ghost use Rattle.tc_term.specs.Ground.{HasCause};
+
+    /// The term as a tuple, where it is one. No memory is taken.
+    pub fn of(t: Term) -> Result<Ground, NotTuple>
+        ensures ok { IfOk result (λ tuple. (tuple ≡ tree_of t) × IsTuple (tree_of t)) }
+        ensures err { IfErr result (HasCause t) }
+    {
+        if !fits(&t) {
+            return Err(NotTuple::TooBig(t));
+        }
+        if !t.is_ground() {
+            return Err(NotTuple::NotGround(t));
+        }
+        Ok(Ground { term: t })
+    }
+
+    pub fn term(&self) -> &Term
+        ensures term { tree_of result.now ≡ self.now }
+        ensures tuple { IsTuple self.now }
+    {
+        &self.term
+    }
+
+    pub fn copy(&self, alloc: Global) -> Result<Ground, NoMemory>
+        ensures { IfOk result (λ tuple. tuple ≡ self.now) }
+    {
+        Ok(Ground {
+            term: self.term.copy(alloc)?,
+        })
+    }
+}
