@@ -1,0 +1,100 @@
+//! Names as text: plain where they have the form of a name token, else quoted.
+ghost use Rattle.std.specs.Prelude.{◌≡◌, ◌++◌, OnErr, OnOk};
+ghost use Rattle.std.specs.List.{flat_map, list_all};
+ghost use Rattle.tc_term.specs.Text.{atom_text, is_name, is_word, name_text, quoted, quoted_byte};
+ghost use mathlib.Core.List.{IsPrefix};
+
+use crate::cut::cut_back;
+use std::alloc::Global;
+use tc_lists::NoMemory;
+use tc_term::Name;
+
+/// Appends a name as an atom is printed, so the name of the empty list is plain.
+pub fn print_name(_alloc: Global, n: &Name, into: &mut Vec<u8>) -> Result<(), NoMemory>
+    ensures appended { OnOk result (into.new.items ≡ into.old.items ++ atom_text n.now) }
+    ensures same { OnErr result (into.new.items ≡ into.old.items) }
+{
+    if n.bytes() == b"[]".as_slice() {
+        into.extend_from_slice(b"[]")
+    } else {
+        append_name(n.bytes(), into)
+    }
+}
+
+/// Appends bytes between quotes.
+pub fn print_quoted(_alloc: Global, bytes: &[u8], into: &mut Vec<u8>) -> Result<(), NoMemory>
+    ensures appended { OnOk result (into.new.items ≡ into.old.items ++ quoted bytes.now) }
+    ensures same { OnErr result (into.new.items ≡ into.old.items) }
+{
+    append_quoted(bytes, into)
+}
+
+// A name as a compound's is printed: the name of the empty list is quoted.
+pub(crate) fn append_name(name: &[u8], into: &mut Vec<u8>) -> Result<(), NoMemory>
+    ensures appended { OnOk result (into.new.items ≡ into.old.items ++ name_text name.now) }
+    ensures same { OnErr result (into.new.items ≡ into.old.items) }
+{
+    if is_plain(name) {
+        into.extend_from_slice(name)
+    } else {
+        append_quoted(name, into)
+    }
+}
+
+fn append_quoted(bytes: &[u8], into: &mut Vec<u8>) -> Result<(), NoMemory>
+    ensures appended { OnOk result (into.new.items ≡ into.old.items ++ quoted bytes.now) }
+    ensures same { OnErr result (into.new.items ≡ into.old.items) }
+{
+    let before = into.len();
+    let written = write_quoted(bytes, into);
+    cut_back(written, before, into)
+}
+
+// Whether a name has the form of a name token.
+fn is_plain(name: &[u8]) -> bool
+    ensures { result ≡ is_name name.now }
+{
+    match name {
+        [first, rest @ ..] => first.is_ascii_lowercase() && are_word(rest),
+        [] => false,
+    }
+}
+
+fn are_word(bytes: &[u8]) -> bool
+    ensures { result ≡ list_all is_word bytes.now }
+{
+    bytes.iter().all(|b| is_word(*b))
+}
+
+// Whether a byte may stand in a name token, behind its first.
+fn is_word(byte: u8) -> bool
+    ensures { result ≡ is_word byte }
+{
+    byte.is_ascii_alphanumeric() || byte == b'_'
+}
+
+fn write_quoted(bytes: &[u8], into: &mut Vec<u8>) -> Result<(), NoMemory>
+    ensures appended { OnOk result (into.new.items ≡ into.old.items ++ quoted bytes.now) }
+    ensures kept { IsPrefix into.old.items into.new.items }
+{
+    into.push(b'\'')?;
+    for byte in bytes {
+        append_quoted_byte(*byte, into)?;
+    }
+    into.push(b'\'')?;
+    Ok(())
+}
+
+// A byte as it is written between quotes.
+fn append_quoted_byte(byte: u8, into: &mut Vec<u8>) -> Result<(), NoMemory>
+    ensures appended { OnOk result (into.new.items ≡ into.old.items ++ quoted_byte byte) }
+    ensures same { OnErr result (into.new.items ≡ into.old.items) }
+{
+    match byte {
+        b'\'' => into.extend_from_slice(b"\\'"),
+        b'\\' => into.extend_from_slice(b"\\\\"),
+        b'\n' => into.extend_from_slice(b"\\n"),
+        b'\t' => into.extend_from_slice(b"\\t"),
+        _ => into.extend_from_slice(&[byte]),
+    }
+}

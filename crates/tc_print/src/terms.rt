@@ -1,0 +1,144 @@
+//! Terms as text.
+ghost use Rattle.std.specs.Prelude.{◌≡◌, ◌++◌, IfNone, IfSome, IsTrue, ◌↔◌, OnErr, OnOk};
+ghost use mathlib.Core.List.{IsPrefix};
+ghost use Rattle.tc_term.specs.Text.{Alone, Behind, applied, canonical};
+ghost use Rattle.tc_term.specs.Tree.{Fits, Variable};
+ghost use Rattle.tc_term.specs.TreeView.{tree_of};
+ghost use Rattle.tc_term.specs.Variables.{variables_after, variables_after_all};
+ghost use Rattle.tc_print.specs.Printing.{IsCell, IsEmptyList, IsNoCell, text_after, texts_after};
+
+use crate::cut::cut_back;
+use crate::names::{append_name, print_name};
+use crate::numbering::Numbering;
+use std::alloc::Global;
+use tc_lists::{NoMemory, append_integer, append_number};
+use tc_term::{Args, Name, Term};
+
+/// Appends the canonical text of a term, whose variables are numbered anew by first appearance.
+///
+/// Recurses as deep as the term is, and takes time linear in the length of the text.
+pub fn print_term(alloc: Global, t: &Term, into: &mut Vec<u8>) -> Result<(), NoMemory>
+    requires fits { Fits (tree_of t.now) }
+    ensures appended { OnOk result (into.new.items
+        ≡ into.old.items ++ canonical (tree_of t.now)) }
+    ensures same { OnErr result (into.new.items ≡ into.old.items) }
+{
+    let before = into.len();
+    let mut seen = Numbering::new(alloc);
+    let written = write_term(alloc, t, &mut seen, into);
+    cut_back(written, before, into)
+}
+
+// A term by itself.
+#[cycle(print)]
+fn write_term(
+    alloc: Global,
+    t: &Term,
+    seen: &mut Numbering,
+    into: &mut Vec<u8>,
+) -> Result<(), NoMemory>
+    ensures seen { OnOk result (seen.new ≡ variables_after seen.old (tree_of t.now)) }
+    ensures appended { OnOk result (into.new.items
+        ≡ into.old.items ++ text_after seen.old Alone (tree_of t.now)) }
+    ensures kept { IsPrefix into.old.items into.new.items }
+{
+    if let Some((head, tail)) = as_cell(t) {
+        into.push(b'[')?;
+        write_term(alloc, head, seen, into)?;
+        return write_tail(alloc, tail, seen, into);
+    }
+    match t {
+        Term::Var(n) => write_variable(*n, seen, into),
+        Term::Atom(name) => print_name(alloc, name, into),
+        Term::Int(n) => append_integer(*n, into),
+        Term::Comp(name, args) => write_compound(alloc, name, args, seen, into),
+    }
+}
+
+// A term behind an element of a list, up to the end of the list.
+#[cycle(print)]
+fn write_tail(
+    alloc: Global,
+    t: &Term,
+    seen: &mut Numbering,
+    into: &mut Vec<u8>,
+) -> Result<(), NoMemory>
+    ensures seen { OnOk result (seen.new ≡ variables_after seen.old (tree_of t.now)) }
+    ensures appended { OnOk result (into.new.items
+        ≡ into.old.items ++ text_after seen.old Behind (tree_of t.now)) }
+    ensures kept { IsPrefix into.old.items into.new.items }
+{
+    if let Some((head, tail)) = as_cell(t) {
+        into.push(b',')?;
+        write_term(alloc, head, seen, into)?;
+        return write_tail(alloc, tail, seen, into);
+    }
+    if !is_empty_list(t) {
+        into.push(b'|')?;
+        write_term(alloc, t, seen, into)?;
+    }
+    into.push(b']')?;
+    Ok(())
+}
+
+// A name with arguments, between brackets.
+#[cycle(print)]
+fn write_compound(
+    alloc: Global,
+    name: &Name,
+    args: &Args,
+    seen: &mut Numbering,
+    into: &mut Vec<u8>,
+) -> Result<(), NoMemory>
+    ensures seen { OnOk result (seen.new ≡ variables_after_all seen.old args.now) }
+    ensures appended { OnOk result (into.new.items
+        ≡ into.old.items ++ applied name.now (texts_after seen.old args.now)) }
+    ensures kept { IsPrefix into.old.items into.new.items }
+{
+    append_name(name.bytes(), into)?;
+    let mut separator = b'(';
+    for arg in args.items() {
+        into.push(separator)?;
+        write_term(alloc, arg, seen, into)?;
+        separator = b',';
+    }
+    into.push(b')')?;
+    Ok(())
+}
+
+// A variable by its new number.
+fn write_variable(n: u32, seen: &mut Numbering, into: &mut Vec<u8>) -> Result<(), NoMemory>
+    ensures seen { OnOk result (seen.new ≡ variables_after seen.old (Variable n)) }
+    ensures appended { OnOk result (into.new.items
+        ≡ into.old.items ++ text_after seen.old Alone (Variable n)) }
+    ensures kept { IsPrefix into.old.items into.new.items }
+{
+    let number = seen.number(n)?;
+    into.push(b'_')?;
+    append_number(number as u64, into)
+}
+
+// The head and the tail of a list cell, where the term is one.
+fn as_cell(t: &Term) -> Option<(&Term, &Term)>
+    ensures some { IfSome result
+        (λ c. IsCell (tree_of t.now) (tree_of c.0.now) (tree_of c.1.now)) }
+    ensures none { IfNone result (IsNoCell (tree_of t.now)) }
+{
+    match t {
+        Term::Comp(name, args) => match args.items() {
+            [head, tail] if name.bytes() == b".".as_slice() => Some((head, tail)),
+            _ => None,
+        },
+        _ => None,
+    }
+}
+
+// Whether a term is the empty list.
+fn is_empty_list(t: &Term) -> bool
+    ensures { IsTrue result ↔ IsEmptyList (tree_of t.now) }
+{
+    match t {
+        Term::Atom(name) => name.bytes() == b"[]".as_slice(),
+        _ => false,
+    }
+}
