@@ -1,0 +1,52 @@
+use Rattle.std.proofs.Common.{◌≡◌, ℕ, ◌<◌, List, [], ◌∷◌, ◌++◌, map, reverse, length, refl, sym, ◌∙◌, ap, arith, false}
+use Rattle.std.proofs.lemmas.List.{map-append, reverse-append}
+use Rattle.std.proofs.lemmas.Bool.Decides.{nat_tests}
+use Rattle.tc_term.specs.Tree.{Tree, Trees, More, Compound, nodes, depth, nodes_of_all, depth_of_all, name_bytes_of_all, name_bytes}
+use Rattle.tc_term.specs.TreeView.{tree_of, trees_of}
+use Rattle.tc_term.specs.declared.terms.Term.{Term}
+use Rattle.tc_term.specs.Faults.{trees}
+use Rattle.tc_read.specs.declared.measured.Item.{Item}
+use Rattle.tc_read.specs.Kept.{Large, all_nodes, all_depth, all_name_bytes, fits_by, fits, small_if, whole}
+use Rattle.tc_read.specs.Items.{kept_item, done_of}
+use Rattle.tc_read.proofs.Meanings.{nodes_of_trees, depth_of_trees, name_bytes_of_trees}
+
+pub map-reverse : {A B : Type 0} (f : A → B) (xs : List A) → map f (reverse xs) ≡ reverse (map f xs)
+map-reverse f [] = refl
+map-reverse f (x ∷ xs) = ap (map f) (reverse-append (x ∷ []) xs) ∙ map-append f (reverse xs) (x ∷ []) ∙ ap (λ ys. ys ++ f x ∷ []) (map-reverse f xs) ∙ sym (reverse-append (f x ∷ []) (map f xs))
+
+pub reverse-push : {A : Type 0} (xs : List A) (x : A) → reverse (xs ++ x ∷ []) ≡ x ∷ reverse xs
+reverse-push xs x = reverse-append xs (x ∷ [])
+
+pub reverse-map-push : {A B : Type 0} (f : A → B) (xs : List A) (x : A) → reverse (map f (xs ++ x ∷ [])) ≡ f x ∷ reverse (map f xs)
+reverse-map-push f xs x = ap reverse (map-append f xs (x ∷ [])) ∙ reverse-push (map f xs) (f x)
+
+pub trees_same : (t : Term) (ts : List Term) → trees_of (t ∷ ts) ≡ trees (tree_of t) (map tree_of ts)
+trees_same t [] = refl
+trees_same t (u ∷ ts) = ap (More (tree_of t)) (trees_same u ts)
+
+-- the sizes of arguments
+pub nodes_of : (ts : List Term) → 0 < length ts → nodes_of_all (trees_of ts) ≡ all_nodes (map tree_of ts)
+nodes_of [] h = absurd (omega arith)
+nodes_of (t ∷ ts) h = ap nodes_of_all (trees_same t ts) ∙ nodes_of_trees (tree_of t) (map tree_of ts)
+
+pub depth_of : (ts : List Term) → 0 < length ts → depth_of_all (trees_of ts) ≡ all_depth (map tree_of ts)
+depth_of [] h = absurd (omega arith)
+depth_of (t ∷ ts) h = ap depth_of_all (trees_same t ts) ∙ depth_of_trees (tree_of t) (map tree_of ts)
+
+pub name_bytes_of : (ts : List Term) → 0 < length ts → name_bytes_of_all (trees_of ts) ≡ all_name_bytes (map tree_of ts)
+name_bytes_of [] h = absurd (omega arith)
+name_bytes_of (t ∷ ts) h = ap name_bytes_of_all (trees_same t ts) ∙ name_bytes_of_trees (tree_of t) (map tree_of ts)
+
+pub whole_of : (name : List ℕ) (ts : List Term) → 0 < length ts → whole name (map tree_of ts) ≡ small_if (fits (Compound name (trees_of ts))) (Compound name (trees_of ts))
+whole_of name [] h = absurd (omega arith)
+whole_of name (t ∷ ts) h = ap (λ (us : Trees). small_if (fits (Compound name us)) (Compound name us)) (sym (trees_same t ts))
+
+long : (a b c : ℕ) → 65535 < c → fits_by a b c ≡ false
+long a b c h = grind (arith, nat_tests)
+
+pub whole_long : (name : List ℕ) (ts : List Tree) → 65535 < length name → whole name ts ≡ Large
+whole_long name [] h = refl
+whole_long name (t ∷ ts) h = ap (λ b. small_if b (Compound name (trees t ts))) (let h' : 65535 < name_bytes (Compound name (trees t ts)) = omega arith in long (nodes (Compound name (trees t ts))) (depth (Compound name (trees t ts))) (name_bytes (Compound name (trees t ts))) h')
+
+pub done_push : (items : List Item) (item : Item) → done_of (items ++ item ∷ []) ≡ kept_item item ∷ done_of items
+done_push items item = reverse-map-push kept_item items item

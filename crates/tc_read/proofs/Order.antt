@@ -1,0 +1,202 @@
+use Rattle.std.proofs.Common.{◌≡◌, ℕ, zero, suc, ◌+◌, ◌<◌, ◌≤◌, Bool, true, false, ◌==◌, if◌then◌else◌, nat_le, List, [], ◌∷◌, ◌++◌, length, Option, Some, None, refl, sym, ◌∙◌, ap, arith}
+use Rattle.std.specs.List.{range_with_len, position}
+use Rattle.std.specs.Str.{bytes_eq}
+use Rattle.std.proofs.lemmas.Bool.Decides.{nat_tests}
+use Rattle.std.proofs.lemmas.List.{length-append}
+use Rattle.std.proofs.lemmas.List.FromFn.{length-range_with_len}
+use Rattle.tc_term.specs.Variables.{place_in, with_number, variables_after, variables_after_all, variables}
+use Rattle.tc_term.specs.Tokens.{Lexeme, Word, Variable, Number, Quoted, Symbol, Punctuation, Mark}
+use Rattle.tc_term.specs.Tokens as spelled
+use Rattle.tc_term.specs.Layouts.{At}
+use Rattle.tc_term.specs.Grammar.{Token, Operator, infix_of, functor_of, Derives, operand, prefix, infix_term, Operand, variable, integer, negative, atom, compound, no_items, items, group, Arguments, last_argument, more_arguments, Items, last_item, list_tail, more_items, IsTerm}
+use Rattle.tc_term.specs.Grammar as grammar
+use Rattle.tc_term.specs.Faults.{Reading, reading, trees, terms, all_known, known_behind, known_after, known_by, learned, is_anonymous, number_of, number_by, numbered, token_of, mark_of}
+
+-- The variables of a term appear in the order of its tokens.
+
+abbrev seen_after : List ℕ → List Token → List ℕ
+seen_after seen [] = seen
+seen_after seen (grammar.Variable n ∷ ts) = seen_after (with_number seen n) ts
+seen_after seen (_ ∷ ts) = seen_after seen ts
+
+functor_no_variable : (token : Token) (name : List ℕ) (seen : List ℕ) (ts : List Token) → functor_of token ≡ Some name → seen_after seen (token ∷ ts) ≡ seen_after seen ts
+functor_no_variable (grammar.Variable n) name seen ts e = cc
+functor_no_variable (grammar.Integer g n p) name seen ts e = refl
+functor_no_variable (grammar.Name b n) name seen ts e = refl
+functor_no_variable (grammar.Symbol s) name seen ts e = refl
+functor_no_variable (grammar.Open g) name seen ts e = refl
+functor_no_variable grammar.Close name seen ts e = refl
+functor_no_variable grammar.OpenList name seen ts e = refl
+functor_no_variable grammar.CloseList name seen ts e = refl
+functor_no_variable grammar.Comma name seen ts e = refl
+functor_no_variable grammar.Bar name seen ts e = refl
+
+infix_no_variable : (token : Token) (op : Operator) (seen : List ℕ) (ts : List Token) → infix_of token ≡ Some op → seen_after seen (token ∷ ts) ≡ seen_after seen ts
+infix_no_variable (grammar.Variable n) op seen ts e = cc
+infix_no_variable (grammar.Integer g n p) op seen ts e = refl
+infix_no_variable (grammar.Name b n) op seen ts e = refl
+infix_no_variable (grammar.Symbol s) op seen ts e = refl
+infix_no_variable (grammar.Open g) op seen ts e = refl
+infix_no_variable grammar.Close op seen ts e = refl
+infix_no_variable grammar.OpenList op seen ts e = refl
+infix_no_variable grammar.CloseList op seen ts e = refl
+infix_no_variable grammar.Comma op seen ts e = refl
+infix_no_variable grammar.Bar op seen ts e = refl
+
+mutual
+  ordered : {p : ℕ} {ts rest : List Token} {r : Reading} → Derives reading p ts r rest → (seen : List ℕ) → seen_after seen ts ≡ seen_after (variables_after seen r.term) rest
+  ordered (operand o) seen = ordered_operand o seen
+  ordered (prefix le c k d) seen = ordered d seen
+  ordered (infix_term {mid = mid} {token = token} {a = a} op is le l r) seen =
+      ordered l seen ∙ infix_no_variable token op (variables_after seen a.term) mid is ∙ ordered r (variables_after seen a.term)
+
+  ordered_operand : {ts rest : List Token} {r : Reading} → Operand reading ts r rest → (seen : List ℕ) → seen_after seen ts ≡ seen_after (variables_after seen r.term) rest
+  ordered_operand variable seen = refl
+  ordered_operand integer seen = refl
+  ordered_operand negative seen = refl
+  ordered_operand (atom c) seen = refl
+  ordered_operand (compound {token = token} {name = name} {ts = ts} is x) seen = functor_no_variable token name seen (grammar.Open true ∷ ts) is ∙ ordered_arguments x seen
+  ordered_operand no_items seen = refl
+  ordered_operand (items x) seen = ordered_items x seen
+  ordered_operand (group d) seen = ordered d seen
+
+  ordered_arguments : {ts rest : List Token} {r : Reading} {more : List Reading} → Arguments reading ts r more rest → (seen : List ℕ) → seen_after seen ts ≡ seen_after (variables_after_all seen (trees r.term (terms more))) rest
+  ordered_arguments (last_argument d) seen = ordered d seen
+  ordered_arguments (more_arguments {a = a} d x) seen = ordered d seen ∙ ordered_arguments x (variables_after seen a.term)
+
+  ordered_items : {ts rest : List Token} {r : Reading} → Items reading ts r rest → (seen : List ℕ) → seen_after seen ts ≡ seen_after (variables_after seen r.term) rest
+  ordered_items (last_item d) seen = ordered d seen
+  ordered_items (list_tail {a = a} d e) seen = ordered d seen ∙ ordered e (variables_after seen a.term)
+  ordered_items (more_items {a = a} d x) seen = ordered d seen ∙ ordered_items x (variables_after seen a.term)
+
+-- Numbered by first appearance, they are 0, 1, ..
+
+range_more : (a k : ℕ) → range_with_len a (suc k) ≡ range_with_len a k ++ (a + k) ∷ []
+range_more a zero = ap (λ n. n ∷ []) (let e : a ≡ a + 0 = omega arith in e)
+range_more a (suc k) = ap (λ ns. a ∷ ns) (range_more (a + 1) k ∙ ap (λ n. range_with_len (a + 1) k ++ n ∷ []) (let e : a + 1 + k ≡ a + suc k = omega arith in e))
+
+place_below : (a k n : ℕ) → n < k → place_in (range_with_len a k) (a + n) ≡ n
+place_below a zero n h = absurd (omega arith)
+place_below a (suc k) zero h = by (a == a + 0) refl
+  where
+    by : (b : Bool) → (a == a + 0) ≡ b → (if b then 0 else place_in (range_with_len (a + 1) k) (a + 0) + 1) ≡ 0
+    by true e = refl
+    by false e = absurd (grind (arith, nat_tests))
+place_below a (suc k) (suc n) h = by (a == a + suc n) refl (place_below (a + 1) k n (omega arith))
+  where
+    by : (b : Bool) → (a == a + suc n) ≡ b → place_in (range_with_len (a + 1) k) (a + 1 + n) ≡ n → (if b then 0 else place_in (range_with_len (a + 1) k) (a + suc n) + 1) ≡ suc n
+    by true e ih = absurd (grind (arith, nat_tests))
+    by false e ih = let same : a + suc n ≡ a + 1 + n = omega arith in omega (arith, ih, ap (place_in (range_with_len (a + 1) k)) same)
+
+place_beyond : (a k n : ℕ) → k ≤ n → place_in (range_with_len a k) (a + n) ≡ k
+place_beyond a zero n h = refl
+place_beyond a (suc k) zero h = absurd (omega arith)
+place_beyond a (suc k) (suc n) h = by (a == a + suc n) refl (place_beyond (a + 1) k n (omega arith))
+  where
+    by : (b : Bool) → (a == a + suc n) ≡ b → place_in (range_with_len (a + 1) k) (a + 1 + n) ≡ k → (if b then 0 else place_in (range_with_len (a + 1) k) (a + suc n) + 1) ≡ suc k
+    by true e ih = absurd (grind (arith, nat_tests))
+    by false e ih = let same : a + suc n ≡ a + 1 + n = omega arith in omega (arith, ih, ap (place_in (range_with_len (a + 1) k)) same)
+
+test_other : (m n k l : ℕ) → m ≡ n → l ≡ k → n < k → (m == l) ≡ false
+test_other m n k l e f h = grind (arith, nat_tests)
+
+test_same : (m k l : ℕ) → m ≡ k → l ≡ k → (m == l) ≡ true
+test_same m k l e f = grind (arith, nat_tests)
+
+place_of : (k n m : ℕ) → place_in (range_with_len 0 k) (0 + n) ≡ m → place_in (range_with_len 0 k) n ≡ m
+place_of k n m e = let z : n ≡ 0 + n = omega arith in ap (place_in (range_with_len 0 k)) z ∙ e
+
+with_known : (k n : ℕ) → n < k → with_number (range_with_len 0 k) n ≡ range_with_len 0 k
+with_known k n h =
+    ap (λ b. if b then range_with_len 0 k ++ n ∷ [] else range_with_len 0 k)
+    (test_other (place_in (range_with_len 0 k) n) n k (length (range_with_len 0 k)) (place_of k n n (place_below 0 k n h)) (length-range_with_len 0 k) h)
+
+with_new : (k : ℕ) → with_number (range_with_len 0 k) k ≡ range_with_len 0 (suc k)
+with_new k =
+    ap (λ b. if b then range_with_len 0 k ++ k ∷ [] else range_with_len 0 k)
+    (test_same (place_in (range_with_len 0 k) k) k (length (range_with_len 0 k)) (place_of k k k (place_beyond 0 k k (omega arith))) (length-range_with_len 0 k))
+    ∙ ap (λ n. range_with_len 0 k ++ n ∷ []) (let z : k ≡ 0 + k = omega arith in z)
+    ∙ sym (range_more 0 k)
+
+learned_length : (known : List (List ℕ)) (name : List ℕ) → length (learned known name) ≤ 256 → length (learned known name) ≡ suc (length known)
+learned_length known name h = by (nat_le (length known) 256) refl h
+  where
+    by : (b : Bool) → nat_le (length known) 256 ≡ b → length (if b then known ++ name ∷ [] else known) ≤ 256 → length (if b then known ++ name ∷ [] else known) ≡ suc (length known)
+    by true e h = omega (arith, length-append known (name ∷ []))
+    by false e h = absurd (grind (arith, nat_tests))
+
+learned_grows : (known : List (List ℕ)) (name : List ℕ) → length known ≤ length (learned known name)
+learned_grows known name = by (nat_le (length known) 256)
+  where
+    by : (b : Bool) → length known ≤ length (if b then known ++ name ∷ [] else known)
+    by true = omega (arith, length-append known (name ∷ []))
+    by false = omega arith
+
+known_by_grows : (known : List (List ℕ)) (name : List ℕ) (o : Option ℕ) → length known ≤ length (known_by known name o)
+known_by_grows known name (Some i) = omega arith
+known_by_grows known name None = learned_grows known name
+
+known_after_grows : (known : List (List ℕ)) (name : List ℕ) → length known ≤ length (known_after known name)
+known_after_grows known name = by (is_anonymous name)
+  where
+    by : (b : Bool) → length known ≤ length (if b then learned known [] else known_by known name (position (bytes_eq name) known))
+    by true = learned_grows known []
+    by false = known_by_grows known name (position (bytes_eq name) known)
+
+known_behind_grows : (known : List (List ℕ)) (l : Lexeme) → length known ≤ length (known_behind known l)
+known_behind_grows known (Word w) = omega arith
+known_behind_grows known (Variable w) = known_after_grows known w
+known_behind_grows known (Number n) = omega arith
+known_behind_grows known (Quoted m) = omega arith
+known_behind_grows known (Symbol t) = omega arith
+known_behind_grows known (Punctuation t) = omega arith
+
+all_known_grows : (known : List (List ℕ)) (ts : List At) → length known ≤ length (all_known known ts)
+all_known_grows known [] = omega arith
+all_known_grows known (t ∷ ts) = omega (arith, known_behind_grows known t.lexeme, all_known_grows (known_behind known t.lexeme) ts)
+
+position_within : (p : List ℕ → Bool) (xs : List (List ℕ)) (i : ℕ) → position p xs ≡ Some i → i < length xs
+position_within p xs i e = grind (arith, nat_tests)
+
+new_variable : (known : List (List ℕ)) (name : List ℕ) → length (learned known name) ≤ 256 → with_number (range_with_len 0 (length known)) (length known) ≡ range_with_len 0 (length (learned known name))
+new_variable known name h = with_new (length known) ∙ ap (range_with_len 0) (sym (learned_length known name h))
+
+by_position : (known : List (List ℕ)) (name : List ℕ) (o : Option ℕ) → position (bytes_eq name) known ≡ o → length (known_by known name o) ≤ 256
+    → with_number (range_with_len 0 (length known)) (number_by known o) ≡ range_with_len 0 (length (known_by known name o))
+by_position known name (Some i) e h = with_known (length known) i (position_within (bytes_eq name) known i e)
+by_position known name None e h = new_variable known name h
+
+number_step : (known : List (List ℕ)) (name : List ℕ) → length (known_after known name) ≤ 256 → with_number (range_with_len 0 (length known)) (number_of known name) ≡ range_with_len 0 (length (known_after known name))
+number_step known name h = by (is_anonymous name) h
+  where
+    by : (b : Bool) → length (if b then learned known [] else known_by known name (position (bytes_eq name) known)) ≤ 256
+        → with_number (range_with_len 0 (length known)) (if b then length known else number_by known (position (bytes_eq name) known)) ≡ range_with_len 0 (length (if b then learned known [] else known_by known name (position (bytes_eq name) known)))
+    by true h = new_variable known [] h
+    by false h = by_position known name (position (bytes_eq name) known) refl h
+
+mark_step : (seen : List ℕ) (glued : Bool) (mark : Mark) (ts : List Token) → seen_after seen (mark_of glued mark ∷ ts) ≡ seen_after seen ts
+mark_step seen glued spelled.Open ts = refl
+mark_step seen glued spelled.Close ts = refl
+mark_step seen glued spelled.OpenList ts = refl
+mark_step seen glued spelled.CloseList ts = refl
+mark_step seen glued spelled.Comma ts = refl
+mark_step seen glued spelled.Bar ts = refl
+
+token_step : (known : List (List ℕ)) (glued : Bool) (place : ℕ) (l : Lexeme) (ts : List Token) → length (known_behind known l) ≤ 256
+    → seen_after (range_with_len 0 (length known)) (token_of known glued place l ∷ ts) ≡ seen_after (range_with_len 0 (length (known_behind known l))) ts
+token_step known glued place (Word w) ts h = refl
+token_step known glued place (Variable w) ts h = ap (λ s. seen_after s ts) (number_step known w h)
+token_step known glued place (Number n) ts h = refl
+token_step known glued place (Quoted m) ts h = refl
+token_step known glued place (Symbol t) ts h = refl
+token_step known glued place (Punctuation t) ts h = mark_step (range_with_len 0 (length known)) glued t ts
+
+ranged : (ts : List At) (known : List (List ℕ)) → length (all_known known ts) ≤ 256 → seen_after (range_with_len 0 (length known)) (numbered known ts) ≡ range_with_len 0 (length (all_known known ts))
+ranged [] known h = refl
+ranged (t ∷ ts) known h =
+    token_step known t.glued t.place t.lexeme (numbered (known_behind known t.lexeme) ts) (omega (arith, all_known_grows (known_behind known t.lexeme) ts))
+    ∙ ranged ts (known_behind known t.lexeme) h
+
+-- the variables of a term that is read are 0, 1, .. by first appearance
+pub variables_read : (ts : List At) (r : Reading) → length (all_known [] ts) ≤ 256 → IsTerm reading (numbered [] ts) r → variables r.term ≡ range_with_len 0 (length (all_known [] ts))
+variables_read ts r h d = sym (ordered d []) ∙ ranged ts [] h

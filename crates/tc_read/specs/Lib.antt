@@ -1,0 +1,17 @@
+pub mod NameBytes
+pub mod Machine
+pub mod Kept
+pub mod Views
+pub mod Items
+pub mod Frames
+pub mod Delimiters
+pub mod Parsed
+pub mod Lexing
+pub mod Lexemes
+pub mod Parts
+pub mod Brackets
+pub mod Names
+pub mod Scanner
+pub mod Scan
+pub mod Answers
+pub mod Written

@@ -1,0 +1,55 @@
+//! How many brackets are open.
+ghost use Rattle.std.specs.Prelude.{◌≤◌, ◌+◌, ℕ, max};
+ghost use Rattle.tc_term.specs.Faults.{open_behind};
+ghost use Rattle.tc_read.specs.Lexemes.{lexeme_view};
+
+use crate::lexeme::{Lexeme, Mark};
+
+const MOST: usize = 200;
+
+/// The brackets that are open, until they are too many at some place.
+#[derive(Drop)]
+pub struct Brackets {
+    pub count: usize,
+    pub too_many: bool,
+    ghost few: { count ≤ 200 },
+}
+
+impl Brackets {
+    ghost use Rattle.tc_read.specs.Brackets.{CountsTo};
+
+    pub fn new() -> Brackets
+        ensures { CountsTo result 0 0 }
+    {
+        Brackets {
+            count: 0,
+            too_many: false,
+        }
+    }
+
+    /// Counts the token.
+    pub fn add(&mut self, lexeme: Lexeme)
+        ensures { (n most : ℕ) → CountsTo self.old n most
+            → CountsTo self.new (open_behind n (lexeme_view lexeme.entry))
+            (max most (open_behind n (lexeme_view lexeme.entry))) }
+    {
+        if let Lexeme::Punctuation(mark) = lexeme {
+            match mark {
+                Mark::Open | Mark::OpenList => self.opened(),
+                Mark::Close | Mark::CloseList => self.count = self.count.saturating_sub(1),
+                Mark::Comma | Mark::Bar => {}
+            }
+        }
+    }
+
+    fn opened(&mut self)
+        ensures { (n most : ℕ) → CountsTo self.old n most → CountsTo self.new (n + 1)
+            (max most (n + 1)) }
+    {
+        if self.count == MOST {
+            self.too_many = true;
+        } else {
+            self.count += 1;
+        }
+    }
+}

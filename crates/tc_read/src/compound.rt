@@ -1,0 +1,159 @@
+//! Compounds and lists from kept parts.
+ghost use Rattle.std.specs.Prelude.{◌≡◌, ◌<◌, IfOk, [], ◌∷◌, length, map, reverse};
+ghost use Rattle.tc_term.specs.TreeView.{tree_of};
+ghost use Rattle.tc_term.specs.Grammar.{between, negated, nil};
+ghost use Rattle.tc_read.specs.Items.{done_of, kept_item, parts_view};
+ghost use Rattle.tc_read.specs.Kept.{Small, Whole, finished, joined, kept, whole};
+ghost use Rattle.tc_read.specs.Machine.{applied, cells, turned};
+ghost use Rattle.tc_read.specs.Views.{operator_view};
+
+use crate::build::{MAX_DEPTH, MAX_NAME_BYTES, MAX_NODES, atom, item};
+use crate::measured::{Item, Measured, Parts, Several};
+use crate::operators::Operator;
+use std::alloc::Global;
+use tc_lists::NoMemory;
+use tc_term::{Args, Name, Term};
+
+/// No argument.
+fn none(alloc: Global) -> Parts
+    ensures { parts_view result ≡ Whole [] }
+{
+    Parts::Whole(Several {
+        terms: Vec::new(alloc),
+        nodes: 0,
+        depth: 0,
+        name_bytes: 0,
+    })
+}
+
+/// A term before these arguments.
+fn joined_term(term: Measured, several: Several) -> Result<Parts, NoMemory>
+    ensures { IfOk result
+        (λ r. parts_view r ≡ joined (Small (tree_of term.term))
+        (Whole (reverse (map tree_of several.terms.items)))) }
+{
+    let nodes = several.nodes + term.nodes;
+    let mut depth = several.depth;
+    if term.depth > depth {
+        depth = term.depth;
+    }
+    let name_bytes = several.name_bytes + term.name_bytes;
+    if nodes >= MAX_NODES || depth >= MAX_DEPTH || name_bytes > MAX_NAME_BYTES {
+        return Ok(Parts::Oversized);
+    }
+    let mut terms = several.terms;
+    terms.push(term.term)?;
+    Ok(Parts::Whole(Several {
+        terms,
+        nodes,
+        depth,
+        name_bytes,
+    }))
+}
+
+/// An argument before these.
+fn join(argument: Item, parts: Parts) -> Result<Parts, NoMemory>
+    ensures { IfOk result (λ r. parts_view r ≡ joined (kept_item argument) (parts_view parts)) }
+{
+    match argument {
+        Item::Wide(place) => Ok(Parts::Wide(place)),
+        Item::Large => match parts {
+            Parts::Wide(place) => Ok(Parts::Wide(place)),
+            Parts::Whole(_) => Ok(Parts::Oversized),
+            Parts::Oversized => Ok(Parts::Oversized),
+        },
+        Item::Small(term) => match parts {
+            Parts::Wide(place) => Ok(Parts::Wide(place)),
+            Parts::Whole(several) => joined_term(term, several),
+            Parts::Oversized => Ok(Parts::Oversized),
+        },
+    }
+}
+
+/// The compound of this name with these arguments.
+fn finish(name: Name, parts: Parts) -> Item
+    ensures { kept_item result ≡ finished name (parts_view parts) }
+{
+    match parts {
+        Parts::Wide(place) => Item::Wide(place),
+        Parts::Oversized => Item::Large,
+        Parts::Whole(several) => whole(name, several),
+    }
+}
+
+fn whole(name: Name, several: Several) -> Item
+    ensures { kept_item result ≡ whole name (reverse (map tree_of several.terms.items)) }
+{
+    let length = name.bytes().len();
+    if several.terms.len() == 0 || length > MAX_NAME_BYTES {
+        return Item::Large;
+    }
+    let mut terms = several.terms;
+    terms.reverse();
+    let args = Args::new(terms);
+    item(
+        Term::Comp(name, args),
+        several.nodes + 1,
+        several.depth + 1,
+        several.name_bytes + length,
+    )
+}
+
+/// A compound of two arguments.
+fn pair(alloc: Global, name: &[u8], left: Item, right: Item) -> Result<Item, NoMemory>
+    ensures { IfOk result
+        (λ r. kept_item r ≡ kept.compound name.now (kept_item left) (kept_item right ∷ [])) }
+{
+    let last = join(right, none(alloc))?;
+    let both = join(left, last)?;
+    Ok(finish(Name::new(alloc, name)?, both))
+}
+
+/// An operator between two terms.
+pub fn between(alloc: Global, operator: Operator, left: Item, right: Item) -> Result<Item, NoMemory>
+    ensures { IfOk result
+        (λ r. kept_item r ≡ between kept (operator_view operator) (kept_item left)
+        (kept_item right)) }
+{
+    pair(alloc, operator.name, left, right)
+}
+
+/// A minus before a term.
+pub fn negated(alloc: Global, of: Item) -> Result<Item, NoMemory>
+    ensures { IfOk result (λ r. kept_item r ≡ negated kept (kept_item of)) }
+{
+    let parts = join(of, none(alloc))?;
+    Ok(finish(Name::new(alloc, b"-")?, parts))
+}
+
+/// The empty list.
+pub fn nil(alloc: Global) -> Result<Item, NoMemory>
+    ensures { IfOk result (λ r. kept_item r ≡ nil kept) }
+{
+    Ok(atom(Name::new(alloc, b"[]")?))
+}
+
+/// A list of these elements, before a tail.
+pub fn list(alloc: Global, mut elements: Vec<Item>, tail: Item) -> Result<Item, NoMemory>
+    ensures { IfOk result
+        (λ r. kept_item r ≡ cells kept (done_of elements.items) (kept_item tail)) }
+{
+    let mut whole = tail;
+    while let Some(element) = elements.pop() {
+        whole = pair(alloc, b".", element, whole)?;
+    }
+    Ok(whole)
+}
+
+/// The compound of this name with these arguments.
+pub fn compound(alloc: Global, name: Name, mut arguments: Vec<Item>) -> Result<Item, NoMemory>
+    requires { 0 < length arguments.items }
+    ensures { IfOk result
+        (λ r. kept_item r ≡ applied kept name (turned (done_of arguments.items) [])) }
+{
+    let mut parts = none(alloc);
+    while let Some(argument) = arguments.pop() {
+        parts = join(argument, parts)?;
+    }
+    Ok(finish(name, parts))
+}

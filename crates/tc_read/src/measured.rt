@@ -1,0 +1,54 @@
+//! Terms with their sizes.
+ghost use Rattle.std.specs.Prelude.{◌≡◌, ◌≤◌, length, map, reverse, ◌<◌};
+ghost use Rattle.tc_term.specs.Tree as tree;
+ghost use Rattle.tc_term.specs.TreeView.{tree_of};
+ghost use Rattle.tc_read.specs.Kept.{all_nodes, all_depth, all_name_bytes};
+
+use tc_term::Term;
+
+/// A term and its sizes.
+#[derive(Drop)]
+pub struct Measured {
+    pub term: Term,
+    pub nodes: usize,
+    pub depth: usize,
+    pub name_bytes: usize,
+    ghost counted: { nodes ≡ tree.nodes (tree_of term) },
+    ghost deep: { depth ≡ tree.depth (tree_of term) },
+    ghost named: { name_bytes ≡ tree.name_bytes (tree_of term) },
+    ghost few: { nodes ≤ 10000 },
+    ghost flat: { depth ≤ 1000 },
+    ghost short: { name_bytes ≤ 65535 },
+}
+
+/// What is kept of a part of a text: a term that fits, that it doesn't fit, or the place of its
+/// first integer 9223372036854775808 that no minus sign precedes.
+#[derive(Drop)]
+pub enum Item {
+    Small(Measured),
+    Large,
+    Wide(usize),
+}
+
+/// Arguments and their sizes, the last argument first.
+#[derive(Drop)]
+pub struct Several {
+    pub terms: Vec<Term>,
+    pub nodes: usize,
+    pub depth: usize,
+    pub name_bytes: usize,
+    ghost counted: { nodes ≡ all_nodes (reverse (map tree_of terms.items)) },
+    ghost deep: { depth ≡ all_depth (reverse (map tree_of terms.items)) },
+    ghost named: { name_bytes ≡ all_name_bytes (reverse (map tree_of terms.items)) },
+    ghost few: { nodes < 10000 },
+    ghost flat: { depth < 1000 },
+    ghost short: { name_bytes ≤ 65535 },
+}
+
+/// What is kept of arguments, from one of them on to the last.
+#[derive(Drop)]
+pub enum Parts {
+    Whole(Several),
+    Oversized,
+    Wide(usize),
+}

@@ -1,0 +1,81 @@
+//! The variables of a text, numbered by first appearance.
+ghost use Rattle.std.specs.Prelude.{◌≡◌, ◌≤◌, [], IfOk, OnOk, length, vec_len};
+ghost use Rattle.std.specs.List.{position};
+ghost use Rattle.std.specs.Str.{bytes_eq};
+ghost use Rattle.tc_term.specs.Faults.{is_anonymous, known_after, learned, number_of};
+
+use std::alloc::Global;
+use tc_lists::NoMemory;
+
+/// How many variables are told apart: one more than a template may have.
+const MOST: usize = 257;
+
+/// The variables so far. A `_` alone has an empty name.
+#[derive(Drop)]
+pub struct Names<'a> {
+    pub known: Vec<&'a [u8]>,
+    ghost few: { vec_len known ≤ 257 },
+}
+
+/// Whether the name is a `_` alone.
+fn is_anonymous(name: &[u8]) -> bool
+    ensures { result ≡ is_anonymous name.now }
+{
+    name == b"_".as_slice()
+}
+
+impl<'a> Names<'a> {
+    ghost use Rattle.tc_read.specs.Names.{names_view};
+
+    pub fn new(alloc: Global) -> Names<'a>
+        ensures { names_view result ≡ [] }
+    {
+        Names {
+            known: Vec::new(alloc),
+        }
+    }
+
+    /// How many variables there are, if they are at most 257.
+    pub fn len(&self) -> usize
+        ensures { result ≡ length (names_view self.now) }
+    {
+        self.known.len()
+    }
+
+    /// The number of the variable of this name, which is known from now on.
+    #[tactic(auto, using(crate::proofs::Positions::position_known, crate::proofs::Positions::number_new))]
+    pub fn number(&mut self, name: &'a [u8]) -> Result<u32, NoMemory>
+        ensures number { IfOk result (λ n. n ≡ number_of (names_view self.old) name.now) }
+        ensures known { OnOk result (names_view self.new
+            ≡ known_after (names_view self.old) name.now) }
+    {
+        let next = self.known.len() as u32;
+        if is_anonymous(name) {
+            self.learn(b"")?;
+            return Ok(next);
+        }
+        match self.place(name) {
+            Some(place) => Ok(place as u32),
+            None => {
+                self.learn(name)?;
+                Ok(next)
+            }
+        }
+    }
+
+    /// Where the name stands.
+    fn place(&self, name: &[u8]) -> Option<usize>
+        ensures { result ≡ position (λ known. bytes_eq name.now known.now) self.now.known.items }
+    {
+        self.known.iter().position(|known| name == *known)
+    }
+
+    fn learn(&mut self, name: &'a [u8]) -> Result<(), NoMemory>
+        ensures { OnOk result (names_view self.new ≡ learned (names_view self.old) name.now) }
+    {
+        if self.known.len() < MOST {
+            self.known.push(name)?;
+        }
+        Ok(())
+    }
+}
