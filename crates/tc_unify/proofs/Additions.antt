@@ -1,0 +1,334 @@
+-- An addition is kept, or taken back so that all is as before.
+use Rattle.std.proofs.Common.{◌+◌, ◌≡◌, ℕ, zero, suc, ◌-◌, ◌<◌, ◌≤◌, inl, inr, List, [], ◌∷◌, ◌++◌, length, reverse, take, drop, refl, sym, ap, ap₂, ◌∙◌, subst, arith, All, append-nil, length-append, length-take}
+use Rattle.std.specs.Prelude.{Some, Option, Result, Ok, IfOk, IfSome}
+use Rattle.std.proofs.Math.Path.{fun_ext}
+use Rattle.std.proofs.Math.ListN.{get_or-eq_default}
+use Rattle.std.proofs.Math.Seq.{drop-append_seam, take-append_seam}
+use Rattle.std.proofs.lemmas.List.{map-append, reverse-append, take-append-drop}
+use Rattle.std.proofs.lemmas.List.Elements.{All-nil, All-cons, All-pop, All-weaker, All-take, All-drop}
+use Rattle.tc_term.specs.Tree.{Tree, Variable}
+use Rattle.tc_term.specs.Variables.{raised}
+use Rattle.tc_term.proofs.Instances.{instance-instance}
+use Rattle.tc_unify.specs.Clashing.{NeverEqual}
+use Rattle.tc_term.specs.Equations.{Equation, at, under, Solves, Solvable}
+use Rattle.tc_unify.specs.declared.nodes.TheConstants.{FIRST_VARIABLE}
+use Rattle.tc_unify.specs.declared.nodes.Arena.{Arena}
+use Rattle.tc_unify.specs.declared.links.Links.{Links}
+use Rattle.tc_unify.specs.declared.sizes.Sizes.{Sizes}
+use Rattle.tc_unify.specs.declared.sizes.Added.{Added}
+use Rattle.tc_unify.specs.declared.walk.Walk.{Walk}
+use Rattle.tc_unify.specs.declared.walk.Mark.TheVariants.{Unseen}
+use Rattle.tc_unify.specs.Nodes.{label}
+use Rattle.tc_unify.specs.Solutions.{Means, NeverMeets, equations_of}
+use Rattle.tc_unify.specs.Arena.{IsArena, IsNodeOf, IsNodeFor, Grows, Begins, shape_in, shape_of, node_tree}
+use Rattle.tc_unify.specs.Tables.{link_of, rewound, HasNode, Extends}
+use Rattle.tc_unify.specs.Cuts.{IsCut, IsWalkCut}
+use Rattle.tc_unify.specs.Meeting.{IsLinked}
+use Rattle.tc_unify.specs.Marks.{IsUnmarked}
+use Rattle.tc_unify.specs.Stores.{pairs_of, IsLevel, AreLevels, equations_in, IsStore, IsGrown, IsAdded, NeverAdds}
+use Rattle.tc_unify.proofs.Labels.{instance-label}
+use Rattle.tc_unify.proofs.Arenas.{Begins-append, inside_grows}
+use Rattle.tc_unify.proofs.Tables.{link_in-term}
+use Rattle.tc_unify.proofs.Meetings.{place_of}
+use Rattle.tc_unify.proofs.Solutions.{Solves-holds, Solves-from_holds}
+use Rattle.tc_unify.proofs.Growing.{level_of, Means-grows, equations-grow, IsLinked-grown, past_tables, AreLevels-same, pairs_backward, pairs_forward}
+
+module _ (a : Arena) (l : Links) (w : Walk) (added : List Added) (store : IsStore a l w added) where
+  pub newest : IsLevel a.variables a.nodes.items a.text.items (link_of l) l.trail.items (reverse added)
+  newest = level_of a.variables a.nodes.items a.text.items (link_of l) l.trail.items (reverse added) store.levels
+
+  pub store_linked : IsLinked a l
+  store_linked = record {
+    arena = newest.arena;
+    linked = newest.linked;
+    inside = newest.inside;
+    terms = store.terms;
+    variables = store.variables;
+    trail = newest.trail_nodes;
+  }
+
+  pair_nodes : All (λ p. IsNodeOf a p.0 × IsNodeOf a p.1) (pairs_of added)
+  pair_nodes = pairs_forward (λ p. IsNodeOf a p.0 × IsNodeOf a p.1) added newest.pair_nodes
+
+  -- the equations of a store are solvable
+  pub store_solvable : Solvable a.variables (equations_in a added)
+  store_solvable = record {
+    valuation = newest.means.solution;
+    solves = Solves-from_holds a.variables (shape_of a) newest.arena.order (pairs_of added) newest.means.solution newest.means.solves.valuation
+        (pairs_forward (λ p. label (shape_of a) (at newest.means.solution) p.0 ≡ label (shape_of a) (at newest.means.solution) p.1) added
+        (newest.means.said (at newest.means.solution) newest.means.solves.respects));
+  }
+
+  module _ (b : Arena) (grown : IsArena b) (grows : Grows a b) where
+    pub equations_kept : equations_in b added ≡ equations_in a added
+    equations_kept = equations-grow a b (link_of l) (pairs_of added) newest.arena grown grows newest.inside newest.past pair_nodes
+
+    means_before : Means a.variables (shape_of b) (link_of l) (pairs_of (reverse added))
+    means_before = Means-grows a b (link_of l) (pairs_of (reverse added)) newest.arena grown grows newest.inside newest.past newest.pair_nodes newest.means
+
+    module _ (m : Links) (link : (k : ℕ) → link_of m k ≡ link_of l k) where
+      pub means_prepared : Means b.variables (shape_of b) (link_of m) (pairs_of (reverse added))
+      means_prepared =
+          subst (λ n. Means n (shape_of b) (link_of m) (pairs_of (reverse added))) (sym grows.variables)
+          (subst (λ f. Means a.variables (shape_of b) f (pairs_of (reverse added))) (sym (fun_ext link)) means_before)
+
+      pub linked_prepared : m.trail.items ≡ l.trail.items → length m.terms.items ≡ length b.nodes.items → length m.variables.items ≡ length l.variables.items → IsLinked b m
+      linked_prepared trail terms variables =
+          IsLinked-grown a b l m (pairs_of added) newest.arena grown grows newest.linked newest.inside newest.past newest.trail_nodes link trail terms (variables ∙ store.variables)
+
+      -- no trees make the nodes equal, so no valuation makes the terms equal
+      pub never_adds : (pair : ℕ × ℕ) (s t : Tree) → IsNodeFor b pair.0 s → IsNodeFor b pair.1 t → NeverMeets (shape_of b) (link_of m) pair → NeverAdds a added s t
+      never_adds pair s t left right never solvable =
+          let v = solvable.valuation in
+          let P : Equation → Type 0 = λ e. under v e.0 ≡ under v e.1 in
+          let parts = All-pop P (equations_in a added ++ (s, t) ∷ []) (equations_in a added) (Some (s, t)) refl solvable.solves.equal in
+          let solves : Solves a.variables (equations_in b added) v =
+          record { whole = solvable.solves.whole; ground = solvable.solves.ground; equal = subst (All P) (sym equations_kept) parts.0 } in
+          let holds = Solves-holds a.variables (shape_of b) grown.order (pairs_of added) v solves in
+          let backward = pairs_backward (λ p. label (shape_of b) (at v) p.0 ≡ label (shape_of b) (at v) p.1) added holds in
+          never (at v) (means_prepared.says (at v) backward)
+          (sym (instance-label (shape_of b) (at v) grown.order pair.0) ∙ ap (under v) left.tree ∙ parts.1
+          ∙ sym (ap (under v) right.tree) ∙ instance-label (shape_of b) (at v) grown.order pair.1)
+
+  -- what an addition left can be taken back
+  module _ (b : Arena) (m : Links) (v : Walk) (g : IsGrown a l b m v) (to : Sizes)
+      (nodes_to : to.nodes ≡ length a.nodes.items) (text_to : to.text ≡ length a.text.items) (trail_to : to.trail ≡ length l.trail.items) where
+    more_is : drop to.trail m.trail.items ≡ g.more
+    more_is = ap₂ (λ n ns. drop n ns) trail_to g.trail ∙ drop-append_seam l.trail.items g.more
+
+    pub back_places : All (HasNode m) (drop to.trail m.trail.items)
+    back_places = subst (All (HasNode m)) (sym more_is) g.places
+
+    back_link : (k : ℕ) → rewound (link_of m) (drop to.trail m.trail.items) k ≡ link_of l k
+    back_link k = ap (λ ns. rewound (link_of m) ns k) more_is ∙ g.back k
+
+    pub back_past : (k : ℕ) → to.nodes ≤ k → k < FIRST_VARIABLE → rewound (link_of m) (drop to.trail m.trail.items) k ≡ k
+    back_past k h term =
+        let size = store.terms in
+        back_link k ∙ link_in-term l.terms.items l.variables.items k term ∙ get_or-eq_default l.terms.items k (omega arith)
+
+    module _ (c : Arena) (n : Links) (u : Walk)
+        (nodes : c.nodes.items ≡ take to.nodes b.nodes.items) (text : c.text.items ≡ take to.text b.text.items) (variables : c.variables ≡ b.variables)
+        (link : (k : ℕ) → link_of n k ≡ rewound (link_of m) (drop to.trail m.trail.items) k)
+        (cut : IsCut m n to) (walk : IsWalkCut v u to.nodes) where
+      same_nodes : c.nodes.items ≡ a.nodes.items
+      same_nodes = nodes ∙ ap (λ i. take i b.nodes.items) nodes_to ∙ g.grows.nodes
+
+      same_text : c.text.items ≡ a.text.items
+      same_text = text ∙ ap (λ i. take i b.text.items) text_to ∙ g.grows.text
+
+      same_variables : c.variables ≡ a.variables
+      same_variables = variables ∙ g.grows.variables
+
+      pub restored : IsStore c n u added
+      restored = record {
+        levels = AreLevels-same a.variables c.variables a.nodes.items c.nodes.items a.text.items c.text.items (link_of l) (link_of n) l.trail.items n.trail.items (reverse added)
+            same_variables same_nodes same_text (λ k. link k ∙ back_link k)
+            (cut.trail ∙ ap₂ (λ i ns. take i ns) trail_to g.trail ∙ take-append_seam l.trail.items g.more) store.levels;
+        terms =
+            let size = store.terms in
+            let longer = g.terms in
+            let one = length-take to.nodes m.terms.items in
+            let two = cut.terms in
+            let three = ap length same_nodes in
+            omega arith;
+        variables = cut.variables ∙ g.variables ∙ store.variables ∙ sym same_variables;
+        few = subst (λ x. x < 4294967296) (sym same_variables) store.few;
+        walk = record {
+          marks = subst (All (λ mark. mark ≡ Unseen)) (sym walk.marks) (All-take (λ mark. mark ≡ Unseen) to.nodes v.marks.items g.marks);
+          size =
+              let size = store.terms in
+              let longer = g.marks_long in
+              let one = length-take to.nodes v.marks.items in
+              let two = ap length walk.marks in
+              let three = ap length same_nodes in
+              omega arith;
+          steps = walk.steps ∙ g.steps;
+          seen = walk.seen ∙ g.seen;
+        };
+      }
+
+      pub restored_equations : equations_in c added ≡ equations_in a added
+      restored_equations = ap₂ (λ ns bytes. equations_of (shape_in ns bytes) (pairs_of added)) same_nodes same_text
+
+  -- an addition that is kept
+  module _ (b : Arena) (m : Links) (v : Walk) (g : IsGrown a l b m v) (pair : ℕ × ℕ) (s t : Tree) (is : IsAdded a b m v added pair s t) (e : Added)
+      (pair_is : (e.left, e.right) ≡ pair)
+      (nodes_to : e.before.nodes ≡ length a.nodes.items) (text_to : e.before.text ≡ length a.text.items) (trail_to : e.before.trail ≡ length l.trail.items) where
+    pub kept : IsStore b m v (added ++ e ∷ [])
+    kept = record {
+      levels = subst (AreLevels b.variables b.nodes.items b.text.items (link_of m) m.trail.items) (sym (reverse-append added (e ∷ []))) (
+        record {
+          arena = is.linked.arena;
+          linked = is.linked.linked;
+          inside = is.linked.inside;
+          past = past_tables b m is.linked.terms is.linked.variables;
+          trail_nodes = is.linked.trail;
+          pair_nodes = All-cons (λ p. IsNodeOf b p.0 × IsNodeOf b p.1) (e.left, e.right) (pairs_of (reverse added))
+              (subst (λ p. IsNodeOf b p.0 × IsNodeOf b p.1) (sym pair_is) (is.left.inside, is.right.inside))
+              (All-weaker (λ p. IsNodeOf a p.0 × IsNodeOf a p.1) (λ p. IsNodeOf b p.0 × IsNodeOf b p.1)
+              (λ p h. (inside_grows a b g.grows p.0 h.0, inside_grows a b g.grows p.1 h.1)) (pairs_of (reverse added)) newest.pair_nodes);
+          means = subst (λ p. Means b.variables (shape_of b) (link_of m) (p ∷ pairs_of (reverse added))) (sym pair_is) is.means;
+        },
+        AreLevels-same a.variables b.variables a.nodes.items (take e.before.nodes b.nodes.items) a.text.items (take e.before.text b.text.items)
+            (link_of l) (rewound (link_of m) (drop e.before.trail m.trail.items)) l.trail.items (take e.before.trail m.trail.items) (reverse added)
+            g.grows.variables (ap (λ i. take i b.nodes.items) nodes_to ∙ g.grows.nodes) (ap (λ i. take i b.text.items) text_to ∙ g.grows.text)
+            (λ k. ap (λ ns. rewound (link_of m) ns k) (ap₂ (λ n ns. drop n ns) trail_to g.trail ∙ drop-append_seam l.trail.items g.more) ∙ g.back k)
+            (ap₂ (λ n ns. take n ns) trail_to g.trail ∙ take-append_seam l.trail.items g.more) store.levels,
+      );
+      terms = is.linked.terms;
+      variables = is.linked.variables;
+      few = subst (λ x. x < 4294967296) (sym g.grows.variables) store.few;
+      walk = record { marks = g.marks; size = is.marks; steps = g.steps; seen = g.seen };
+    }
+
+    pub kept_equations : equations_in b (added ++ e ∷ []) ≡ equations_in a added ++ (s, t) ∷ []
+    kept_equations =
+        ap (equations_of (shape_of b)) (map-append (λ x. (x.left, x.right)) added (e ∷ []))
+        ∙ map-append (λ p. (node_tree b p.0, node_tree b p.1)) (pairs_of added) ((e.left, e.right) ∷ [])
+        ∙ ap₂ (λ (es : List Equation) (q : Equation). es ++ q ∷ []) (equations_kept b is.linked.arena g.grows)
+        (ap (λ p. (node_tree b p.0, node_tree b p.1)) pair_is ∙ ap₂ (λ (x : Tree) (y : Tree). (x, y)) is.left.tree is.right.tree)
+
+-- links that were extended can be taken back
+pub IsGrown-solved : (a b : Arena) (l m n : Links) (w : Walk) → Grows a b → ((k : ℕ) → link_of m k ≡ link_of l k) → m.trail.items ≡ l.trail.items
+    → length l.terms.items ≤ length m.terms.items → length m.variables.items ≡ length l.variables.items
+    → Extends m n → IsLinked b n → IsUnmarked b w → IsGrown a l b n w
+IsGrown-solved a b l m n w grows link trail terms variables x linked unmarked = record {
+  grows = grows;
+  more = x.more;
+  trail = x.trail ∙ ap (λ ns. ns ++ x.more) trail;
+  back = λ k. x.back k ∙ link k;
+  places = subst (All (HasNode n)) (ap (drop (length m.trail.items)) x.trail ∙ drop-append_seam m.trail.items x.more)
+      (All-drop (HasNode n) (length m.trail.items) n.trail.items (All-weaker (IsNodeOf b) (HasNode n) (place_of b n linked) n.trail.items linked.trail));
+  terms = (let same = x.terms in omega arith);
+  variables = x.variables ∙ variables;
+  marks = unmarked.marks;
+  marks_long = (let one = x.terms in let two = linked.terms in let three = unmarked.size in omega arith);
+  steps = unmarked.steps;
+  seen = unmarked.seen;
+}
+
+-- so can tables that have only become longer
+pub IsGrown-prepared : (a b : Arena) (l m : Links) (w : Walk) → Grows a b → ((k : ℕ) → link_of m k ≡ link_of l k) → m.trail.items ≡ l.trail.items
+    → length l.terms.items ≤ length m.terms.items → length m.variables.items ≡ length l.variables.items
+    → All (λ mark. mark ≡ Unseen) w.marks.items → length l.terms.items ≤ length w.marks.items → w.steps.items ≡ [] → w.seen.items ≡ []
+    → IsGrown a l b m w
+IsGrown-prepared a b l m w grows link trail terms variables marks long steps seen = record {
+  grows = grows;
+  more = [];
+  trail = trail ∙ sym (append-nil l.trail.items);
+  back = link;
+  places = All-nil (HasNode m);
+  terms = terms;
+  variables = variables;
+  marks = marks;
+  marks_long = long;
+  steps = steps;
+  seen = seen;
+}
+
+pub equations-length : (a : Arena) (added : List Added) → length (equations_in a added) ≡ length added
+equations-length a [] = refl
+equations-length a (e ∷ added) = let rest = equations-length a added in omega arith
+
+begins_take : {X : Type 0} (n : ℕ) (xs : List X) → Begins (take n xs) xs
+begins_take n xs = subst (Begins (take n xs)) (take-append-drop n xs) (Begins-append (take n xs) (drop n xs))
+
+-- the newest equation is taken back
+module _ (a : Arena) (l : Links) (w : Walk) (added rest : List Added) (e : Added) (store : IsStore a l w added) (split : added ≡ rest ++ e ∷ []) where
+  before : AreLevels a.variables (take e.before.nodes a.nodes.items) (take e.before.text a.text.items) (rewound (link_of l) (drop e.before.trail l.trail.items)) (take e.before.trail l.trail.items) (reverse rest)
+  before =
+      let turned : reverse added ≡ e ∷ reverse rest = ap reverse split ∙ reverse-append rest (e ∷ []) in
+      (subst (AreLevels a.variables a.nodes.items a.text.items (link_of l) l.trail.items) turned store.levels).1
+
+  level : IsLevel a.variables (take e.before.nodes a.nodes.items) (take e.before.text a.text.items) (rewound (link_of l) (drop e.before.trail l.trail.items)) (take e.before.trail l.trail.items) (reverse rest)
+  level = level_of a.variables (take e.before.nodes a.nodes.items) (take e.before.text a.text.items) (rewound (link_of l) (drop e.before.trail l.trail.items)) (take e.before.trail l.trail.items) (reverse rest) before
+
+  pub newest_places : All (HasNode l) (drop e.before.trail l.trail.items)
+  newest_places =
+      All-drop (HasNode l) e.before.trail l.trail.items
+      (All-weaker (IsNodeOf a) (HasNode l) (place_of a l (store_linked a l w added store)) l.trail.items (newest a l w added store).trail_nodes)
+
+  pub newest_past : (k : ℕ) → e.before.nodes ≤ k → k < FIRST_VARIABLE → rewound (link_of l) (drop e.before.trail l.trail.items) k ≡ k
+  newest_past k h term =
+      elim (level.past k) [
+        | inl inside ↦
+            elim inside [
+              | inl below ↦ absurd (omega (arith, length-take e.before.nodes a.nodes.items))
+              | inr above ↦ (let high = above.0 in absurd (omega arith))
+            ]
+        | inr same ↦ same
+      ]
+
+  module _ (c : Arena) (n : Links) (u : Walk)
+      (nodes : c.nodes.items ≡ take e.before.nodes a.nodes.items) (text : c.text.items ≡ take e.before.text a.text.items) (variables : c.variables ≡ a.variables)
+      (link : (k : ℕ) → link_of n k ≡ rewound (link_of l) (drop e.before.trail l.trail.items) k)
+      (cut : IsCut l n e.before) (walk : IsWalkCut w u e.before.nodes) where
+    pub newest_store : IsStore c n u rest
+    newest_store = record {
+      levels = AreLevels-same a.variables c.variables (take e.before.nodes a.nodes.items) c.nodes.items (take e.before.text a.text.items) c.text.items
+          (rewound (link_of l) (drop e.before.trail l.trail.items)) (link_of n) (take e.before.trail l.trail.items) n.trail.items (reverse rest)
+          variables nodes text link cut.trail before;
+      terms =
+          let size = store.terms in
+          let one = length-take e.before.nodes l.terms.items in
+          let two = cut.terms in
+          let three = ap length nodes in
+          let four = length-take e.before.nodes a.nodes.items in
+          omega arith;
+      variables = cut.variables ∙ store.variables ∙ sym variables;
+      few = subst (λ x. x < 4294967296) (sym variables) store.few;
+      walk = record {
+        marks = subst (All (λ mark. mark ≡ Unseen)) (sym walk.marks) (All-take (λ mark. mark ≡ Unseen) e.before.nodes w.marks.items store.walk.marks);
+        size =
+            let size = store.walk.size in
+            let one = length-take e.before.nodes w.marks.items in
+            let two = ap length walk.marks in
+            let three = ap length nodes in
+            let four = length-take e.before.nodes a.nodes.items in
+            omega arith;
+        steps = walk.steps ∙ store.walk.steps;
+        seen = walk.seen ∙ store.walk.seen;
+      };
+    }
+
+    pub newest_equations : equations_in c rest ≡ take (length added - 1) (equations_in a added)
+    newest_equations =
+        let grows : Grows c a = record {
+          nodes = subst (λ ns. Begins ns a.nodes.items) (sym nodes) (begins_take e.before.nodes a.nodes.items);
+          text = subst (λ ns. Begins ns a.text.items) (sym text) (begins_take e.before.text a.text.items);
+          variables = sym variables;
+        } in
+        let count : length added - 1 ≡ length (equations_in a rest) =
+        (let one = ap length split in
+        let two = length-append rest (e ∷ []) in
+        let three = equations-length a rest in
+        omega arith) in
+        let whole : equations_in a added ≡ equations_in a rest ++ (node_tree a e.left, node_tree a e.right) ∷ [] =
+        ap (equations_in a) split ∙ ap (equations_of (shape_of a)) (map-append (λ x. (x.left, x.right)) rest (e ∷ []))
+        ∙ map-append (λ p. (node_tree a p.0, node_tree a p.1)) (pairs_of rest) ((e.left, e.right) ∷ []) in
+        sym (equations_kept c n u rest newest_store a (newest a l w added store).arena grows)
+        ∙ sym (take-append_seam (equations_in a rest) ((node_tree a e.left, node_tree a e.right) ∷ []))
+        ∙ ap₂ (λ i es. take i es) (sym count) (sym whole)
+
+-- what an answer says of the value that it has
+pub some_added : {X E : Type 0} (r : Result (Option X) E) (o : Option X) (x : X) (P : X → Type 0) → r ≡ Ok o → o ≡ Some x → IfOk r (λ p. IfSome p P) → P x
+some_added r o x P e f h = subst (λ q. IfOk q (λ p. IfSome p P)) (e ∙ ap Ok f) h
+
+take_nil : {X : Type 0} (n : ℕ) → take {A = X} n [] ≡ []
+take_nil zero = refl
+take_nil (suc n) = refl
+
+pub take_fewer : {X : Type 0} (n m : ℕ) (xs : List X) → n ≤ m → take n (take m xs) ≡ take n xs
+take_fewer zero m xs h = refl
+take_fewer (suc n) m [] h = ap (take (suc n)) (take_nil m)
+take_fewer (suc n) zero (x ∷ xs) h = absurd (omega arith)
+take_fewer (suc n) (suc m) (x ∷ xs) h = ap (λ ys. x ∷ ys) (take_fewer n m xs (omega arith))
+
+-- terms that nothing makes equal are never equal beside any equations
+pub never_equal_adds : (a : Arena) (added : List Added) (j k : ℕ) (s t : Tree) → NeverEqual s t → NeverAdds a added (raised j s) (raised k t)
+never_equal_adds a added j k s t never solvable =
+    let v = solvable.valuation in
+    let equal = (All-pop (λ e. under v e.0 ≡ under v e.1) (equations_in a added ++ (raised j s, raised k t) ∷ []) (equations_in a added) (Some (raised j s, raised k t)) refl solvable.solves.equal).1 in
+    never (λ n. at v (n + j)) (λ n. at v (n + k))
+    (sym (instance-instance (at v) (λ n. Variable (n + j)) s) ∙ equal ∙ instance-instance (at v) (λ n. Variable (n + k)) t)

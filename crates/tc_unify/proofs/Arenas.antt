@@ -1,0 +1,438 @@
+-- The arena: what its nodes are, also once it grows or is cut.
+use Rattle.std.proofs.Common.{◌≡◌, ◌≢◌, ℕ, ◌+◌, ◌-◌, ◌<◌, ◌≤◌, ◌⊎◌, inl, inr, List, [], ◌∷◌, ◌++◌, length, length-append, length-drop, take, drop, append_assoc, get_or, refl, sym, ap, ap₂, ◌∙◌, subst, arith, Bool, true, false, cond, ltb, ℤ}
+use Rattle.std.proofs.lemmas.Bool.Decides.{Decides-ltb}
+use Rattle.std.proofs.lemmas.Bool.{cases_lt, cases_order}
+use Rattle.std.proofs.lemmas.List.{take-append-drop, take-append-le, drop-append-le, take_all, get_or_default}
+use Rattle.std.proofs.lemmas.List.Elements.{All-nil, All-cons, All-get_or, All-push, All-weaker}
+use Rattle.std.proofs.Math.ListN.{get_or-append, get_or-eq_default}
+use Rattle.std.proofs.Math.Seq.{take-append_seam, get_or-append_seam, drop-append_seam}
+use Rattle.std.proofs.Math.Path.{fun_ext}
+use Rattle.tc_term.specs.Tree.{Tree, Variable, Atomic, Number}
+use Rattle.tc_unify.specs.declared.nodes.TheConstants.{FIRST_VARIABLE}
+use Rattle.tc_unify.specs.declared.nodes.Node.{Node}
+use Rattle.tc_unify.specs.declared.nodes.Node.TheVariants.{Atom, Int, Apply}
+use Rattle.tc_unify.specs.Nodes.{Shape, VariableNode, AtomNode, NumberNode, ApplyNode, IsVariable, IsTerm, IsHead, IsPlain, IsInOrder, InOrder, tree_of_node, applied, label}
+use Rattle.tc_unify.proofs.Labels.{IsWithin, label-same, label-labels}
+use Rattle.tc_unify.specs.Arena.{node_shape, shape_in, IsInside, IsNodeWithin, IsArenaOf, IsArena, IsNodeOf, AreNodesOf, Grows, IsNodeFor, IsHeadFor, shape_of, node_tree, Begins}
+use Rattle.std.proofs.Common.{Result, IfOk, OnOk, OnErr, Ok, Err}
+use Rattle.tc_unify.specs.declared.nodes.Arena.{Arena}
+use Rattle.std.specs.Prelude.{bytes_eq, slice_range, Decides}
+use Rattle.std.proofs.lemmas.Slice.Eq.{bytes_eq-Decides}
+
+-- what a term's node is
+pub shape_in-term : (nodes : List Node) (text : List ℕ) (k : ℕ) → k < FIRST_VARIABLE → shape_in nodes text k ≡ node_shape text (get_or nodes k (Atom 0 0))
+unfolding shape_in
+shape_in-term nodes text k h =
+    ap (λ b. cond b (node_shape text (get_or nodes k (Atom 0 0))) (VariableNode (k - FIRST_VARIABLE))) ((Decides-ltb k FIRST_VARIABLE).1 h)
+
+pub shape_in-variable : (nodes : List Node) (text : List ℕ) (k : ℕ) → FIRST_VARIABLE ≤ k → shape_in nodes text k ≡ VariableNode (k - FIRST_VARIABLE)
+unfolding shape_in
+shape_in-variable nodes text k h =
+    ap (λ b. cond b (node_shape text (get_or nodes k (Atom 0 0))) (VariableNode (k - FIRST_VARIABLE))) (not_below (ltb k FIRST_VARIABLE) refl)
+  where
+    not_below : (b : Bool) → ltb k FIRST_VARIABLE ≡ b → ltb k FIRST_VARIABLE ≡ false
+    not_below true e = (let below = (Decides-ltb k FIRST_VARIABLE).0 e in absurd (omega arith))
+    not_below false e = e
+
+pub shape_in-node : (nodes : List Node) (text : List ℕ) (count k : ℕ) (node : Node) → IsArenaOf nodes text count → k < length nodes → node ≡ get_or nodes k node → shape_in nodes text k ≡ node_shape text node
+shape_in-node nodes text count k node arena h e =
+    let few = arena.few in
+    shape_in-term nodes text k (omega arith) ∙ ap (node_shape text) (get_or_default nodes k (Atom 0 0) node h ∙ sym e)
+
+-- what a read of the arena says of a node
+pub shape_of-read : (a : Arena) (k : ℕ) (x node : Node) → IsArena a → k < length a.nodes.items → x ≡ get_or a.nodes.items k x → x ≡ node → shape_of a k ≡ node_shape a.text.items node
+shape_of-read a k x node arena h read e =
+    shape_in-node a.nodes.items a.text.items a.variables k x arena h read ∙ ap (node_shape a.text.items) e
+
+-- names are compared as they stand in the text
+pub names_decided : (text t u : List ℕ) (from len start size : ℕ) (r : Bool) → t ≡ text → u ≡ text → r ≡ bytes_eq (slice_range t from (from + len)) (slice_range u start (start + size)) → Decides r (take len (drop from text) ≡ take size (drop start text))
+names_decided text t u from len start size r d e f =
+    let left : slice_range t from (from + len) ≡ take len (drop from text) = ap₂ (λ n bytes. take n (drop from bytes)) (omega arith) d in
+    let right : slice_range u start (start + size) ≡ take size (drop start text) = ap₂ (λ n bytes. take n (drop start bytes)) (omega arith) e in
+    subst (λ b. Decides b (take len (drop from text) ≡ take size (drop start text))) (sym (f ∙ ap₂ bytes_eq left right))
+    (bytes_eq-Decides (take len (drop from text)) (take size (drop start text)))
+
+inside_term : (nodes : List Node) (text : List ℕ) (count k : ℕ) → IsInside nodes count k → IsTerm (shape_in nodes text k) → k < length nodes
+inside_term nodes text count k (inl h) term = h
+inside_term nodes text count k (inr h) term = absurd (subst IsTerm (shape_in-variable nodes text k h.0) term)
+
+IsHead-term : (s : Shape) → IsHead s → IsTerm s
+IsHead-term (VariableNode n) h = h
+IsHead-term (AtomNode name) h = tt
+IsHead-term (NumberNode n) h = tt
+IsHead-term (ApplyNode head argument) h = tt
+
+IsVariable-shape : (nodes : List Node) (text : List ℕ) (k : ℕ) → FIRST_VARIABLE ≤ k → IsVariable (shape_in nodes text k)
+IsVariable-shape nodes text k h = subst IsVariable (sym (shape_in-variable nodes text k h)) tt
+
+node_shape-not_variable : (text : List ℕ) (node : Node) → IsVariable (node_shape text node) → ⊥
+node_shape-not_variable text (Atom from len) h = h
+node_shape-not_variable text (Int n) h = h
+node_shape-not_variable text (Apply head argument) h = h
+
+pub variable_above : (nodes : List Node) (text : List ℕ) (k : ℕ) → IsVariable (shape_in nodes text k) → FIRST_VARIABLE ≤ k
+variable_above nodes text k h =
+    elim (cases_lt k FIRST_VARIABLE) [
+      | inl below ↦ absurd (node_shape-not_variable text (get_or nodes k (Atom 0 0)) (subst IsVariable (shape_in-term nodes text k below) h))
+      | inr above ↦ above
+    ]
+
+node_shape-term : (text : List ℕ) (node : Node) → IsTerm (node_shape text node)
+node_shape-term text (Atom from len) = tt
+node_shape-term text (Int n) = tt
+node_shape-term text (Apply head argument) = tt
+
+-- the nodes below the variables are those of terms
+pub IsTerm-below : (nodes : List Node) (text : List ℕ) (k : ℕ) → k < FIRST_VARIABLE → IsTerm (shape_in nodes text k)
+IsTerm-below nodes text k h = subst IsTerm (sym (shape_in-term nodes text k h)) (node_shape-term text (get_or nodes k (Atom 0 0)))
+
+pub term_below : (nodes : List Node) (text : List ℕ) (k : ℕ) → IsTerm (shape_in nodes text k) → k < FIRST_VARIABLE
+term_below nodes text k h =
+    elim (cases_lt k FIRST_VARIABLE) [ inl below ↦ below | inr above ↦ absurd (subst IsTerm (shape_in-variable nodes text k above) h) ]
+
+-- a beginning and the rest
+Begins-rest : {X : Type 0} (xs ys : List X) → Begins xs ys → ys ≡ xs ++ drop (length xs) ys
+Begins-rest xs ys h = sym (take-append-drop (length xs) ys) ∙ ap (λ zs. zs ++ drop (length xs) ys) h
+
+pub Begins-length : {X : Type 0} (xs ys : List X) → Begins xs ys → length xs ≤ length ys
+Begins-length xs ys h =
+    let e : length ys ≡ length xs + length (drop (length xs) ys) = ap length (Begins-rest xs ys h) ∙ length-append xs (drop (length xs) ys) in
+    omega (arith, e)
+
+pub Begins-itself : {X : Type 0} (xs : List X) → Begins xs xs
+Begins-itself xs = take_all (length xs) xs (omega arith)
+
+pub Begins-append : {X : Type 0} (xs more : List X) → Begins xs (xs ++ more)
+Begins-append xs more = take-append_seam xs more
+
+pub Begins-trans : {X : Type 0} (xs ys zs : List X) → Begins xs ys → Begins ys zs → Begins xs zs
+Begins-trans xs ys zs h i =
+    let e : zs ≡ xs ++ (drop (length xs) ys ++ drop (length ys) zs) =
+    Begins-rest ys zs i ∙ ap (λ us. us ++ drop (length ys) zs) (Begins-rest xs ys h) ∙ append_assoc xs (drop (length xs) ys) (drop (length ys) zs) in
+    ap (take (length xs)) e ∙ take-append_seam xs (drop (length xs) ys ++ drop (length ys) zs)
+
+pub get_or-begins : {X : Type 0} (xs ys : List X) (d : X) (k : ℕ) → Begins xs ys → k < length xs → get_or ys k d ≡ get_or xs k d
+get_or-begins xs ys d k h i = ap (λ zs. get_or zs k d) (Begins-rest xs ys h) ∙ get_or-append xs (drop (length xs) ys) d k i
+
+name-begins : (text longer : List ℕ) (from len : ℕ) → Begins text longer → from + len ≤ length text → take len (drop from longer) ≡ take len (drop from text)
+name-begins text longer from len h i =
+    let more = drop (length text) longer in
+    ap (λ zs. take len (drop from zs)) (Begins-rest text longer h)
+    ∙ ap (take len) (drop-append-le from text more (omega arith))
+    ∙ take-append-le len (drop from text) more (omega (arith, length-drop from text))
+
+node_shape-begins : (nodes : List Node) (text longer : List ℕ) (count : ℕ) (node : Node) → Begins text longer → IsNodeWithin nodes text count node → node_shape longer node ≡ node_shape text node
+node_shape-begins nodes text longer count (Atom from len) h w = ap AtomNode (name-begins text longer from len h w)
+node_shape-begins nodes text longer count (Int n) h w = refl
+node_shape-begins nodes text longer count (Apply head argument) h w = refl
+
+module _ (nodes more : List Node) (text longer : List ℕ) (count : ℕ) (arena : IsArenaOf nodes text count) (grows : Begins nodes more) (text_grows : Begins text longer) where
+  node_at : (k : ℕ) → k < length nodes → IsNodeWithin nodes text count (get_or nodes k (Atom 0 0))
+  node_at k h = All-get_or (IsNodeWithin nodes text count) nodes k (Atom 0 0) h arena.within
+
+  -- nodes that stood there keep their shapes
+  pub shape_in-grows : (k : ℕ) → IsInside nodes count k → shape_in more longer k ≡ shape_in nodes text k
+  shape_in-grows k (inl h) =
+      let few = arena.few in
+      shape_in-term more longer k (omega arith)
+      ∙ ap (node_shape longer) (get_or-begins nodes more (Atom 0 0) k grows h)
+      ∙ node_shape-begins nodes text longer count (get_or nodes k (Atom 0 0)) text_grows (node_at k h)
+      ∙ sym (shape_in-term nodes text k (omega arith))
+  shape_in-grows k (inr h) = shape_in-variable more longer k h.0 ∙ sym (shape_in-variable nodes text k h.0)
+
+  within_shape : (node : Node) → IsNodeWithin nodes text count node → IsWithin (IsInside nodes count) (node_shape text node)
+  within_shape (Atom from len) h = tt
+  within_shape (Int n) h = tt
+  within_shape (Apply head argument) h = h
+
+  -- the nodes that a node names are inside
+  pub inside_within : (k : ℕ) → IsInside nodes count k → IsWithin (IsInside nodes count) (shape_in nodes text k)
+  inside_within k (inl h) =
+      let few = arena.few in
+      subst (IsWithin (IsInside nodes count)) (sym (shape_in-term nodes text k (omega arith))) (within_shape (get_or nodes k (Atom 0 0)) (node_at k h))
+  inside_within k (inr h) = subst (IsWithin (IsInside nodes count)) (sym (shape_in-variable nodes text k h.0)) tt
+
+  -- and their trees
+  pub label-grows : (v : ℕ → Tree) (k : ℕ) → IsInside nodes count k → label (shape_in more longer) v k ≡ label (shape_in nodes text) v k
+  label-grows v k h =
+      sym (label-same (shape_in nodes text) (shape_in more longer) v (IsInside nodes count) (λ j i. sym (shape_in-grows j i)) inside_within k h)
+
+-- a node may come next
+abbrev pub IsNext : List Node → List ℕ → ℕ → Node → Type 0
+IsNext nodes text count (Atom from len) = from + len ≤ length text
+IsNext nodes text count (Int n) = Unit {0}
+IsNext nodes text count (Apply head argument) =
+    IsHead (shape_in nodes text head) × IsInside nodes count head × IsInside nodes count argument
+
+IsNext-within : (nodes : List Node) (text : List ℕ) (count : ℕ) (node : Node) → IsNext nodes text count node → IsNodeWithin nodes text count node
+IsNext-within nodes text count (Atom from len) h = h
+IsNext-within nodes text count (Int n) h = tt
+IsNext-within nodes text count (Apply head argument) h = (h.1, h.2)
+
+inside_more : (nodes : List Node) (node : Node) (count k : ℕ) → IsInside nodes count k → IsInside (nodes ++ node ∷ []) count k
+inside_more nodes node count k (inl h) = inl (omega (arith, length-append nodes (node ∷ [])))
+inside_more nodes node count k (inr h) = inr h
+
+within_more : (nodes : List Node) (node : Node) (text : List ℕ) (count : ℕ) (m : Node) → IsNodeWithin nodes text count m → IsNodeWithin (nodes ++ node ∷ []) text count m
+within_more nodes node text count (Atom from len) h = h
+within_more nodes node text count (Int n) h = tt
+within_more nodes node text count (Apply head argument) h = (inside_more nodes node count head h.0, inside_more nodes node count argument h.1)
+
+order_of : (nodes : List Node) (text : List ℕ) (count k : ℕ) (other : ℕ → Shape) (s : Shape) → ((j : ℕ) → j < k → other j ≡ shape_in nodes text j) → ((j : ℕ) → IsVariable (shape_in nodes text j) → IsVariable (other j)) → IsInOrder (shape_in nodes text) k s → IsInOrder other k s
+order_of nodes text count k other (VariableNode n) e v h = tt
+order_of nodes text count k other (AtomNode name) e v h = tt
+order_of nodes text count k other (NumberNode n) e v h = tt
+order_of nodes text count k other (ApplyNode head argument) e v h =
+    (subst IsHead (sym (e head h.1)) h.0, h.1, elim h.2 [ inl free ↦ inl (v argument free) | inr below ↦ inr below ])
+
+module _ (nodes : List Node) (node : Node) (text : List ℕ) (count : ℕ) (arena : IsArenaOf nodes text count) (next : IsNext nodes text count node) (room : length nodes < FIRST_VARIABLE) where
+  pushed : ℕ → Shape
+  pushed = shape_in (nodes ++ node ∷ []) text
+
+  pub shape_in-pushed : shape_in (nodes ++ node ∷ []) text (length nodes) ≡ node_shape text node
+  shape_in-pushed =
+      shape_in-term (nodes ++ node ∷ []) text (length nodes) room ∙ ap (node_shape text) (get_or-append_seam nodes node [] (Atom 0 0))
+
+  pushed-below : (k : ℕ) → k < length nodes → pushed k ≡ shape_in nodes text k
+  unfolding pushed
+  pushed-below k h = shape_in-grows nodes (nodes ++ node ∷ []) text text count arena (Begins-append nodes (node ∷ [])) (Begins-itself text) k (inl h)
+
+  pushed-variable : (k : ℕ) → IsVariable (shape_in nodes text k) → IsVariable (pushed k)
+  unfolding pushed
+  pushed-variable k h = IsVariable-shape (nodes ++ node ∷ []) text k (variable_above nodes text k h)
+
+  next_order : (m : Node) → IsNext nodes text count m → IsInOrder pushed (length nodes) (node_shape text m)
+  next_order (Atom from len) h = tt
+  next_order (Int n) h = tt
+  next_order (Apply head argument) h =
+      let below = inside_term nodes text count head h.1 (IsHead-term (shape_in nodes text head) h.0) in (
+        subst IsHead (sym (pushed-below head below)) h.0,
+        below,
+        elim h.2 [ inl old ↦ inr old | inr free ↦ inl (pushed-variable argument (IsVariable-shape nodes text argument free.0)) ],
+      )
+
+  pushed_order : InOrder pushed
+  unfolding pushed
+  pushed_order k =
+      elim (cases_order k (length nodes)) [
+        | inl at ↦ subst (λ j. IsInOrder pushed j (pushed j)) (sym at) (subst (IsInOrder pushed (length nodes)) (sym shape_in-pushed) (next_order node next))
+        | inr (inl below) ↦
+            subst (IsInOrder pushed k) (sym (pushed-below k below))
+            (order_of nodes text count k pushed (shape_in nodes text k) (λ j h. pushed-below j (omega arith)) pushed-variable (arena.order k))
+        | inr (inr above) ↦ past k above (cases_lt k FIRST_VARIABLE)
+      ]
+    where
+      past : (k : ℕ) → length nodes < k → ((k < FIRST_VARIABLE) ⊎ (FIRST_VARIABLE ≤ k)) → IsInOrder pushed k (pushed k)
+      past k above (inl term) =
+          subst (IsInOrder pushed k)
+          (sym (shape_in-term (nodes ++ node ∷ []) text k term ∙ ap (node_shape text) (get_or-eq_default (nodes ++ node ∷ []) (Atom 0 0) (omega (arith, length-append nodes (node ∷ []))))))
+          tt
+      past k above (inr free) = subst (IsInOrder pushed k) (sym (shape_in-variable (nodes ++ node ∷ []) text k free)) tt
+
+  pub IsArenaOf-push : IsArenaOf (nodes ++ node ∷ []) text count
+  unfolding pushed
+  IsArenaOf-push = record {
+    order = pushed_order;
+    within = All-push (IsNodeWithin (nodes ++ node ∷ []) text count) nodes node
+        (All-weaker (IsNodeWithin nodes text count) (IsNodeWithin (nodes ++ node ∷ []) text count) (within_more nodes node text count) nodes arena.within)
+        (within_more nodes node text count node (IsNext-within nodes text count node next));
+    few = omega (arith, length-append nodes (node ∷ []));
+  }
+
+-- what two nodes name is inside
+pub named_nodes : (a : Arena) (j k f x g y : ℕ) → IsArena a → j < length a.nodes.items → k < length a.nodes.items → shape_of a j ≡ ApplyNode f x → shape_of a k ≡ ApplyNode g y → AreNodesOf a ((x, y) ∷ (f, g) ∷ [])
+named_nodes a j k f x g y arena h i d e =
+    let P : ℕ × ℕ → Type 0 = λ p. IsNodeOf a p.0 × IsNodeOf a p.1 in
+    let nodes = a.nodes.items in
+    let text = a.text.items in
+    let within : (n : ℕ) → n < length nodes → IsWithin (IsNodeOf a) (shape_of a n) =
+    λ n m. inside_within nodes nodes text text a.variables arena (Begins-itself nodes) (Begins-itself text) n (inl m) in
+    let left = subst (IsWithin (IsNodeOf a)) d (within j h) in
+    let right = subst (IsWithin (IsNodeOf a)) e (within k i) in
+    All-cons P (x, y) ((f, g) ∷ []) (left.1, right.1) (All-cons P (f, g) [] (left.0, right.0) (All-nil P))
+
+node_shape-plain : (text : List ℕ) (node : Node) → ((head argument : ℕ) → node ≢ Apply head argument) → IsPlain (node_shape text node)
+node_shape-plain text (Atom from len) h = tt
+node_shape-plain text (Int n) h = tt
+node_shape-plain text (Apply head argument) h = absurd (h head argument refl)
+
+-- a node that is no application names no other
+pub plain_read : (a : Arena) (k : ℕ) (x : Node) → IsArena a → k < length a.nodes.items → x ≡ get_or a.nodes.items k x → ((head argument : ℕ) → x ≢ Apply head argument) → IsPlain (shape_of a k)
+plain_read a k x arena h read differ =
+    subst IsPlain (sym (shape_of-read a k x x arena h read refl)) (node_shape-plain a.text.items x differ)
+
+pub named_node : (a : Arena) (k f x : ℕ) → IsArena a → k < length a.nodes.items → shape_of a k ≡ ApplyNode f x → IsNodeOf a f × IsNodeOf a x
+named_node a k f x arena h e =
+    let nodes = a.nodes.items in
+    let text = a.text.items in
+    subst (IsWithin (IsNodeOf a)) e (inside_within nodes nodes text text a.variables arena (Begins-itself nodes) (Begins-itself text) k (inl h))
+
+-- longer text changes no node
+shape_in-text : (nodes : List Node) (text longer : List ℕ) (count : ℕ) → IsArenaOf nodes text count → Begins text longer → (k : ℕ) → shape_in nodes longer k ≡ shape_in nodes text k
+shape_in-text nodes text longer count arena grows k =
+    elim (cases_lt k (length nodes)) [
+      | inl below ↦ shape_in-grows nodes nodes text longer count arena (Begins-itself nodes) grows k (inl below)
+      | inr above ↦
+          elim (cases_lt k FIRST_VARIABLE) [
+            | inl term ↦
+                shape_in-term nodes longer k term ∙ ap (node_shape longer) (get_or-eq_default nodes (Atom 0 0) above)
+                ∙ ap (node_shape text) (sym (get_or-eq_default nodes (Atom 0 0) above)) ∙ sym (shape_in-term nodes text k term)
+            | inr free ↦ shape_in-variable nodes longer k free ∙ sym (shape_in-variable nodes text k free)
+          ]
+    ]
+
+within_text : (nodes : List Node) (text longer : List ℕ) (count : ℕ) → length text ≤ length longer → (m : Node) → IsNodeWithin nodes text count m → IsNodeWithin nodes longer count m
+within_text nodes text longer count h (Atom from len) w = omega arith
+within_text nodes text longer count h (Int n) w = tt
+within_text nodes text longer count h (Apply head argument) w = w
+
+pub IsArenaOf-text : (nodes : List Node) (text longer : List ℕ) (count : ℕ) → IsArenaOf nodes text count → Begins text longer → IsArenaOf nodes longer count
+IsArenaOf-text nodes text longer count arena grows = record {
+  order = subst InOrder (sym (fun_ext (shape_in-text nodes text longer count arena grows))) arena.order;
+  within = All-weaker (IsNodeWithin nodes text count) (IsNodeWithin nodes longer count) (within_text nodes text longer count (Begins-length text longer grows)) nodes arena.within;
+  few = arena.few;
+}
+
+-- an arena with one node more, on a text that has grown
+module _ (old new : Arena) (node : Node)
+    (arena : IsArena old)
+    (text : Begins old.text.items new.text.items)
+    (variables : new.variables ≡ old.variables)
+    (nodes : new.nodes.items ≡ old.nodes.items ++ node ∷ [])
+    (next : IsNext old.nodes.items new.text.items old.variables node)
+    (few : length new.nodes.items < FIRST_VARIABLE) where
+  before : IsArenaOf old.nodes.items new.text.items old.variables
+  before = IsArenaOf-text old.nodes.items old.text.items new.text.items old.variables arena text
+
+  room : length old.nodes.items < FIRST_VARIABLE
+  room = omega (arith, ap length nodes, length-append old.nodes.items (node ∷ []))
+
+  pub IsArena-pushed : IsArena new
+  IsArena-pushed =
+      subst (λ n. IsArenaOf new.nodes.items new.text.items n) (sym variables)
+      (subst (λ ns. IsArenaOf ns new.text.items old.variables) (sym nodes)
+      (IsArenaOf-push old.nodes.items node new.text.items old.variables before next room))
+
+  pub Grows-pushed : Grows old new
+  Grows-pushed = record {
+    nodes = subst (Begins old.nodes.items) (sym nodes) (Begins-append old.nodes.items (node ∷ []));
+    text = text;
+    variables = variables;
+  }
+
+  pub inside_pushed : IsNodeOf new (length old.nodes.items)
+  inside_pushed = inl (omega (arith, ap length nodes, length-append old.nodes.items (node ∷ [])))
+
+  pub shape_pushed : shape_of new (length old.nodes.items) ≡ node_shape new.text.items node
+  shape_pushed =
+      ap (λ ns. shape_in ns new.text.items (length old.nodes.items)) nodes
+      ∙ shape_in-pushed old.nodes.items node new.text.items old.variables before next room
+
+  pub tree_pushed : node_tree new (length old.nodes.items) ≡ tree_of_node Variable (node_tree new) (node_shape new.text.items node)
+  tree_pushed = label-labels (shape_of new) Variable IsArena-pushed.order (length old.nodes.items) ∙ ap (tree_of_node Variable (node_tree new)) shape_pushed
+
+-- nodes that stood there keep their trees and shapes
+pub node_tree-grows : (old new : Arena) → IsArena old → Grows old new → (k : ℕ) → IsNodeOf old k → node_tree new k ≡ node_tree old k
+node_tree-grows old new arena grows k h = label-grows old.nodes.items new.nodes.items old.text.items new.text.items old.variables arena grows.nodes grows.text Variable k h
+
+pub shape_of-grows : (old new : Arena) → IsArena old → Grows old new → (k : ℕ) → IsNodeOf old k → shape_of new k ≡ shape_of old k
+shape_of-grows old new arena grows k h = shape_in-grows old.nodes.items new.nodes.items old.text.items new.text.items old.variables arena grows.nodes grows.text k h
+
+pub inside_grows : (old new : Arena) → Grows old new → (k : ℕ) → IsNodeOf old k → IsNodeOf new k
+inside_grows old new grows k (inl h) =
+    let longer = Begins-length old.nodes.items new.nodes.items grows.nodes in
+    inl (omega arith)
+inside_grows old new grows k (inr h) = inr (h.0, subst (λ n. k < FIRST_VARIABLE + n) (sym grows.variables) h.1)
+
+pub Grows-itself : (a : Arena) → Grows a a
+Grows-itself a = record { nodes = Begins-itself a.nodes.items; text = Begins-itself a.text.items; variables = refl }
+
+pub Grows-trans : (old mid new : Arena) → Grows old mid → Grows mid new → Grows old new
+Grows-trans old mid new g h = record {
+  nodes = Begins-trans old.nodes.items mid.nodes.items new.nodes.items g.nodes h.nodes;
+  text = Begins-trans old.text.items mid.text.items new.text.items g.text h.text;
+  variables = h.variables ∙ g.variables;
+}
+
+-- the name of an atom that was pushed
+pub name_pushed : (text name longer : List ℕ) → longer ≡ text ++ name → take (length name) (drop (length text) longer) ≡ name
+name_pushed text name longer e =
+    ap (λ bytes. take (length name) (drop (length text) bytes)) e ∙ ap (take (length name)) (drop-append_seam text name) ∙ take_all (length name) name (omega arith)
+
+-- by cases on whether memory was there
+pub ok_at : {E : Type 0} (r : Result ℕ E) (P : ℕ → Type 0) (Q : Type 0) (n : ℕ) → IfOk r (λ k. k ≡ n) → OnOk r Q → (Q → P n) → IfOk r P
+ok_at (Ok k) P Q n e q f = subst P (sym e) (f q)
+ok_at (Err x) P Q n e q f = tt
+
+pub ok_or_err : {X E : Type 0} (r : Result X E) (Q R Y : Type 0) → OnOk r Q → OnErr r R → (Q → Y) → (R → Y) → Y
+ok_or_err (Ok x) Q R Y q r f g = f q
+ok_or_err (Err x) Q R Y q r f g = g r
+
+-- an arena without a new node, on a text that has grown
+pub IsArena-same : (old new : Arena) → IsArena old → Begins old.text.items new.text.items → new.variables ≡ old.variables → new.nodes.items ≡ old.nodes.items → IsArena new
+IsArena-same old new arena text variables nodes =
+    subst (λ n. IsArenaOf new.nodes.items new.text.items n) (sym variables)
+    (subst (λ ns. IsArenaOf ns new.text.items old.variables) (sym nodes)
+    (IsArenaOf-text old.nodes.items old.text.items new.text.items old.variables arena text))
+
+pub atom_pushed : (old new : Arena) (name : List ℕ) (from : ℕ) → IsArena old → from ≡ length old.text.items → new.text.items ≡ old.text.items ++ name → new.variables ≡ old.variables → length new.nodes.items < FIRST_VARIABLE
+    → new.nodes.items ≡ old.nodes.items ++ Atom from (length name) ∷ []
+    → IsArena new × IsHeadFor new (length old.nodes.items) (Atomic name)
+atom_pushed old new name from arena start text variables few nodes =
+    let longer : Begins old.text.items new.text.items = subst (Begins old.text.items) (sym text) (Begins-append old.text.items name) in
+    let node = Atom from (length name) in
+    let next : IsNext old.nodes.items new.text.items old.variables node = omega (arith, ap length text, length-append old.text.items name) in
+    let same = ap (λ i. take (length name) (drop i new.text.items)) start ∙ name_pushed old.text.items name new.text.items text in
+    let is = shape_pushed old new node arena longer variables nodes next few ∙ ap AtomNode same in (
+      IsArena-pushed old new node arena longer variables nodes next few,
+      record {
+        node = record {
+          inside = inside_pushed old new node arena longer variables nodes next few;
+          tree = tree_pushed old new node arena longer variables nodes next few ∙ ap Atomic same;
+        };
+        head = subst IsHead (sym is) tt;
+      },
+    )
+
+pub number_pushed : (old new : Arena) (n : ℤ) → IsArena old → new.text.items ≡ old.text.items → new.variables ≡ old.variables → length new.nodes.items < FIRST_VARIABLE
+    → new.nodes.items ≡ old.nodes.items ++ Int n ∷ []
+    → IsArena new × IsNodeFor new (length old.nodes.items) (Number n)
+number_pushed old new n arena text variables few nodes =
+    let longer : Begins old.text.items new.text.items = subst (Begins old.text.items) (sym text) (Begins-itself old.text.items) in (
+      IsArena-pushed old new (Int n) arena longer variables nodes tt few,
+      record {
+        inside = inside_pushed old new (Int n) arena longer variables nodes tt few;
+        tree = tree_pushed old new (Int n) arena longer variables nodes tt few;
+      },
+    )
+
+pub apply_pushed : (old new : Arena) (head argument : ℕ) → IsArena old → IsHead (shape_of old head) → IsNodeOf old head → IsNodeOf old argument
+    → new.text.items ≡ old.text.items → new.variables ≡ old.variables → length new.nodes.items < FIRST_VARIABLE
+    → new.nodes.items ≡ old.nodes.items ++ Apply head argument ∷ []
+    → IsArena new × IsHeadFor new (length old.nodes.items) (applied (node_tree old head) (node_tree old argument))
+apply_pushed old new head argument arena is_head inside other text variables few nodes =
+    let longer : Begins old.text.items new.text.items = subst (Begins old.text.items) (sym text) (Begins-itself old.text.items) in
+    let node = Apply head argument in
+    let next : IsNext old.nodes.items new.text.items old.variables node = (subst (λ bytes. IsHead (shape_in old.nodes.items bytes head)) (sym text) is_head, inside, other) in
+    let grows = Grows-pushed old new node arena longer variables nodes next few in
+    let is = shape_pushed old new node arena longer variables nodes next few in (
+      IsArena-pushed old new node arena longer variables nodes next few,
+      record {
+        node = record {
+          inside = inside_pushed old new node arena longer variables nodes next few;
+          tree = tree_pushed old new node arena longer variables nodes next few
+              ∙ ap₂ applied (node_tree-grows old new arena grows head inside) (node_tree-grows old new arena grows argument other);
+        };
+        head = subst IsHead (sym is) tt;
+      },
+    )
+
+-- the node of a variable
+pub variable_node : (a : Arena) (k n : ℕ) → IsArena a → k ≡ FIRST_VARIABLE + n → n < a.variables → IsNodeFor a k (Variable n)
+variable_node a k n arena e h = record {
+  inside = inr (omega arith, omega arith);
+  tree =
+      label-labels (shape_of a) Variable arena.order k
+      ∙ ap (tree_of_node Variable (node_tree a)) (shape_in-variable a.nodes.items a.text.items k (omega arith))
+      ∙ (let same : k - FIRST_VARIABLE ≡ n = omega arith in ap Variable same);
+}

@@ -1,0 +1,170 @@
+-- An arena that grows keeps what its links mean.
+use Rattle.std.proofs.Common.{◌≡◌, ℕ, ◌+◌, ◌≤◌, ◌⊎◌, inl, inr, List, [], ◌∷◌, length, map, reverse, refl, sym, ap, ap₂, ◌∙◌, subst, arith, All}
+use Rattle.std.proofs.Math.Path.{fun_ext}
+use Rattle.std.proofs.Math.ListN.{get_or-eq_default}
+use Rattle.std.proofs.lemmas.Bool.{cases_lt}
+use Rattle.std.proofs.lemmas.List.{reverse-append}
+use Rattle.std.proofs.lemmas.List.Elements.{All-nil, All-cons, All-head, All-tail, All-push, All-weaker, All-map}
+use Rattle.tc_term.specs.Tree.{Tree, Variable}
+use Rattle.tc_term.specs.Equations.{Equation, at}
+use Rattle.tc_unify.specs.declared.nodes.TheConstants.{FIRST_VARIABLE}
+use Rattle.tc_unify.specs.declared.nodes.Node.{Node}
+use Rattle.tc_unify.specs.declared.nodes.Arena.{Arena}
+use Rattle.tc_unify.specs.declared.links.Links.{Links}
+use Rattle.tc_unify.specs.declared.sizes.Added.{Added}
+use Rattle.tc_unify.specs.Nodes.{IsTerm, tree_of_node, label}
+use Rattle.tc_unify.specs.Links.{Respects, Holds}
+use Rattle.tc_unify.specs.Solutions.{AreLinked, Means, equations_of}
+use Rattle.tc_unify.specs.Arena.{IsInside, IsArena, IsNodeOf, Grows, shape_of}
+use Rattle.tc_unify.specs.Tables.{link_of}
+use Rattle.tc_unify.specs.Meeting.{IsLinked}
+use Rattle.tc_unify.specs.Stores.{pairs_of, IsLevel, AreLevels}
+use Rattle.tc_unify.proofs.Arenas.{Begins-length, shape_in-grows, label-grows, IsTerm-below, term_below}
+use Rattle.tc_unify.proofs.Tables.{link_in-term, link_in-variable}
+
+pub level_of : (count : ℕ) (nodes : List Node) (text : List ℕ) (link : ℕ → ℕ) (trail : List ℕ) (added : List Added) → AreLevels count nodes text link trail added → IsLevel count nodes text link trail added
+level_of count nodes text link trail [] h = h
+level_of count nodes text link trail (e ∷ added) h = h.0
+
+module _ (old new : Arena) (link : ℕ → ℕ) (pairs : List (ℕ × ℕ))
+    (arena : IsArena old) (grown : IsArena new) (grows : Grows old new)
+    (inside : (k : ℕ) → IsNodeOf old k → IsNodeOf old (link k))
+    (past : (k : ℕ) → IsNodeOf old k ⊎ (link k ≡ k))
+    (nodes : All (λ p. IsNodeOf old p.0 × IsNodeOf old p.1) pairs) where
+  same_label : (v : ℕ → Tree) (k : ℕ) → IsNodeOf old k → label (shape_of new) v k ≡ label (shape_of old) v k
+  same_label v k h = label-grows old.nodes.items new.nodes.items old.text.items new.text.items old.variables arena grows.nodes grows.text v k h
+
+  same_shape : (k : ℕ) → IsNodeOf old k → shape_of new k ≡ shape_of old k
+  same_shape k h = shape_in-grows old.nodes.items new.nodes.items old.text.items new.text.items old.variables arena grows.nodes grows.text k h
+
+  respects_new : (v : ℕ → Tree) → Respects (label (shape_of old) v) link → Respects (label (shape_of new) v) link
+  respects_new v r k =
+      elim (past k) [
+        | inl h ↦ same_label v k h ∙ r k ∙ sym (same_label v (link k) (inside k h))
+        | inr e ↦ ap (label (shape_of new) v) (sym e)
+      ]
+
+  respects_old : (v : ℕ → Tree) → Respects (label (shape_of new) v) link → Respects (label (shape_of old) v) link
+  respects_old v r k =
+      elim (past k) [
+        | inl h ↦ sym (same_label v k h) ∙ r k ∙ same_label v (link k) (inside k h)
+        | inr e ↦ ap (label (shape_of old) v) (sym e)
+      ]
+
+  both : (F G : ℕ → Tree) → ((k : ℕ) → IsNodeOf old k → F k ≡ G k) → Holds F pairs → Holds G pairs
+  both F G e h = λ k d i.
+      let p = nodes k d i in
+      sym (e _ p.0) ∙ h k d i ∙ e _ p.1
+
+  pub Means-grows : Means old.variables (shape_of old) link pairs → Means old.variables (shape_of new) link pairs
+  Means-grows means = record {
+    says = λ v h. respects_new v (means.says v (both (label (shape_of new) v) (label (shape_of old) v) (same_label v) h));
+    said = λ v r. both (label (shape_of old) v) (label (shape_of new) v) (λ k h. sym (same_label v k h)) (means.said v (respects_old v r));
+    alike = λ F r v k term.
+        elim (past k) [
+          | inl h ↦
+              ap (tree_of_node v F) (same_shape k h)
+              ∙ means.alike F r v k (subst IsTerm (same_shape k h) term)
+              ∙ ap (tree_of_node v F) (sym (same_shape (link k) (inside k h)))
+          | inr e ↦ ap (λ j. tree_of_node v F (shape_of new j)) (sym e)
+        ];
+    solution = means.solution;
+    solves = record { valuation = means.solves.valuation; respects = respects_new (at means.solution) means.solves.respects };
+  }
+
+  pub equations-grow : equations_of (shape_of new) pairs ≡ equations_of (shape_of old) pairs
+  equations-grow = by_pairs pairs nodes
+    where
+      by_pairs : (ps : List (ℕ × ℕ)) → All (λ p. IsNodeOf old p.0 × IsNodeOf old p.1) ps → equations_of (shape_of new) ps ≡ equations_of (shape_of old) ps
+      by_pairs [] h = refl
+      by_pairs (p ∷ ps) h =
+          let first = All-head (λ q. IsNodeOf old q.0 × IsNodeOf old q.1) p ps h in
+          ap₂ (λ (e : Equation) (es : List Equation). e ∷ es)
+          (ap₂ (λ (s : Tree) (t : Tree). (s, t)) (same_label Variable p.0 first.0) (same_label Variable p.1 first.1))
+          (by_pairs ps (All-tail (λ q. IsNodeOf old q.0 × IsNodeOf old q.1) p ps h))
+
+inside_longer : (nodes more : List Node) (count k : ℕ) → length nodes ≤ length more → IsInside nodes count k → IsInside more count k
+inside_longer nodes more count k h (inl i) = inl (omega arith)
+inside_longer nodes more count k h (inr i) = inr i
+
+-- links of an arena that has grown, in tables that have grown with it
+pub IsLinked-grown : (old new : Arena) (l m : Links) (pairs : List (ℕ × ℕ)) → IsArena old → IsArena new → Grows old new
+    → AreLinked (shape_of old) (link_of l)
+    → ((k : ℕ) → IsNodeOf old k → IsNodeOf old (link_of l k))
+    → ((k : ℕ) → IsNodeOf old k ⊎ (link_of l k ≡ k))
+    → All (IsNodeOf old) l.trail.items
+    → ((k : ℕ) → link_of m k ≡ link_of l k)
+    → m.trail.items ≡ l.trail.items
+    → length m.terms.items ≡ length new.nodes.items
+    → length m.variables.items ≡ old.variables
+    → IsLinked new m
+IsLinked-grown old new l m pairs arena grown grows linked inside past trail link same terms variables = record {
+  arena = grown;
+  linked = subst (AreLinked (shape_of new)) (sym (fun_ext link)) (record {
+    order = grown.order;
+    falls = linked.falls;
+    terms = λ k term.
+        let below = term_below new.nodes.items new.text.items k term in
+        IsTerm-below new.nodes.items new.text.items (link_of l k)
+        (elim (linked.falls k) [ inl e ↦ omega arith | inr lower ↦ omega arith ]);
+  });
+  inside = λ k h.
+      subst (IsNodeOf new) (sym (link k))
+      (elim (past k) [ inl i ↦ longer (link_of l k) (inside k i) | inr e ↦ subst (IsNodeOf new) (sym e) h ]);
+  terms = terms;
+  variables = variables ∙ sym grows.variables;
+  trail = subst (All (IsNodeOf new)) (sym same) (All-weaker (IsNodeOf old) (IsNodeOf new) longer l.trail.items trail);
+}
+  where
+    longer : (k : ℕ) → IsNodeOf old k → IsNodeOf new k
+    longer k h = subst (λ n. IsInside new.nodes.items n k) (sym grows.variables) (inside_longer old.nodes.items new.nodes.items old.variables k (Begins-length old.nodes.items new.nodes.items grows.nodes) h)
+
+-- nodes past the tables link to themselves
+pub past_tables : (a : Arena) (l : Links) → length l.terms.items ≡ length a.nodes.items → length l.variables.items ≡ a.variables → (k : ℕ) → IsNodeOf a k ⊎ (link_of l k ≡ k)
+past_tables a l terms variables k =
+    elim (cases_lt k FIRST_VARIABLE) [
+      | inl term ↦
+          elim (cases_lt k (length a.nodes.items)) [
+            | inl below ↦ inl (inl below)
+            | inr above ↦ inr (link_in-term l.terms.items l.variables.items k term ∙ get_or-eq_default l.terms.items k (omega arith))
+          ]
+      | inr free ↦
+          elim (cases_lt k (FIRST_VARIABLE + a.variables)) [
+            | inl below ↦ inl (inr (free, below))
+            | inr above ↦ inr (link_in-variable l.terms.items l.variables.items k free ∙ get_or-eq_default l.variables.items k (omega arith))
+          ]
+    ]
+
+-- equal parts have equal levels
+pub AreLevels-same : (count other : ℕ) (nodes nodes2 : List Node) (text text2 : List ℕ) (link link2 : ℕ → ℕ) (trail trail2 : List ℕ) (added : List Added)
+    → other ≡ count → nodes2 ≡ nodes → text2 ≡ text → ((k : ℕ) → link2 k ≡ link k) → trail2 ≡ trail
+    → AreLevels count nodes text link trail added → AreLevels other nodes2 text2 link2 trail2 added
+AreLevels-same count other nodes nodes2 text text2 link link2 trail trail2 added c n t e r h =
+    subst (λ x. AreLevels x nodes2 text2 link2 trail2 added) (sym c)
+    (subst (λ x. AreLevels count x text2 link2 trail2 added) (sym n)
+    (subst (λ x. AreLevels count nodes x link2 trail2 added) (sym t)
+    (subst (λ x. AreLevels count nodes text x trail2 added) (sym (fun_ext e))
+    (subst (λ x. AreLevels count nodes text link x added) (sym r) h))))
+
+All-reversed : {X : Type 0} (P : X → Type 0) (xs : List X) → All P xs → All P (reverse xs)
+All-reversed P [] h = h
+All-reversed P (x ∷ xs) h =
+    subst (All P) (sym (reverse-append (x ∷ []) xs)) (All-push P (reverse xs) x (All-reversed P xs (All-tail P x xs h)) (All-head P x xs h))
+
+reversed_twice : {X : Type 0} (xs : List X) → reverse (reverse xs) ≡ xs
+reversed_twice [] = refl
+reversed_twice (x ∷ xs) =
+    ap reverse (reverse-append (x ∷ []) xs) ∙ reverse-append (reverse xs) (x ∷ []) ∙ ap (λ ys. x ∷ ys) (reversed_twice xs)
+
+All-of_map : {X Y : Type 0} (P : Y → Type 0) (f : X → Y) (xs : List X) → All P (map f xs) → All (λ x. P (f x)) xs
+All-of_map P f [] h = All-nil (λ x. P (f x))
+All-of_map P f (x ∷ xs) h = All-cons (λ y. P (f y)) x xs (All-head P (f x) (map f xs) h) (All-of_map P f xs (All-tail P (f x) (map f xs) h))
+
+-- what holds of all pairs holds in either order
+pub pairs_backward : (P : ℕ × ℕ → Type 0) (added : List Added) → All P (pairs_of added) → All P (pairs_of (reverse added))
+pairs_backward P added h = All-map P (λ e. (e.left, e.right)) (reverse added) (All-reversed (λ e. P (e.left, e.right)) added (All-of_map P (λ e. (e.left, e.right)) added h))
+
+pub pairs_forward : (P : ℕ × ℕ → Type 0) (added : List Added) → All P (pairs_of (reverse added)) → All P (pairs_of added)
+pairs_forward P added h =
+    subst (λ xs. All P (pairs_of xs)) (reversed_twice added)
+    (pairs_backward P (reverse added) h)

@@ -1,0 +1,15 @@
+pub mod Labels
+pub mod Roots
+pub mod Finite
+pub mod Steps
+pub mod Walks
+pub mod Solutions
+pub mod Arenas
+pub mod Tables
+pub mod Meetings
+pub mod Marks
+pub mod Copied
+pub mod Solving
+pub mod Growing
+pub mod Additions
+pub mod Variables

@@ -1,0 +1,13 @@
+pub mod Nodes
+pub mod Links
+pub mod Solutions
+pub mod Walks
+pub mod Arena
+pub mod Heads
+pub mod Tables
+pub mod Meeting
+pub mod Marks
+pub mod Copies
+pub mod Cuts
+pub mod Stores
+pub mod Clashing
