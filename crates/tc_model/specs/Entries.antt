@@ -1,0 +1,41 @@
+-- What entries weigh, and which are well formed.
+use Rattle.std.specs.Prelude.{ℕ, ◌+◌, ◌≤◌, Some, List, All, length, sum_by}
+use Rattle.tc_model.specs.declared.reactions.Phase.TheVariants.{Pre, Post}
+use Rattle.tc_model.specs.declared.reactions.Item.{Item}
+use Rattle.tc_model.specs.declared.reactions.Item.TheVariants.{Fired, Failed}
+use Rattle.tc_model.specs.declared.outcomes.Outcome.{Outcome}
+use Rattle.tc_model.specs.declared.outcomes.Outcome.TheVariants as outcome
+use Rattle.tc_model.specs.declared.entries.Entry.{Entry}
+use Rattle.tc_model.specs.declared.entries.Entry.TheVariants.{Called, Gave, Looked}
+
+-- an entry weighs 1 and its items
+abbrev pub weight_of : Entry → ℕ
+weight_of (Called id op outcome items) = 1 + length items
+weight_of (Gave id outcome items) = 1 + length items
+weight_of (Looked id asked reply) = 1
+
+-- what the entries of a history weigh together
+abbrev pub weight : List Entry → ℕ
+weight history = sum_by weight_of history
+
+-- the places that an item names are counted from 1
+abbrev pub IsNumbered : Item → Type 0
+IsNumbered (Fired pick clause effects) = (1 ≤ pick) × (1 ≤ clause)
+IsNumbered (Failed pick clause goal effects) = (1 ≤ pick) × (1 ≤ clause) × (1 ≤ goal)
+
+-- the reactions to a request have no chosen tuple yet
+abbrev pub IsOutcomeWellFormed : Outcome → Type 0
+IsOutcomeWellFormed (outcome.Over Pre (Some tuple)) = ⊥
+IsOutcomeWellFormed _ = Unit {0}
+
+-- an answer has the tuple that was chosen for the request
+abbrev pub IsAnswer : Outcome → Type 0
+IsAnswer (outcome.Took tuple) = Unit {0}
+IsAnswer (outcome.Over Post (Some tuple)) = Unit {0}
+IsAnswer _ = ⊥
+
+-- the entry is well formed
+abbrev pub IsWellFormed : Entry → Type 0
+IsWellFormed (Called id op result items) = IsOutcomeWellFormed result × All IsNumbered items
+IsWellFormed (Gave id result items) = IsAnswer result × All IsNumbered items
+IsWellFormed (Looked id asked reply) = Unit {0}

@@ -1,0 +1,70 @@
+//! Outcomes, which entries record, and replies, which agents get.
+ghost use Rattle.std.specs.Prelude.{◌≡◌, IfOk};
+
+use crate::reactions::Phase;
+use std::alloc::Global;
+use tc_lists::{NoMemory, Seq};
+use tc_term::Ground;
+
+/// What an agent is told.
+#[derive(Drop)]
+pub enum Reply {
+    Done,
+    Tuple(Ground),
+    NoTuple,
+    /// The text of the centre's clauses.
+    Spec(Seq<u8>),
+    OverBudget(Phase),
+}
+
+/// What became of an operation, or of a request that was pending.
+#[derive(Drop)]
+pub enum Outcome {
+    Done,
+    Took(Ground),
+    NoTuple,
+    Pending,
+    /// The text of the centre's clauses.
+    Spec(Seq<u8>),
+    /// The reactions of the phase went over the budget. The tuple is the one that was chosen, if any.
+    Over(Phase, Option<Ground>),
+}
+
+impl Reply {
+    pub fn copy(&self, alloc: Global) -> Result<Reply, NoMemory>
+        ensures { IfOk result (λ reply. reply ≡ self.now) }
+    {
+        match self {
+            Reply::Done => Ok(Reply::Done),
+            Reply::Tuple(tuple) => Ok(Reply::Tuple(tuple.copy(alloc)?)),
+            Reply::NoTuple => Ok(Reply::NoTuple),
+            Reply::Spec(text) => Ok(Reply::Spec(copy_text(alloc, text)?)),
+            Reply::OverBudget(phase) => Ok(Reply::OverBudget(*phase)),
+        }
+    }
+}
+
+impl Outcome {
+    pub fn copy(&self, alloc: Global) -> Result<Outcome, NoMemory>
+        ensures { IfOk result (λ outcome. outcome ≡ self.now) }
+    {
+        match self {
+            Outcome::Done => Ok(Outcome::Done),
+            Outcome::Took(tuple) => Ok(Outcome::Took(tuple.copy(alloc)?)),
+            Outcome::NoTuple => Ok(Outcome::NoTuple),
+            Outcome::Pending => Ok(Outcome::Pending),
+            Outcome::Spec(text) => Ok(Outcome::Spec(copy_text(alloc, text)?)),
+            Outcome::Over(phase, None) => Ok(Outcome::Over(*phase, None)),
+            Outcome::Over(phase, Some(tuple)) => {
+                Ok(Outcome::Over(*phase, Some(tuple.copy(alloc)?)))
+            }
+        }
+    }
+}
+
+// The same bytes.
+fn copy_text(alloc: Global, text: &Seq<u8>) -> Result<Seq<u8>, NoMemory>
+    ensures { IfOk result (λ copy. copy ≡ text.now) }
+{
+    Ok(Seq::new(text.items().to_vec(alloc)?))
+}
