@@ -1,0 +1,17 @@
+pub mod Names
+pub mod PlainText
+pub mod Again
+pub mod Takes
+pub mod Items
+pub mod Whole
+pub mod Behind
+pub mod Listing
+pub mod TermSteps
+pub mod Sizes
+pub mod Separated
+pub mod Appended
+pub mod Scripts
+pub mod PlainRuns
+pub mod Origins
+pub mod Words
+pub mod Endings

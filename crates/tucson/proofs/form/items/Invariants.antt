@@ -1,0 +1,14 @@
+use Rattle.std.proofs.Common.{length, ◌≤◌}
+use Rattle.tucson.specs.Reading.{item_at}
+use Rattle.tucson.proofs.Listing.{IsReadSoFar}
+use Rattle.tucson.proofs.form.items.Given as goal
+
+-- the items so far are the first of the list
+abbrev pub invariant-loop-ops : goal.invariant-loop-ops
+invariant-loop-ops l = record {
+  so_far : IsReadSoFar 44 93 (item_at l.centre) l.bytes l.ops.items l.rest;
+  within : length l.rest ≤ length l.bytes;
+}
+
+abbrev pub decreases-loop-ops : goal.decreases-loop-ops
+decreases-loop-ops l = length l.rest

@@ -1,0 +1,10 @@
+pub mod Setup
+pub mod Plain
+pub mod Output
+pub mod Good
+pub mod Status
+pub mod Answer
+pub mod Reading
+pub mod Given
+pub mod Config
+pub mod Ending

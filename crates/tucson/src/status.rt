@@ -1,0 +1,42 @@
+//! How a call of the program ends.
+ghost use Rattle.std.specs.Prelude.{◌≡◌};
+ghost use Rattle.tucson.specs.Status.{number_of};
+
+/// Why a configuration is refused.
+#[derive(Clone, Copy, PartialEq, Eq, Debug)]
+pub enum Cause {
+    /// It hasn't the form of a configuration.
+    Form,
+}
+
+/// How a call ends. The program exits with the number of its status.
+#[derive(Clone, Copy, PartialEq, Eq, Debug)]
+pub enum Status {
+    /// Every call of the script has its reply.
+    Ended,
+    /// A write has failed.
+    WriteFault,
+    /// The configuration's first faulty clause, from 1, or 0 for the whole of it; and why.
+    Refused { clause: u32, cause: Cause },
+    /// A read has failed.
+    ReadFault,
+    NoMemory,
+    /// The words aren't those of a command.
+    Usage,
+}
+
+impl Status {
+    /// The number with which the program exits.
+    pub fn number(&self) -> u8
+        ensures { result ≡ number_of self.now }
+    {
+        match self {
+            Status::Ended => 0,
+            Status::WriteFault => 1,
+            Status::Refused { .. } => 2,
+            Status::ReadFault => 5,
+            Status::NoMemory => 6,
+            Status::Usage => 7,
+        }
+    }
+}

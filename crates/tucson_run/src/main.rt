@@ -1,0 +1,40 @@
+//! The program: the top call over standard input and standard output.
+//!
+//! What the process is connected to is trusted.
+#![tactic(auto)]
+
+use std::env;
+use std::io::ErrorKind;
+use std::process::ExitCode;
+use std::rt::Env;
+use tc_io::{StdSink, StdSource};
+use tc_lists::NoMemory;
+use tucson::{Status, tucson};
+
+fn main(rt: HostRuntime) -> ExitCode {
+    let mut source = StdSource::new(rt.stdin());
+    let mut sink = StdSink::new(rt.stdout());
+    let status = match words(&rt) {
+        Ok(words) => tucson(rt.alloc(), &words, &mut source, &mut sink),
+        Err(_) => Status::NoMemory,
+    };
+    ExitCode::from(status.number())
+}
+
+// The words behind the program's name. Words that are no text are no command's: then there are none.
+fn words<R: Env + AllocGlobal>(rt: &R) -> Result<Vec<Vec<u8>>, NoMemory> {
+    let mut words = Vec::new(rt.alloc());
+    match env::args(rt) {
+        Ok(args) => {
+            for word in args.skip(1) {
+                words.push(word.into_bytes())?;
+            }
+        }
+        Err(e) => {
+            if e.kind() == ErrorKind::OutOfMemory {
+                return Err(NoMemory);
+            }
+        }
+    }
+    Ok(words)
+}
