@@ -29,6 +29,7 @@ impl Chronicle for Tally {
 }
 
 impl Tally {
+    /// No turn yet.
     pub fn new() -> Tally {
         Tally {
             turns: 0,

@@ -16,6 +16,7 @@ pub struct StdSource<R> {
 }
 
 impl<R: Read> StdSource<R> {
+    /// Reads from this reader; no read has failed yet.
     pub fn new(reader: R) -> StdSource<R>
         ensures { result ≡ record { reader = reader; faults = 0 } }
     {
@@ -58,6 +59,7 @@ pub struct StdSink<W> {
 }
 
 impl<W: Write> StdSink<W> {
+    /// Writes to this writer; no write has failed yet.
     pub fn new(writer: W) -> StdSink<W>
         ensures { result ≡ record { writer = writer; faults = 0 } }
     {

@@ -1,3 +1,4 @@
 pub mod Texts
 pub mod Items
 pub mod Decimals
+pub mod Firsts

@@ -22,6 +22,7 @@ impl Model for Name {
 }
 
 impl Name {
+    /// The name of these bytes, which are copied.
     pub fn new(alloc: Global, bytes: &[u8]) -> Result<Name, NoMemory>
         ensures { IfOk result (λ name. name ≡ bytes.now) }
     {
@@ -37,12 +38,14 @@ impl Name {
         Name { bytes }
     }
 
+    /// Its bytes, of any value.
     pub fn bytes(&self) -> &[u8]
         ensures { result.now ≡ self.now }
     {
         &self.bytes
     }
 
+    /// Another name of the same bytes.
     pub fn copy(&self, alloc: Global) -> Result<Name, NoMemory>
         ensures { IfOk result (λ name. name ≡ self.now) }
     {

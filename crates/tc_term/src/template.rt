@@ -67,6 +67,7 @@ impl Pattern {
         })
     }
 
+    /// The term, with its variables numbered.
     pub fn term(&self) -> &Term
         ensures term { tree_of result.now ≡ self.now }
         ensures pattern { IsPattern self.now }
@@ -82,6 +83,7 @@ impl Pattern {
         self.vars
     }
 
+    /// Another template of the same term.
     pub fn copy(&self, alloc: Global) -> Result<Pattern, NoMemory>
         ensures { IfOk result (λ p. p ≡ self.now) }
     {

@@ -53,6 +53,7 @@ impl Model for Args {
 }
 
 impl Args {
+    /// These arguments, one or more.
     pub fn new(terms: Vec<Term>) -> Args
         requires { 0 < length terms.items }
         ensures { result ≡ trees_of terms.items }

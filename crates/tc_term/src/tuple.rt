@@ -54,6 +54,7 @@ impl Ground {
         Ok(Ground { term: t })
     }
 
+    /// The term, which has no variable.
     pub fn term(&self) -> &Term
         ensures term { tree_of result.now ≡ self.now }
         ensures tuple { IsTuple self.now }
@@ -61,6 +62,7 @@ impl Ground {
         &self.term
     }
 
+    /// Another tuple of the same term.
     pub fn copy(&self, alloc: Global) -> Result<Ground, NoMemory>
         ensures { IfOk result (λ tuple. tuple ≡ self.now) }
     {

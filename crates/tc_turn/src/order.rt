@@ -15,6 +15,7 @@ pub struct Founding<C> {
     pub turns: u64,
 }
 
+/// The rule of the table: who may do which step, and what each step leaves.
 pub struct Order;
 
 impl<C: Chronicle> TableRule<Option<C>, View<C::Entry, C::Origin>, Founding<C>> for Order {
