@@ -4,3 +4,4 @@ pub mod Places
 pub mod Texts
 pub mod Items
 pub mod Decimals
+pub mod Firsts

@@ -1,5 +1,5 @@
 -- Optional values, by what they hold.
-use Rattle.std.proofs.Common.{◌≡◌, Option, Some, None, IfSome, IfNone, MatchOption, option_map, refl}
+use Rattle.std.proofs.Common.{◌≡◌, Option, Some, None, IfSome, IfNone, MatchOption, option_map, refl, subst}
 
 pub some_same : {X : Type 0} (x y : X) → Some x ≡ Some y → x ≡ y
 some_same x y e = cc
@@ -16,3 +16,10 @@ IfSome-seen view (Some x) N P told = told
 pub IfNone-seen : {X Y : Type 0} (view : X → Y) (o : Option X) (N : Type 0) (P : Y → Type 0) → MatchOption (option_map view o) N P → IfNone o N
 IfNone-seen view None N P told = told
 IfNone-seen view (Some x) N P told = tt
+
+-- what is told of a value, where it is known which one it is
+pub IfSome-at : {X : Type 0} (P : X → Type 0) (o : Option X) (x : X) → o ≡ Some x → IfSome o P → P x
+IfSome-at P o x is told = subst (λ p. IfSome p P) is told
+
+pub IfNone-at : {X : Type 0} (N : Type 0) (o : Option X) → o ≡ None → IfNone o N → N
+IfNone-at N o is told = subst (λ p. IfNone p N) is told

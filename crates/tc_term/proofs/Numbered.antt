@@ -1,5 +1,6 @@
 -- Terms whose variables are 0, 1, .. by first appearance.
-use Rattle.std.proofs.Common.{◌≡◌, ◌<◌, ◌≤◌, ◌-◌, ◌⊎◌, inl, inr, ℕ, List, [], length, refl, ap, sym, ◌∙◌, subst, arith}
+use Rattle.std.proofs.Common.{◌≡◌, ◌<◌, ◌≤◌, ◌+◌, ◌-◌, ◌⊎◌, inl, inr, ℕ, zero, suc, add-one, List, [], ◌∷◌, ◌++◌, length, refl, ap, sym, ◌∙◌, subst, arith}
+use Rattle.std.specs.List.{range_with_len}
 use Rattle.std.proofs.lemmas.Bool.{cases_lt}
 use Rattle.tc_term.proofs.Instances.{instance-Variable}
 use Rattle.tc_term.proofs.Places.{Stands, Stands-range, Stands-with_number_back, Stands-with_number_new, place_in-range}
@@ -61,14 +62,23 @@ mutual
         | inr below ↦ inr (omega (arith, below))
       ]
 
--- a template is numbered as it is
-pub renumbered-pattern : (t : Tree) → IsPattern t → renumbered t ≡ t
-renumbered-pattern t pattern =
+-- a term whose variables are 0, 1, .. by first appearance is numbered as it is
+pub renumbered-in_order : (t : Tree) → variables t ≡ range_with_len 0 (length (variables t)) → renumbered t ≡ t
+renumbered-in_order t numbered =
     let len = length (variables t) in
     instance-alike (λ n. Variable (place_in (variables t) n)) Variable t [] (λ n stands.
-    ap Variable (ap (λ vs. place_in vs n) pattern.numbered
-    ∙ (place_in-range len n (subst (λ vs. Stands vs n) pattern.numbered stands)).0))
+    ap Variable (ap (λ vs. place_in vs n) numbered
+    ∙ (place_in-range len n (subst (λ vs. Stands vs n) numbered stands)).0))
     ∙ instance-Variable t
+
+pub renumbered-pattern : (t : Tree) → IsPattern t → renumbered t ≡ t
+renumbered-pattern t pattern = renumbered-in_order t pattern.numbered
+
+-- one number more
+range-push : (a n : ℕ) → range_with_len a (suc n) ≡ range_with_len a n ++ (a + n) ∷ []
+range-push a zero = ap (λ m. m ∷ []) (omega arith)
+range-push a (suc n) =
+    ap (λ ms. a ∷ ms) (range-push (a + 1) n ∙ ap (λ m. range_with_len (a + 1) n ++ m ∷ []) (omega arith))
 
 -- a template's variables are those below their number
 pub var_bound-pattern : (t : Tree) → IsPattern t → var_bound t ≡ length (variables t)
@@ -88,3 +98,6 @@ var_bound-pattern t pattern =
           ]
     ] in
     omega (arith, within, reached)
+
+pub range-more : (n : ℕ) → range_with_len 0 (n + 1) ≡ range_with_len 0 n ++ n ∷ []
+range-more n = ap (range_with_len 0) (add-one n) ∙ range-push 0 n ∙ ap (λ m. range_with_len 0 n ++ m ∷ []) (omega arith)

@@ -13,3 +13,6 @@ pub mod Tokens
 pub mod Layouts
 pub mod Grammar
 pub mod Faults
+pub mod Readable
+pub mod NameBytes
+pub mod Arithmetic

@@ -1,5 +1,6 @@
 //! The variables of a term, by first appearance.
 ghost use Rattle.std.specs.Prelude.{◌≡◌, ◌<◌, ◌≤◌, IsTrue, false, [], length};
+ghost use Rattle.std.specs.List.{range_with_len};
 ghost use Rattle.tc_term.specs.TreeView.{tree_of};
 ghost use Rattle.tc_term.specs.Variables.{place_in, variables_after, with_number};
 
@@ -89,4 +90,16 @@ pub(crate) fn place(numbers: &[u32], n: u32) -> usize
         }
     }
     numbers.len()
+}
+
+// Whether the numbers are 0, 1, .. in order.
+pub(crate) fn count_up(numbers: &[u32]) -> bool
+    ensures { IsTrue result → numbers.now ≡ range_with_len 0 (length numbers.now) }
+{
+    for (i, n) in numbers.iter().enumerate() {
+        if *n as usize != i {
+            return false;
+        }
+    }
+    true
 }

@@ -1,10 +1,10 @@
 //! Templates: terms within the limits, whose few variables are numbered by first appearance.
-ghost use Rattle.std.specs.Prelude.{◌≡◌, IfErr, IfOk, length};
+ghost use Rattle.std.specs.Prelude.{◌≡◌, ◌≤◌, IfErr, IfOk, length};
 ghost use Rattle.tc_term.specs.TreeView.{tree_of};
 ghost use Rattle.tc_term.specs.Variables.{var_bound, variables, renumbered, IsTemplate, IsPattern};
 
 use crate::limits::fits;
-use crate::numbering::{Seen, note};
+use crate::numbering::{Seen, count_up, note};
 use crate::terms::Term;
 use std::alloc::Global;
 use std::marker::Model;
@@ -48,7 +48,7 @@ impl Pattern {
     /// The term as a template with its variables numbered anew, where it is one.
     ///
     /// No memory is taken. Takes O(nodes × variables) time.
-    pub fn of(mut t: Term) -> Result<Pattern, NotPattern>
+    pub fn of(t: Term) -> Result<Pattern, NotPattern>
         ensures ok { IfOk result (λ p. (p ≡ renumbered (tree_of t)) × IsTemplate (tree_of t)) }
         ensures err { IfErr result (HasExcess t) }
     {
@@ -60,9 +60,8 @@ impl Pattern {
             return Err(NotPattern::TooMany(t));
         }
         let numbers = seen.numbers();
-        t.renumber(numbers);
         Ok(Pattern {
-            term: t,
+            term: renumbered(t, numbers),
             vars: numbers.len() as u32,
         })
     }
@@ -92,4 +91,18 @@ impl Pattern {
             vars: self.vars,
         })
     }
+}
+
+// The term with its variables numbered anew; these are the numbers that they have, by first
+// appearance. Most terms are numbered so already.
+fn renumbered(mut t: Term, numbers: &[u32]) -> Term
+    requires few { length numbers.now ≤ 256 }
+    requires seen { numbers.now ≡ variables (tree_of t) }
+    ensures { tree_of result ≡ renumbered (tree_of t) }
+{
+    if count_up(numbers) {
+        return t;
+    }
+    t.renumber(numbers);
+    t
 }

@@ -1,0 +1,22 @@
+-- The first element of a list that has a property, and lists of which none has it.
+use Rattle.std.proofs.Common.{◌≡◌, List, [], ◌∷◌, ◌++◌, Contains, ℕ, zero, suc, ⊎_elim, arith, refl, sym, subst}
+use Rattle.std.proofs.lemmas.List.Elements.{Contains-append_right, Contains-append_cases}
+use Rattle.tc_lists.specs.Firsts.{NoneOf, IsFirst}
+
+pub NoneOf-nil : {X : Type 0} (P : X → Type 0) → NoneOf P []
+NoneOf-nil P x inside has = absurd (omega (arith, inside.1))
+
+pub IsFirst-contains : {X : Type 0} (P : X → Type 0) (xs : List X) (x : X) → IsFirst P xs x → Contains xs x
+IsFirst-contains P xs x first =
+    subst (λ ys. Contains ys x) (sym first.split)
+    (Contains-append_right first.before (x ∷ first.behind) x (0, omega arith, refl))
+
+only-one : {X : Type 0} (x y : X) → Contains (x ∷ []) y → y ≡ x
+only-one x y (zero, within, is) = sym is
+only-one x y (suc k, within, is) = absurd (omega (arith, within))
+
+pub NoneOf-push : {X : Type 0} (P : X → Type 0) (xs : List X) (x : X)
+    → NoneOf P xs → (P x → ⊥) → NoneOf P (xs ++ x ∷ [])
+NoneOf-push P xs x none never y inside has =
+    ⊎_elim (λ within. none y within has) (λ last. never (subst P (only-one x y last) has))
+    (Contains-append_cases xs (x ∷ []) y inside)
