@@ -20,3 +20,17 @@ pub mod OneLexeme
 pub mod OneReading
 pub mod QuotedBytes
 pub mod ReadNames
+pub mod Plain
+pub mod Cells
+pub mod QuotedFront
+pub mod ArgumentLoop
+pub mod Texts
+pub mod Taken
+pub mod Ranges
+pub mod Spent
+pub mod Again
+pub mod AtFront
+pub mod Spelling
+pub mod Printed
+pub mod ReadBack
+pub mod ReadNumbers

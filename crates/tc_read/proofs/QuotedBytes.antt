@@ -12,24 +12,24 @@ use Rattle.tc_read.proofs.Lexemes.{heads, tails}
 
 -- How a byte is written between quotes.
 
-same_test : (b n : ℕ) → (b == n) ≡ true → b ≡ n
+pub same_test : (b n : ℕ) → (b == n) ≡ true → b ≡ n
 same_test b n e = grind (arith, nat_tests)
 
-unlike_test : (b n : ℕ) → (b == n) ≡ false → b ≢ n
+pub unlike_test : (b n : ℕ) → (b == n) ≡ false → b ≢ n
 unlike_test b n e = grind (arith, nat_tests)
 
-test_unlike : (b n : ℕ) → b ≢ n → (b == n) ≡ false
+pub test_unlike : (b n : ℕ) → b ≢ n → (b == n) ≡ false
 test_unlike b n e = grind (arith, nat_tests)
 
 -- behind a backslash, or as it is
-data Form (b : ℕ) : Type 0 where
+pub data Form (b : ℕ) : Type 0 where
   escaped : (c : ℕ) → quoted_byte b ≡ 92 ∷ c ∷ [] → meant c ≡ b → is_some (escape c) ≡ true → Form b
   plain : quoted_byte b ≡ b ∷ [] → b ≢ 39 → b ≢ 92 → b ≢ 10 → b ≢ 9 → Form b
 
 at_byte : (b n : ℕ) → b ≡ n → Form n → Form b
 at_byte b n e f = subst Form (sym e) f
 
-form : (b : ℕ) → Form b
+pub form : (b : ℕ) → Form b
 form b = by (b == 39) (b == 92) (b == 10) (b == 9) refl refl refl refl
   where
     by : (p q r s : Bool) → (b == 39) ≡ p → (b == 92) ≡ q → (b == 10) ≡ r → (b == 9) ≡ s → Form b

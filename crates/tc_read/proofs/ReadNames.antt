@@ -10,7 +10,7 @@ use Rattle.tc_term.specs.Grammar.{Token, Operator, infix_of, operator_of, functo
 use Rattle.tc_term.specs.Grammar as grammar
 use Rattle.tc_term.specs.Faults as faults
 use Rattle.tc_term.specs.Faults.{Reading, reading, trees, terms, numbered, all_known, known_behind, token_of, mark_of, first_wide, most_open, first_place, place_behind, WideInt, TooMany, TooBig, Found, When, Parsed, Unended, Stopped}
-use Rattle.tc_read.specs.NameBytes.{is_name_byte, has_read_names, have_read_names}
+use Rattle.tc_term.specs.NameBytes.{is_name_byte, has_read_names, have_read_names}
 
 -- The names of a term that is read.
 

@@ -1,4 +1,3 @@
-pub mod NameBytes
 pub mod Machine
 pub mod Kept
 pub mod Views
@@ -15,3 +14,7 @@ pub mod Scanner
 pub mod Scan
 pub mod Answers
 pub mod Written
+pub mod Budget
+pub mod Front
+pub mod Seen
+pub mod Canonical

@@ -31,7 +31,7 @@ pub fn meant(byte: u8) -> u8
 pub fn unquoted(alloc: Global, inside: &[u8]) -> Result<Vec<u8>, NoMemory>
     ensures { IfOk result (λ bytes. bytes.items ≡ unquoted inside.now) }
 {
-    let mut bytes = Vec::new(alloc);
+    let mut bytes = Vec::with_capacity(alloc, inside.len())?;
     let mut paired = false;
     for byte in inside {
         if paired {
@@ -92,6 +92,7 @@ pub fn begin<'a>(
 }
 
 /// A step behind a name: its arguments come, or it is an atom.
+#[inline(always)]
 fn named<'a>(
     alloc: Global,
     stack: &mut Vec<Frame>,

@@ -18,6 +18,7 @@ pub struct Brackets {
 impl Brackets {
     ghost use Rattle.tc_read.specs.Brackets.{CountsTo};
 
+    /// None is open.
     pub fn new() -> Brackets
         ensures { CountsTo result 0 0 }
     {

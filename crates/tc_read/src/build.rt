@@ -8,13 +8,17 @@ ghost use Rattle.tc_read.specs.Kept.{fits, kept, small_if};
 use crate::measured::{Item, Measured};
 use tc_term::{Name, Term};
 
+/// The most nodes of a term.
 pub const MAX_NODES: usize = 10_000;
 
+/// The most nodes below one another.
 pub const MAX_DEPTH: usize = 1_000;
 
+/// The most bytes that all names of a term have together.
 pub const MAX_NAME_BYTES: usize = 65_535;
 
 /// The term, if it fits.
+#[inline(always)]
 pub fn item(term: Term, nodes: usize, depth: usize, name_bytes: usize) -> Item
     requires counted { nodes ≡ tree.nodes (tree_of term) }
     requires deep { depth ≡ tree.depth (tree_of term) }
@@ -33,12 +37,16 @@ pub fn item(term: Term, nodes: usize, depth: usize, name_bytes: usize) -> Item
     }
 }
 
+/// A variable, by its number.
+#[inline(always)]
 pub fn variable(number: u32) -> Item
     ensures { kept_item result ≡ kept.variable number }
 {
     item(Term::Var(number), 1, 1, 0)
 }
 
+/// An atom, which doesn't fit if its name is too long.
+#[inline(always)]
 pub fn atom(name: Name) -> Item
     ensures { kept_item result ≡ kept.atom name }
 {
@@ -47,6 +55,7 @@ pub fn atom(name: Name) -> Item
 }
 
 /// A whole number of this size, with a minus or without.
+#[inline(always)]
 pub fn integer(negative: bool, size: u64, place: usize) -> Item
     ensures { kept_item result ≡ kept.number negative size place }
 {

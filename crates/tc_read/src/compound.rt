@@ -15,18 +15,20 @@ use tc_lists::NoMemory;
 use tc_term::{Args, Name, Term};
 
 /// No argument.
-fn none(alloc: Global) -> Parts
-    ensures { parts_view result ≡ Whole [] }
+#[inline(always)]
+fn none(alloc: Global, count: usize) -> Result<Parts, NoMemory>
+    ensures { IfOk result (λ r. parts_view r ≡ Whole []) }
 {
-    Parts::Whole(Several {
-        terms: Vec::new(alloc),
+    Ok(Parts::Whole(Several {
+        terms: Vec::with_capacity(alloc, count)?,
         nodes: 0,
         depth: 0,
         name_bytes: 0,
-    })
+    }))
 }
 
 /// A term before these arguments.
+#[inline(always)]
 fn joined_term(term: Measured, several: Several) -> Result<Parts, NoMemory>
     ensures { IfOk result
         (λ r. parts_view r ≡ joined (Small (tree_of term.term))
@@ -52,6 +54,7 @@ fn joined_term(term: Measured, several: Several) -> Result<Parts, NoMemory>
 }
 
 /// An argument before these.
+#[inline(always)]
 fn join(argument: Item, parts: Parts) -> Result<Parts, NoMemory>
     ensures { IfOk result (λ r. parts_view r ≡ joined (kept_item argument) (parts_view parts)) }
 {
@@ -71,6 +74,7 @@ fn join(argument: Item, parts: Parts) -> Result<Parts, NoMemory>
 }
 
 /// The compound of this name with these arguments.
+#[inline(always)]
 fn finish(name: Name, parts: Parts) -> Item
     ensures { kept_item result ≡ finished name (parts_view parts) }
 {
@@ -81,6 +85,7 @@ fn finish(name: Name, parts: Parts) -> Item
     }
 }
 
+#[inline(always)]
 fn whole(name: Name, several: Several) -> Item
     ensures { kept_item result ≡ whole name (reverse (map tree_of several.terms.items)) }
 {
@@ -100,11 +105,12 @@ fn whole(name: Name, several: Several) -> Item
 }
 
 /// A compound of two arguments.
+#[inline(always)]
 fn pair(alloc: Global, name: &[u8], left: Item, right: Item) -> Result<Item, NoMemory>
     ensures { IfOk result
         (λ r. kept_item r ≡ kept.compound name.now (kept_item left) (kept_item right ∷ [])) }
 {
-    let last = join(right, none(alloc))?;
+    let last = join(right, none(alloc, 2)?)?;
     let both = join(left, last)?;
     Ok(finish(Name::new(alloc, name)?, both))
 }
@@ -122,7 +128,7 @@ pub fn between(alloc: Global, operator: Operator, left: Item, right: Item) -> Re
 pub fn negated(alloc: Global, of: Item) -> Result<Item, NoMemory>
     ensures { IfOk result (λ r. kept_item r ≡ negated kept (kept_item of)) }
 {
-    let parts = join(of, none(alloc))?;
+    let parts = join(of, none(alloc, 1)?)?;
     Ok(finish(Name::new(alloc, b"-")?, parts))
 }
 
@@ -151,7 +157,7 @@ pub fn compound(alloc: Global, name: Name, mut arguments: Vec<Item>) -> Result<I
     ensures { IfOk result
         (λ r. kept_item r ≡ applied kept name (turned (done_of arguments.items) [])) }
 {
-    let mut parts = none(alloc);
+    let mut parts = none(alloc, arguments.len())?;
     while let Some(argument) = arguments.pop() {
         parts = join(argument, parts)?;
     }

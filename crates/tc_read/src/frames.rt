@@ -36,6 +36,7 @@ pub struct Step<'a> {
     pub rest: &'a [Token<'a>],
 }
 
+/// Opens a place inside the innermost one.
 pub fn open(stack: &mut Vec<Frame>, frame: Frame) -> Result<(), NoMemory>
     ensures { OnOk result (opened stack.new.items ≡ frame_view frame ∷ opened stack.old.items) }
 {
@@ -43,6 +44,7 @@ pub fn open(stack: &mut Vec<Frame>, frame: Frame) -> Result<(), NoMemory>
     Ok(())
 }
 
+/// Takes the innermost open place off, if any is open.
 pub fn innermost(stack: &mut Vec<Frame>) -> Option<Frame>
     ensures { MatchOption result ((opened stack.old.items ≡ []) × (opened stack.new.items ≡ []))
         (λ frame. opened stack.old.items ≡ frame_view frame ∷ opened stack.new.items) }

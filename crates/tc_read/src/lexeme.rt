@@ -31,6 +31,7 @@ pub enum Lexeme<'a> {
     Punctuation(Mark),
 }
 
+/// Whether the byte is a lower-case letter of ASCII.
 pub fn is_lower(byte: u8) -> bool
     ensures { result ≡ is_lower byte }
 {
@@ -43,12 +44,14 @@ fn is_upper(byte: u8) -> bool
     65 <= byte && byte <= 90
 }
 
+/// Whether a variable may begin with the byte.
 pub fn is_variable_start(byte: u8) -> bool
     ensures { result ≡ is_variable_start byte }
 {
     is_upper(byte) || byte == b'_'
 }
 
+/// Whether the byte is a decimal digit.
 pub fn is_digit(byte: u8) -> bool
     ensures { result ≡ is_digit byte }
 {
@@ -61,6 +64,7 @@ fn is_word(byte: u8) -> bool
     is_lower(byte) || is_upper(byte) || is_digit(byte) || byte == b'_'
 }
 
+/// The punctuation mark that the byte is.
 pub fn punctuation(byte: u8) -> Option<Mark>
     ensures some { IfSome result (λ m. (byte ≡ mark_byte (mark_view m)) × (is_mark byte ≡ true)) }
     ensures none { IfNone result (is_mark byte ≡ false) }

@@ -6,6 +6,7 @@
 mod begin;
 mod brackets;
 mod build;
+mod canonical;
 mod close;
 mod compound;
 mod cursor;
@@ -23,14 +24,22 @@ mod parse;
 mod quote;
 mod quoted;
 mod read;
+mod room;
 mod scan;
 mod scanner;
 mod tokens;
 
+pub use canonical::read_canonical;
 pub use fault::ReadFault;
-pub use laws::{read_names_hold_no_control_bytes, reading_is_unique};
+pub use laws::{
+    canonical_reading_is_unique, canonical_text_reads_back, printed_clause_is_read_back,
+    printed_term_is_read_back, read_names_hold_no_control_bytes, read_numbers_have_64_bits,
+    reading_is_unique,
+};
 pub use quote::read_quoted;
 pub use read::{read_clause, read_term};
 
+#[cfg(test)]
+mod canonical_tests;
 #[cfg(test)]
 mod tests;

@@ -27,6 +27,7 @@ fn is_anonymous(name: &[u8]) -> bool
 impl<'a> Names<'a> {
     ghost use Rattle.tc_read.specs.Names.{names_view};
 
+    /// No variables yet.
     pub fn new(alloc: Global) -> Names<'a>
         ensures { names_view result ≡ [] }
     {

@@ -39,7 +39,7 @@ fn step<'a>(
 pub fn parse<'a>(alloc: Global, tokens: &'a [Token<'a>]) -> Result<Option<Item>, NoMemory>
     ensures { IfOk result (λ r. IsParsed (map token_view tokens.now) r) }
 {
-    let mut stack = Vec::new(alloc);
+    let mut stack = Vec::with_capacity(alloc, 8)?;
     let mut now = Step {
         state: State::Awaits,
         rest: tokens,

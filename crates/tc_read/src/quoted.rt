@@ -18,6 +18,7 @@ pub enum Part<'a> {
     Fault,
 }
 
+/// Whether the byte may stand behind a backslash.
 pub fn is_escaped(byte: u8) -> bool
     ensures { result ≡ is_some (escape byte) }
 {

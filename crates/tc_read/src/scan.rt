@@ -87,7 +87,7 @@ pub fn scan<'a>(
 ) -> Result<Scanned<'a>, NoMemory>
     ensures { IfOk result (λ r. IsScanned clauses size text.now r) }
 {
-    let mut gathered = Scanner::new(alloc);
+    let mut gathered = Scanner::new(alloc)?;
     let mut rest = text;
     loop {
         match find(rest, size, clauses) {

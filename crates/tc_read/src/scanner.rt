@@ -94,16 +94,17 @@ fn earlier(found: Option<usize>, place: usize) -> Option<usize>
 impl<'a> Scanner<'a> {
     ghost use Rattle.tc_read.specs.Scanner.{Gathers};
 
-    pub fn new(alloc: Global) -> Scanner<'a>
-        ensures { Gathers result [] }
+    /// Nothing has been gathered.
+    pub fn new(alloc: Global) -> Result<Scanner<'a>, NoMemory>
+        ensures { IfOk result (λ s. Gathers s []) }
     {
-        Scanner {
-            tokens: Vec::new(alloc),
+        Ok(Scanner {
+            tokens: Vec::with_capacity(alloc, 40)?,
             names: Names::new(alloc),
             brackets: Brackets::new(),
             wide: None,
             first: None,
-        }
+        })
     }
 
     /// Adds the next token.

@@ -56,9 +56,16 @@ fn ends_with(read: Result<Option<(Pattern, usize)>, ReadFault>, fault: ReadFault
     }
 }
 
-/// This many times the part, and then the end.
-fn repeated(alloc: Global, part: &[u8], times: u32, end: &[u8]) -> Result<Vec<u8>, AllocError> {
+/// The start, this many times the part, and then the end.
+pub fn repeated(
+    alloc: Global,
+    start: &[u8],
+    part: &[u8],
+    times: u32,
+    end: &[u8],
+) -> Result<Vec<u8>, AllocError> {
     let mut text = Vec::with_capacity(alloc, 4_000_000)?;
+    text.extend_from_slice(start)?;
     for _ in 0..times {
         text.extend_from_slice(part)?;
     }
@@ -108,36 +115,56 @@ fn clauses(rt: HostRuntime) {
     no_clause(&rt, alloc, b"a", 0, ReadFault::Syntax(1));
     no_clause(&rt, alloc, b" .", 0, ReadFault::Syntax(1));
     no_clause(&rt, alloc, b"a./* b", 0, ReadFault::Syntax(1));
+    no_clause(&rt, alloc, b"a. 1 < 2 < 3.", 2, ReadFault::Syntax(3));
+    no_clause(
+        &rt,
+        alloc,
+        b"a. f(9223372036854775808).",
+        2,
+        ReadFault::WideInt(5),
+    );
+    no_clause(&rt, alloc, b"a. b", 2, ReadFault::Syntax(4));
+    no_clause(&rt, alloc, b"a. b ! c.", 2, ReadFault::Syntax(5));
 }
 
 #[test]
 fn limits(rt: HostRuntime) -> Result<(), AllocError> {
     let alloc = rt.alloc();
-    let most_open = repeated(alloc, b"[", 199, b"[]")?;
+    let most_open = repeated(alloc, b"", b"[", 199, b"[]")?;
     refuse(&rt, alloc, &most_open, ReadFault::Syntax(0));
-    let too_many_open = repeated(alloc, b"[", 200, b"[]")?;
+    let too_many_open = repeated(alloc, b"", b"[", 200, b"[]")?;
     refuse(&rt, alloc, &too_many_open, ReadFault::TooBig(0));
-    let many_variables = repeated(alloc, b"_+", 255, b"_")?;
+    let many_variables = repeated(alloc, b"", b"_+", 255, b"_")?;
     accept(&rt, alloc, &many_variables, 256);
-    let too_many_variables = repeated(alloc, b"_+", 256, b"_")?;
+    let too_many_variables = repeated(alloc, b"", b"_+", 256, b"_")?;
     refuse(&rt, alloc, &too_many_variables, ReadFault::TooMany(0));
-    let deep = repeated(alloc, b"- ", 999, b"x")?;
+    let deep = repeated(alloc, b"", b"- ", 999, b"x")?;
     accept(&rt, alloc, &deep, 0);
-    let too_deep = repeated(alloc, b"- ", 1000, b"x")?;
+    let too_deep = repeated(alloc, b"", b"- ", 1000, b"x")?;
     refuse(&rt, alloc, &too_deep, ReadFault::TooBig(0));
+    let siblings = repeated(alloc, b"[[]", b",[]", 300, b"]")?;
+    accept(&rt, alloc, &siblings, 0);
+    let nodes = repeated(alloc, b"f(1", b",1", 9_998, b")")?;
+    accept(&rt, alloc, &nodes, 0);
+    let too_many_nodes = repeated(alloc, b" f(1", b",1", 9_999, b")")?;
+    refuse(&rt, alloc, &too_many_nodes, ReadFault::TooBig(1));
+    let letters = repeated(alloc, b"", b"a", 65_535, b"")?;
+    accept(&rt, alloc, &letters, 0);
+    let too_many_letters = repeated(alloc, b"", b"a", 65_536, b"")?;
+    refuse(&rt, alloc, &too_many_letters, ReadFault::TooBig(0));
     Ok(())
 }
 
 #[test]
 fn chains(rt: HostRuntime) -> Result<(), AllocError> {
     let alloc = rt.alloc();
-    let minuses = repeated(alloc, b"- ", 1_000_000, b"x")?;
+    let minuses = repeated(alloc, b"", b"- ", 1_000_000, b"x")?;
     refuse(&rt, alloc, &minuses, ReadFault::TooBig(0));
-    let sums = repeated(alloc, b"1+", 1_000_000, b"1")?;
+    let sums = repeated(alloc, b"", b"1+", 1_000_000, b"1")?;
     refuse(&rt, alloc, &sums, ReadFault::TooBig(0));
-    let goals = repeated(alloc, b"a,", 1_000_000, b"a")?;
+    let goals = repeated(alloc, b"", b"a,", 1_000_000, b"a")?;
     refuse(&rt, alloc, &goals, ReadFault::TooBig(0));
-    let names = repeated(alloc, b"_,", 1_000_000, b"_")?;
+    let names = repeated(alloc, b"", b"_,", 1_000_000, b"_")?;
     refuse(&rt, alloc, &names, ReadFault::TooMany(0));
     Ok(())
 }

@@ -13,7 +13,7 @@ going (Holds item priority) none = tt
 going (Ends item) none = none item refl
 
 pub loop-now-init : goal.loop-now-init
-loop-now-init c = rw c.new-stack.ensures.items (reads_first (map token_view c.args.tokens.now))
+loop-now-init c = rw c.in_ok-stack.ensures.items (reads_first (map token_view c.args.tokens.now))
 
 pub returns-in-None : goal.returns-in-None
 returns-in-None c =

@@ -1,0 +1,94 @@
+-- Variables that are numbered 0, 1, .. so far.
+use Rattle.std.proofs.Common.{◌≡◌, ◌∙◌, ◌⊎◌, ◌<◌, ◌+◌, ℕ, List, [], ◌∷◌, ◌++◌, length, get_or, map, refl, sym, ap, inl, inr, subst, arith, length-append}
+use Rattle.std.proofs.lemmas.Bool.{cases_lt}
+use Rattle.std.proofs.lemmas.List.{get_or_append_left, get_or_push}
+use Rattle.std.proofs.lemmas.List.FromFn.{get_or-range_with_len, length-range_with_len}
+use Rattle.std.specs.List.{range_with_len}
+use mathlib.Core.List.{IsPrefix}
+use Rattle.tc_lists.proofs.Prefixes.{IsPrefix-append, IsPrefix-trans, IsPrefix-whole, get_or-IsPrefix, length-IsPrefix}
+use Rattle.tc_term.proofs.Places.{Stands-range, map-range, place_in-range, with_number_cases}
+use Rattle.tc_term.specs.Tree.{Tree, Variable, Atomic, Number, Compound, Trees, Last, More}
+use Rattle.tc_term.specs.Variables.{with_number, variables_after, variables_after_all}
+
+map-same : (ms : List ℕ) → map (λ k. k) ms ≡ ms
+map-same [] = refl
+map-same (m ∷ ms) = ap (λ l. m ∷ l) (map-same ms)
+
+-- a list whose item at each place is the place
+is_range : (ms : List ℕ) → ((k d : ℕ) → k < length ms → get_or ms k d ≡ k) → ms ≡ range_with_len 0 (length ms)
+is_range ms each = sym (map-same ms) ∙ map-range (λ k. k) 0 ms (λ k d inside. each k d inside ∙ omega arith)
+
+at_range : (n i d : ℕ) → i < n → get_or (range_with_len 0 n) i d ≡ i
+at_range n i d inside = get_or-range_with_len 0 n i d inside ∙ omega arith
+
+pub range-push : (n : ℕ) → range_with_len 0 n ++ n ∷ [] ≡ range_with_len 0 (n + 1)
+range-push n =
+    let ms = range_with_len 0 n ++ n ∷ [] in
+    let long : length ms ≡ n + 1 = omega (arith, length-append (range_with_len 0 n) (n ∷ []), length-range_with_len 0 n) in
+    is_range ms (λ k d inside.
+    elim (cases_lt k n) [
+      | inl before ↦ get_or_append_left (range_with_len 0 n) (n ∷ []) d k (omega (arith, before, length-range_with_len 0 n)) ∙ at_range n k d before
+      | inr behind ↦
+          let last : n ≡ k = omega (arith, behind, inside, long) in
+          get_or_push (range_with_len 0 n) n d k (length-range_with_len 0 n ∙ last) ∙ last
+    ])
+    ∙ ap (range_with_len 0) long
+
+pub range-front : (ms : List ℕ) (n : ℕ) → IsPrefix ms (range_with_len 0 n) → ms ≡ range_with_len 0 (length ms)
+range-front ms n front =
+    is_range ms (λ k d inside.
+    sym (get_or-IsPrefix ms (range_with_len 0 n) k d front inside)
+    ∙ at_range n k d (omega (arith, inside, length-IsPrefix ms (range_with_len 0 n) front, length-range_with_len 0 n)))
+
+pub range-same : (m n : ℕ) → range_with_len 0 m ≡ range_with_len 0 n → m ≡ n
+range-same m n e = sym (length-range_with_len 0 m) ∙ ap length e ∙ length-range_with_len 0 n
+
+-- a number below the end is there
+pub with_number-old : (v n : ℕ) → n < v → with_number (range_with_len 0 v) n ≡ range_with_len 0 v
+with_number-old v n below =
+    elim (with_number_cases (range_with_len 0 v) n) [
+      | inl old ↦ old.1
+      | inr new ↦ absurd (omega (arith, new.0, Stands-range v n below))
+    ]
+
+-- the number at the end is new
+pub with_number-new : (v : ℕ) → with_number (range_with_len 0 v) v ≡ range_with_len 0 (v + 1)
+with_number-new v =
+    elim (with_number_cases (range_with_len 0 v) v) [
+      | inl old ↦ absurd (omega (arith, (place_in-range v v old.0).1))
+      | inr new ↦ new.1 ∙ range-push v
+    ]
+
+-- no other number goes on with them
+pub with_number-range : (v n k : ℕ) → with_number (range_with_len 0 v) n ≡ range_with_len 0 k →
+    ((n < v) × (k ≡ v)) ⊎ ((n ≡ v) × (k ≡ v + 1))
+with_number-range v n k e =
+    elim (with_number_cases (range_with_len 0 v) n) [
+      | inl old ↦ inl ((place_in-range v n old.0).1, range-same k v (sym e ∙ old.1))
+      | inr new ↦
+          let pushed : range_with_len 0 v ++ n ∷ [] ≡ range_with_len 0 k = sym new.1 ∙ e in
+          let long : k ≡ v + 1 = omega (arith, ap length pushed, length-append (range_with_len 0 v) (n ∷ []), length-range_with_len 0 v, length-range_with_len 0 k) in
+          let at : n ≡ v = sym (get_or_push (range_with_len 0 v) n 0 v (length-range_with_len 0 v)) ∙ ap (λ l. get_or l v 0) pushed ∙ at_range k v 0 (omega (arith, long)) in
+          inr (at, long)
+    ]
+
+-- what was seen stays in front
+IsPrefix-with_number : (seen : List ℕ) (n : ℕ) → IsPrefix seen (with_number seen n)
+IsPrefix-with_number seen n =
+    elim (with_number_cases seen n) [
+      | inl old ↦ subst (IsPrefix seen) (sym old.1) (IsPrefix-whole seen)
+      | inr new ↦ subst (IsPrefix seen) (sym new.1) (IsPrefix-append seen (n ∷ []))
+    ]
+
+mutual
+  pub IsPrefix-variables_after : (t : Tree) (seen : List ℕ) → IsPrefix seen (variables_after seen t)
+  IsPrefix-variables_after (Variable n) seen = IsPrefix-with_number seen n
+  IsPrefix-variables_after (Atomic name) seen = IsPrefix-whole seen
+  IsPrefix-variables_after (Number z) seen = IsPrefix-whole seen
+  IsPrefix-variables_after (Compound name args) seen = IsPrefix-variables_after_all args seen
+
+  pub IsPrefix-variables_after_all : (ts : Trees) (seen : List ℕ) → IsPrefix seen (variables_after_all seen ts)
+  IsPrefix-variables_after_all (Last t) seen = IsPrefix-variables_after t seen
+  IsPrefix-variables_after_all (More t ts) seen =
+      IsPrefix-trans seen (variables_after seen t) (variables_after_all (variables_after seen t) ts)
+      (IsPrefix-variables_after t seen) (IsPrefix-variables_after_all ts (variables_after seen t))

@@ -1,0 +1,21 @@
+-- What the reader of canonical text answers, as the code has it.
+use Rattle.std.specs.Prelude.{ℕ, List, Some, None}
+use Rattle.std.specs.Borrow.{Bor}
+use Rattle.std.specs.declared.option.Option.{Option}
+use Rattle.tc_term.specs.declared.terms.Term.{Term}
+use Rattle.tc_term.specs.Tree.{Tree, Trees}
+use Rattle.tc_term.specs.TreeView.{tree_of}
+use Rattle.tc_read.specs.Front.{Read}
+use Rattle.tc_read.specs.declared.room.Room.{Room}
+
+abbrev pub term_seen : Option (Term × Room × Bor (List ℕ)) → Read Tree
+term_seen None = None
+term_seen (Some (t, room, rest)) = Some (tree_of t, room, rest.now)
+
+abbrev pub arguments_seen : Option (Trees × Room × Bor (List ℕ)) → Read Trees
+arguments_seen None = None
+arguments_seen (Some (ts, room, rest)) = Some (ts, room, rest.now)
+
+abbrev pub name_seen : Option (List ℕ × Bor (List ℕ)) → Option (List ℕ × List ℕ)
+name_seen None = None
+name_seen (Some (name, rest)) = Some (name, rest.now)
