@@ -19,7 +19,8 @@ use Rattle.tc_unify.specs.declared.sizes.Added.{Added}
 use Rattle.tc_unify.specs.declared.walk.Walk.{Walk}
 use Rattle.tc_unify.specs.declared.walk.Mark.TheVariants.{Unseen}
 use Rattle.tc_unify.specs.Nodes.{label}
-use Rattle.tc_unify.specs.Solutions.{Means, NeverMeets, equations_of}
+use Rattle.tc_unify.specs.Solutions.{Means, NeverMeets, IsSolution, equations_of}
+use Rattle.tc_unify.specs.Values.{AreSolved}
 use Rattle.tc_unify.specs.Arena.{IsArena, IsNodeOf, IsNodeFor, Grows, Begins, shape_in, shape_of, node_tree}
 use Rattle.tc_unify.specs.Tables.{link_of, rewound, HasNode, Extends}
 use Rattle.tc_unify.specs.Cuts.{IsCut, IsWalkCut}
@@ -50,14 +51,26 @@ module _ (a : Arena) (l : Links) (w : Walk) (added : List Added) (store : IsStor
   pair_nodes : All (λ p. IsNodeOf a p.0 × IsNodeOf a p.1) (pairs_of added)
   pair_nodes = pairs_forward (λ p. IsNodeOf a p.0 × IsNodeOf a p.1) added newest.pair_nodes
 
+  -- the solutions of the equations are those of the links
+  pub store_solution : (v : List Tree) → Solves a.variables (equations_in a added) v → IsSolution a.variables (shape_of a) (link_of l) v
+  store_solution v solves = record {
+    valuation = record { whole = solves.whole; ground = solves.ground };
+    respects = newest.means.says (at v)
+        (pairs_backward (λ p. label (shape_of a) (at v) p.0 ≡ label (shape_of a) (at v) p.1) added
+        (Solves-holds a.variables (shape_of a) newest.arena.order (pairs_of added) v solves));
+  }
+
+  pub solution_solves : (v : List Tree) → IsSolution a.variables (shape_of a) (link_of l) v → Solves a.variables (equations_in a added) v
+  solution_solves v solution =
+      Solves-from_holds a.variables (shape_of a) newest.arena.order (pairs_of added) v solution.valuation
+      (pairs_forward (λ p. label (shape_of a) (at v) p.0 ≡ label (shape_of a) (at v) p.1) added (newest.means.said (at v) solution.respects))
+
   -- the equations of a store are solvable
   pub store_solvable : Solvable a.variables (equations_in a added)
-  store_solvable = record {
-    valuation = newest.means.solution;
-    solves = Solves-from_holds a.variables (shape_of a) newest.arena.order (pairs_of added) newest.means.solution newest.means.solves.valuation
-        (pairs_forward (λ p. label (shape_of a) (at newest.means.solution) p.0 ≡ label (shape_of a) (at newest.means.solution) p.1) added
-        (newest.means.said (at newest.means.solution) newest.means.solves.respects));
-  }
+  store_solvable = record { valuation = newest.means.solution; solves = solution_solves newest.means.solution newest.means.solves }
+
+  pub store_solved : AreSolved a l
+  store_solved = record { linked = store_linked; alike = newest.means.alike; solution = newest.means.solution; solves = newest.means.solves }
 
   module _ (b : Arena) (grown : IsArena b) (grows : Grows a b) where
     pub equations_kept : equations_in b added ≡ equations_in a added

@@ -116,7 +116,7 @@ depth-and_last : (ts : Trees) (x : Tree) → depth_of_all (and_last ts x) ≡ ma
 depth-and_last (Last t) x = refl
 depth-and_last (More t ts) x = omega (arith, depth-and_last ts x)
 
-depth-positive : (t : Tree) → 1 ≤ depth t
+pub depth-positive : (t : Tree) → 1 ≤ depth t
 depth-positive (Atomic name) = omega arith
 depth-positive (Compound name args) = omega arith
 depth-positive (Variable n) = omega arith

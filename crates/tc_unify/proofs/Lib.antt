@@ -13,3 +13,7 @@ pub mod Solving
 pub mod Growing
 pub mod Additions
 pub mod Variables
+pub mod Spines
+pub mod Fixed
+pub mod StoreValues
+pub mod Bindings

@@ -11,3 +11,4 @@ pub mod Copies
 pub mod Cuts
 pub mod Stores
 pub mod Clashing
+pub mod Values

@@ -1,5 +1,5 @@
 -- Nodes, and the trees that they stand for once each variable stands for a tree.
-use Rattle.std.specs.Prelude.{◌≡◌, ℕ, zero, suc, ◌<◌, ◌⊎◌, List, [], ℤ}
+use Rattle.std.specs.Prelude.{◌≡◌, ℕ, zero, suc, ◌<◌, ◌⊎◌, List, [], ◌∷◌, ℤ}
 use Rattle.tc_term.specs.Tree.{Tree, Variable, Atomic, Number, Compound, Trees, Last, More}
 
 -- the arguments, and then one more
@@ -13,6 +13,11 @@ applied (Atomic name) x = Compound name (Last x)
 applied (Compound name args) x = Compound name (and_last args x)
 applied (Variable n) x = Compound [] (Last x)
 applied (Number n) x = Compound [] (Last x)
+
+-- the term with these arguments more, each by its tree
+abbrev pub applied_over : {X : Type 0} → (X → Tree) → Tree → List X → Tree
+applied_over tree t [] = t
+applied_over tree t (x ∷ xs) = applied_over tree (applied t (tree x)) xs
 
 -- what a node is: a variable, an atom, a whole number, or the term of a node with one argument more
 pub data Shape : Type 0 where

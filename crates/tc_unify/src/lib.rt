@@ -7,15 +7,21 @@
 mod adding;
 mod copies;
 mod heads;
+mod laws;
 mod links;
 mod nodes;
+mod room;
+#[cfg(test)]
+mod samples;
 mod sizes;
 mod solve;
 mod store;
 #[cfg(test)]
 mod tests;
 mod unify;
+mod values;
 mod walk;
 
 pub use adding::Part;
+pub use laws::match_binds_every_variable;
 pub use store::{Store, StoreMark};

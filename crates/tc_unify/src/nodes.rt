@@ -4,7 +4,9 @@ ghost use Rattle.tc_term.specs.Tree.{Atomic, Number};
 ghost use Rattle.tc_unify.specs.Nodes.{applied, IsHead};
 ghost use Rattle.tc_unify.specs.Arena.{IsArena, IsNodeOf, IsNodeFor, IsHeadFor, Grows, shape_of, node_tree};
 ghost use Rattle.tc_unify.specs.Heads.{IsHeads};
+ghost use Rattle.tc_unify.specs.Values.{IsSpineOf};
 
+use std::alloc::Global;
 use tc_lists::NoMemory;
 
 /// The node of the first variable. Variable n is the node n places on, and all terms are below.
@@ -37,6 +39,14 @@ pub(crate) enum Heads {
         arguments: (usize, usize),
         heads: (usize, usize),
     },
+}
+
+/// The place of a node's name, and its arguments, the last first.
+#[derive(Drop)]
+pub(crate) struct Spine {
+    pub(crate) from: usize,
+    pub(crate) len: usize,
+    pub(crate) arguments: Vec<usize>,
 }
 
 impl Arena {
@@ -90,6 +100,33 @@ impl Arena {
         let place = self.nodes.len();
         self.nodes.push(node)?;
         Ok(place)
+    }
+
+    /// The name and the arguments of a node that is no number. Takes the time of the arguments.
+    pub(crate) fn spine(&self, alloc: Global, node: usize) -> Result<Spine, NoMemory>
+        requires arena { IsArena self.now }
+        requires node { node < length self.now.nodes.items }
+        requires head { IsHead (shape_of self.now node) }
+        ensures { IfOk result (λ spine. IsSpineOf self.now node spine) }
+    {
+        let mut arguments = Vec::new(alloc);
+        let mut rest = node;
+        loop {
+            match self.nodes[rest] {
+                Node::Apply { head, argument } => {
+                    arguments.push(argument)?;
+                    rest = head;
+                }
+                Node::Atom { from, len } => {
+                    return Ok(Spine {
+                        from,
+                        len,
+                        arguments,
+                    });
+                }
+                Node::Int(_) => unreachable!(),
+            }
+        }
     }
 
     /// What two nodes of terms have in common.

@@ -2,11 +2,14 @@
 use crate::adding::{Part, add_to, take_newer};
 use crate::links::{Links, push_own};
 use crate::nodes::{Arena, FIRST_VARIABLE};
+use crate::room::{MAX_DEPTH, Room};
 use crate::sizes::Added;
+use crate::values::{part_value, tuple_of};
 use crate::walk::Walk;
 use std::alloc::Global;
 use std::marker::Model;
 use tc_lists::NoMemory;
+use tc_term::Ground;
 
 /// Equations over numbered variables, which are solvable.
 #[derive(Drop)]
@@ -16,6 +19,7 @@ pub struct Store {
     walk: Walk,
     waiting: Vec<(usize, usize)>,
     added: Vec<Added>,
+    alloc: Global,
 }
 
 impl Model for Store {
@@ -34,8 +38,9 @@ impl Model for Store {
 }
 
 impl Store {
-    ghost use Rattle.std.specs.Prelude.{◌≡◌, ◌+◌, ◌^◌, ◌<◌, ◌≤◌, ◌++◌, ◌∷◌, [], false, length, take, IfOk, OnOk, OnErr, IsTrue};
-    ghost use Rattle.tc_term.specs.Equations.{Solvable, with_pair};
+    ghost use Rattle.std.specs.Prelude.{◌≡◌, ◌+◌, ◌^◌, ◌<◌, ◌≤◌, ◌++◌, ◌∷◌, [], false, length, take, IfOk, OnOk, OnErr, IfSome, IfNone, IsTrue};
+    ghost use Rattle.tc_term.specs.Tree.{Tree};
+    ghost use Rattle.tc_term.specs.Equations.{Solvable, HasValue, with_pair};
     ghost use Rattle.tc_term.specs.TreeView.{tree_of};
     ghost use Rattle.tc_term.specs.Variables.{raised, var_bound};
 
@@ -45,22 +50,23 @@ impl Store {
     {
         let mut store = Store {
             arena: Arena {
-                nodes: Vec::new(alloc),
-                text: Vec::new(alloc),
+                nodes: Vec::with_capacity(alloc, 32)?,
+                text: Vec::with_capacity(alloc, 64)?,
                 variables: 0,
             },
             links: Links {
-                terms: Vec::new(alloc),
-                variables: Vec::new(alloc),
-                trail: Vec::new(alloc),
+                terms: Vec::with_capacity(alloc, 32)?,
+                variables: Vec::with_capacity(alloc, vars as usize)?,
+                trail: Vec::with_capacity(alloc, 16)?,
             },
             walk: Walk {
-                marks: Vec::new(alloc),
-                steps: Vec::new(alloc),
-                seen: Vec::new(alloc),
+                marks: Vec::with_capacity(alloc, 32)?,
+                steps: Vec::with_capacity(alloc, 32)?,
+                seen: Vec::with_capacity(alloc, 16)?,
             },
-            waiting: Vec::new(alloc),
-            added: Vec::new(alloc),
+            waiting: Vec::with_capacity(alloc, 16)?,
+            added: Vec::with_capacity(alloc, 4)?,
+            alloc,
         };
         store.grow(vars)?;
         Ok(store)
@@ -103,6 +109,37 @@ impl Store {
             s,
             t,
         )
+    }
+
+    /// The value of a term: what every solution of the equations makes of it.
+    ///
+    /// None where two solutions differ on it, and where it is beyond the limits of a tuple. Takes at
+    /// most the time of a tuple at the limits, of the arguments along one path, and of the links that
+    /// are followed: never that of a tree behind bindings.
+    pub fn value(&self, t: Part) -> Result<Option<Ground>, NoMemory>
+        requires { var_bound (raised t.shift (tree_of t.term.now)) ≤ self.now.vars }
+        ensures found { IfOk result
+            (λ found. IfSome found
+            (HasValue self.now.vars self.now.pairs (raised t.entry.shift (tree_of t.entry.term.now)))) }
+        ensures none { IfOk result
+            (λ found. IfNone found
+            ((value : Tree) → HasValue self.now.vars self.now.pairs
+            (raised t.entry.shift (tree_of t.entry.term.now)) value → ⊥)) }
+    {
+        let mut room = Room::whole();
+        let found = part_value(
+            self.alloc,
+            &self.arena,
+            &self.links,
+            t.term,
+            t.shift,
+            MAX_DEPTH,
+            &mut room,
+        )?;
+        match found {
+            Some(term) => Ok(Some(tuple_of(term))),
+            None => Ok(None),
+        }
     }
 
     /// Adds variables, which nothing is said of.
