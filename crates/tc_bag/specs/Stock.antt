@@ -1,0 +1,77 @@
+-- A bag as contracts see it.
+use Rattle.std.specs.Prelude.{◌≡◌, ℕ, ◌+◌, ◌<◌, ◌≤◌, ◌==◌, if◌then◌else◌, List, [], ◌∷◌, ◌++◌, map, All, Option, Some, None}
+use Rattle.tc_term.specs.Tree.{Tree}
+use Rattle.tc_bag.specs.declared.key.Key.{Key}
+use Rattle.tc_bag.specs.Keys.{Agrees}
+
+-- a tuple with its age, a number that rises from tuple to tuple
+pub record Row : Type 0 where
+  pub age : ℕ
+  pub tuple : Tree
+
+-- the row of a tuple of this age
+abbrev pub row : ℕ → Tree → Row
+row age tuple = record { age = age; tuple = tuple }
+
+-- what there was at a mark
+pub record Saved : Type 0 where
+  pub rows : List Row
+  pub next : ℕ
+
+-- the rows that are there, oldest first, the age of the next one, and what there was at each mark,
+-- the latest last
+pub record Stock : Type 0 where
+  pub now : List Row
+  pub next : ℕ
+  pub saved : List Saved
+
+-- the tuples of rows
+abbrev pub tuples_of : List Row → List Tree
+tuples_of rows = map (λ r. r.tuple) rows
+
+-- the ages rise, and are below the number
+abbrev pub Rises : List Row → ℕ → Type 0
+Rises [] next = Unit {0}
+Rises (r ∷ rs) next = (r.age < next) × All (λ s. r.age < s.age) rs × Rises rs next
+
+-- the row's age is at least this number, and its tuple agrees with the key
+abbrev pub IsCandidate : Key → ℕ → Row → Type 0
+IsCandidate key from row = (from ≤ row.age) × Agrees key row.tuple
+
+-- the tuple of the first row of this age
+abbrev pub tuple_at : ℕ → List Row → Option Tree
+tuple_at age [] = None
+tuple_at age (r ∷ rs) = if r.age == age then Some r.tuple else tuple_at age rs
+
+-- the rows without the first one of this age
+abbrev pub without_age : ℕ → List Row → List Row
+without_age age [] = []
+without_age age (r ∷ rs) = if r.age == age then rs else r ∷ without_age age rs
+
+-- with one more tuple behind the others
+abbrev pub with_tuple : Stock → Tree → Stock
+with_tuple s t = record {
+  now = s.now ++ row s.next t ∷ [];
+  next = s.next + 1;
+  saved = s.saved;
+}
+
+-- with one more mark
+abbrev pub marked : Stock → Stock
+marked s = record {
+  now = s.now;
+  next = s.next;
+  saved = s.saved ++ record { rows = s.now; next = s.next } ∷ [];
+}
+
+-- what there was at the latest mark, without that mark
+abbrev pub IsUndone : Stock → Stock → Type 0
+IsUndone old new =
+    (before : List Saved) (top : Saved) → old.saved ≡ before ++ top ∷ []
+    → new ≡ record { now = top.rows; next = top.next; saved = before }
+
+-- what there is, without the latest mark
+abbrev pub IsKept : Stock → Stock → Type 0
+IsKept old new =
+    (before : List Saved) (top : Saved) → old.saved ≡ before ++ top ∷ []
+    → new ≡ record { now = old.now; next = old.next; saved = before }

@@ -1,0 +1,175 @@
+//! The bag.
+use crate::key::Key;
+use crate::rows::{count, first_with, go_back, note, nth, place_from, place_of, settle, take_at};
+use crate::slots::{Mark, Slot};
+use std::alloc::Global;
+use std::marker::Model;
+use tc_lists::NoMemory;
+use tc_term::Ground;
+
+/// Why a tuple was not put. It is given back.
+#[derive(Debug, Drop)]
+pub enum PutFault {
+    NoMemory(Ground),
+}
+
+/// Tuples, oldest first, each with its age; and marks to which the bag goes back.
+///
+/// A mark copies nothing: a row that is taken after it stays where it was, and is passed over.
+#[derive(Drop)]
+pub struct Bag {
+    slots: Vec<Slot>,
+    next: u64,
+    marks: Vec<Mark>,
+}
+
+impl Model for Bag {
+    ghost use Rattle.std.specs.Coded.{codes};
+    ghost use Rattle.tc_term.specs.TreeCode.{coded_tree};
+    ghost use Rattle.tc_bag.specs.Stock.{Stock};
+
+    ghost Value = { Stock };
+
+    ghost coded = { Prim.hlevel (codes, coded_tree) };
+
+    ghost use Rattle.tc_bag.specs.Slots.{stock_of, nexts, IsSound};
+
+    ghost view = { λ b. stock_of b.slots.items b.next (nexts b.marks.items) };
+
+    ghost invariant = { λ b. IsSound b.slots.items b.next b.marks.items };
+}
+
+impl Bag {
+    ghost use Rattle.std.specs.Prelude.{◌≡◌, ◌^◌, ◌<◌, [], length, slice_get, All, OnOk, OnErr, IfErr, IfSome, IfNone};
+    ghost use Rattle.std.specs.Option.{option_copied};
+    ghost use Rattle.tc_lists.specs.Firsts.{NoneOf, IsFirst};
+    ghost use Rattle.tc_term.specs.Tree.{IsTuple};
+    ghost use Rattle.tc_bag.specs.Stock.{row, tuples_of, Rises, IsCandidate, tuple_at, without_age, with_tuple, marked, IsUndone, IsKept};
+
+    /// No tuple and no mark. The first tuple that is put has the age 0.
+    pub fn new(alloc: Global) -> Bag
+        ensures { result ≡ record { now = []; next = 0; saved = [] } }
+    {
+        Bag {
+            slots: Vec::new(alloc),
+            next: 0,
+            marks: Vec::new(alloc),
+        }
+    }
+
+    /// The oldest tuple that agrees with the key and whose age is at least `from`, with its age.
+    ///
+    /// No memory is taken. Takes O(log rows) time to come to `from`, and O(1) for each row from
+    /// there on, but for names.
+    pub fn candidate(&self, key: &Key, from: u64) -> Option<(u64, &Ground)>
+        ensures found { IfSome result
+            (λ r. IsFirst (IsCandidate key.now from) self.now.now (row r.0 r.1.now)) }
+        ensures none { IfNone result (NoneOf (IsCandidate key.now from) self.now.now) }
+
+        // What a search needs that goes on from the age found.
+        ensures rises { Rises self.now.now self.now.next }
+        ensures limit { self.now.next < 2 ^ 64 }
+        ensures tuples { All (λ r. IsTuple r.tuple) self.now.now }
+    {
+        // Reading it tells that it is a number of 64 bits.
+        let _next = self.next;
+        let start = place_from(&self.slots, from);
+        let slot = first_with(&self.slots[start..], key)?;
+        Some((slot.age, &slot.tuple))
+    }
+
+    /// The tuple of this age, where it is there. Takes O(log rows) time.
+    pub fn get(&self, age: u64) -> Option<&Ground>
+        ensures { option_copied result ≡ tuple_at age self.now.now }
+    {
+        let place = place_of(&self.slots, age)?;
+        Some(&self.slots[place].tuple)
+    }
+
+    /// How many tuples are there. Takes O(1) time where there is no mark, else O(rows).
+    pub fn len(&self) -> usize
+        ensures { result ≡ length self.now.now }
+    {
+        count(&self.slots, self.marks.len())
+    }
+
+    /// The tuple of this place, from 0, in order of age. Takes O(1) time where there is no mark.
+    pub fn nth(&self, i: usize) -> Option<&Ground>
+        ensures { option_copied result ≡ slice_get (tuples_of self.now.now) i }
+    {
+        let slot = nth(&self.slots, self.marks.len(), i)?;
+        Some(&slot.tuple)
+    }
+
+    /// Puts a tuple behind the others, with the next age. Where memory ends it is handed back.
+    pub fn put(&mut self, tuple: Ground) -> Result<(), PutFault>
+        requires { self.old.next < u64.MAX }
+        ensures put { OnOk result (self.new ≡ with_tuple self.old tuple) }
+        ensures same { OnErr result (self.new ≡ self.old) }
+        ensures returned { IfErr result (λ fault. fault ≡ PutFault.NoMemory tuple) }
+    {
+        // The tuple shows that it is one, which each slot keeps.
+        let _term = tuple.term();
+        let slot = Slot {
+            age: self.next,
+            tuple,
+            taken: 0,
+        };
+        if let Err(failed) = self.slots.push(slot) {
+            return Err(PutFault::NoMemory(failed.value.tuple));
+        }
+        self.next += 1;
+        Ok(())
+    }
+
+    /// Removes the tuple of this age, where it is there. No memory is taken.
+    pub fn take(&mut self, age: u64)
+        ensures { self.new ≡ record self.old { now = without_age age self.old.now } }
+    {
+        let depth = self.marks.len();
+        if let Some(place) = place_of(&self.slots, age) {
+            take_at(&mut self.slots, place, depth);
+            note(&mut self.marks, age);
+        }
+    }
+
+    /// Sets a mark. It takes memory for two numbers, however many tuples there are.
+    pub fn mark(&mut self) -> Result<(), NoMemory>
+        ensures marked { OnOk result (self.new ≡ marked self.old) }
+        ensures same { OnErr result (self.new ≡ self.old) }
+    {
+        self.marks.push(Mark {
+            next: self.next,
+            oldest: u64::MAX,
+        })?;
+        Ok(())
+    }
+
+    /// Goes back to the latest mark, and removes it. No memory is taken.
+    ///
+    /// The next age is again that at the mark. Takes the time of the rows that are younger than the
+    /// oldest that was put or taken since, however many others there are.
+    pub fn undo(&mut self)
+        ensures back { IsUndone self.old self.new }
+        ensures unmarked { self.old.saved ≡ [] → self.new ≡ self.old }
+    {
+        if let Some(top) = self.marks.pop() {
+            go_back(&mut self.slots, top, self.marks.len() + 1);
+            self.next = top.next;
+        }
+    }
+
+    /// Removes the latest mark, and leaves the tuples as they are. No memory is taken.
+    ///
+    /// Takes the time of the rows that are younger than the oldest that was taken since; where it
+    /// is the only mark, and one was taken, that of all rows.
+    pub fn keep(&mut self)
+        ensures kept { IsKept self.old self.new }
+        ensures unmarked { self.old.saved ≡ [] → self.new ≡ self.old }
+    {
+        if let Some(top) = self.marks.pop() {
+            settle(&mut self.slots, top.oldest, self.marks.len() + 1);
+            note(&mut self.marks, top.oldest);
+        }
+    }
+}

@@ -1,0 +1,52 @@
+//! Keys of terms: what a tuple that a template matches has in common with it at its top.
+ghost use Rattle.std.specs.Prelude.{◌≡◌, ◌↔◌, IfOk, IsTrue};
+ghost use Rattle.tc_term.specs.Tree.{Fits};
+ghost use Rattle.tc_term.specs.TreeView.{tree_of};
+
+use std::alloc::Global;
+use tc_lists::NoMemory;
+use tc_term::{Ground, Name, Term};
+
+/// What is known of a term without its arguments: nothing of a variable, that a whole number is
+/// one, an atom's name, or a compound's name and number of arguments.
+#[derive(Debug, Drop)]
+pub enum Key {
+    Any,
+    Int,
+    Atom(Name),
+    Comp(Name, u32),
+}
+
+impl Key {
+    ghost use Rattle.tc_bag.specs.Keys.{key_of, Agrees};
+
+    /// The key of a term.
+    pub fn of(alloc: Global, t: &Term) -> Result<Key, NoMemory>
+        requires { Fits (tree_of t.now) }
+        ensures { IfOk result (λ key. key ≡ key_of (tree_of t.now)) }
+    {
+        match t {
+            Term::Var(_) => Ok(Key::Any),
+            Term::Int(_) => Ok(Key::Int),
+            Term::Atom(name) => Ok(Key::Atom(name.copy(alloc)?)),
+            Term::Comp(name, args) => {
+                Ok(Key::Comp(name.copy(alloc)?, args.items().len() as u32))
+            }
+        }
+    }
+
+    /// Whether a tuple has this key, or the key is `Any`. No memory is taken.
+    pub fn agrees(&self, tuple: &Ground) -> bool
+        ensures { IsTrue result ↔ Agrees self.now tuple.now }
+    {
+        match (self, tuple.term()) {
+            (Key::Any, _) => true,
+            (Key::Int, Term::Int(_)) => true,
+            (Key::Atom(name), Term::Atom(other)) => name == other,
+            (Key::Comp(name, count), Term::Comp(other, args)) => {
+                args.items().len() == *count as usize && name == other
+            }
+            _ => false,
+        }
+    }
+}

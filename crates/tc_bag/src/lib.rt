@@ -1,0 +1,17 @@
+//! A bag: tuples in order of age, with marks to which it goes back.
+//!
+//! Each tuple that is put is younger than all before it, and is found by its key. Nothing here
+//! knows of templates, operations or histories.
+#![tactic(auto)]
+
+mod bag;
+mod key;
+mod laws;
+mod rows;
+mod slots;
+#[cfg(test)]
+mod tests;
+
+pub use bag::{Bag, PutFault};
+pub use key::Key;
+pub use laws::matching_tuple_agrees;

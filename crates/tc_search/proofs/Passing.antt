@@ -1,0 +1,124 @@
+-- Passing over rows in order of age.
+use Rattle.std.proofs.Common.{◌≡◌, ◌<◌, ◌+◌, ℕ, inl, inr, List, [], ◌∷◌, ◌++◌, Some, All, get_or, refl, ap, sym, subst, ◌∙◌, arith}
+use Rattle.std.proofs.lemmas.Bool.{cases_lt}
+use Rattle.std.proofs.lemmas.List.{map-append}
+use Rattle.std.proofs.lemmas.List.Elements.{All-head, All-weaker, All-append, All-cons, All-map}
+use Rattle.tc_lists.specs.Firsts.{NoneOf, IsFirst}
+use Rattle.tc_term.specs.Equations.{Equation, Matches}
+use Rattle.tc_term.specs.Tree.{Tree, IsTuple}
+use Rattle.tc_bag.specs.declared.key.Key.{Key}
+use Rattle.tc_bag.specs.Keys.{key_of, Agrees}
+use Rattle.tc_bag.specs.Stock.{Row, Rises, IsCandidate, tuples_of, tuple_at, without_age}
+use Rattle.tc_bag.proofs.Agreement.{Agrees-match}
+use Rattle.tc_bag.proofs.Ages.{Rises-below, others_before, without_age-at, tuple_at-at}
+use Rattle.tc_bag.proofs.Firsts.{NoneOf-from_All, All-from_NoneOf, All-front, All-back}
+use Rattle.tc_search.specs.Found.{IsFound}
+
+-- the rows behind a row are younger
+pub Rises-behind : (xs ys : List Row) (r : Row) (next : ℕ) → Rises (xs ++ r ∷ ys) next → All (λ s. r.age < s.age) ys
+Rises-behind [] ys r next rises = rises.1
+Rises-behind (x ∷ xs) ys r next rises = Rises-behind xs ys r next rises.2
+
+-- a candidate's age
+pub candidate_below : (key : Key) (from next : ℕ) (rows : List Row) (row : Row) → Rises rows next
+    → IsFirst (IsCandidate key from) rows row → row.age < next
+candidate_below key from next rows row rises first =
+    All-head (λ r. r.age < next) row first.behind
+    (All-back (λ r. r.age < next) first.before (row ∷ first.behind)
+    (subst (All (λ r. r.age < next)) first.split (Rises-below rows next rises)))
+
+module _ (P : Tree → Type 0) where
+  -- no row below this age has the property
+  abbrev pub IsPassed : ℕ → List Row → Type 0
+  IsPassed from rows = All (λ r. r.age < from → P r.tuple → ⊥) rows
+
+  -- what has the property agrees with the key
+  abbrev pub IsKey : Key → List Row → Type 0
+  IsKey key rows = All (λ r. P r.tuple → Agrees key r.tuple) rows
+
+  -- no row before the candidate has the property
+  pub none_before : (key : Key) (from : ℕ) (rows : List Row) (row : Row) → IsKey key rows → IsPassed from rows
+      → (first : IsFirst (IsCandidate key from) rows row) → All (λ r. P r.tuple → ⊥) first.before
+  none_before key from rows row keys passed first =
+      let before = first.before in
+      let front = row ∷ first.behind in
+      let passed_front : All (λ r. r.age < from → P r.tuple → ⊥) before =
+      All-front (λ r. r.age < from → P r.tuple → ⊥) before front
+      (subst (All (λ r. r.age < from → P r.tuple → ⊥)) first.split passed) in
+      let keys_front : All (λ r. P r.tuple → Agrees key r.tuple) before =
+      All-front (λ r. P r.tuple → Agrees key r.tuple) before front
+      (subst (All (λ r. P r.tuple → Agrees key r.tuple)) first.split keys) in
+      let none = All-from_NoneOf (IsCandidate key from) before first.none in
+      λ k d inside has. elim (cases_lt (get_or before k d).age from) [
+        | inl older ↦ passed_front k d inside older has
+        | inr late ↦ none k d inside (late, keys_front k d inside has)
+      ]
+
+  -- nor has one up to the candidate, where it hasn't
+  pub passed_more : (key : Key) (from next : ℕ) (rows : List Row) (row : Row) → Rises rows next → IsKey key rows
+      → IsPassed from rows → IsFirst (IsCandidate key from) rows row → (P row.tuple → ⊥)
+      → IsPassed (row.age + 1) rows
+  passed_more key from next rows row rises keys passed first never =
+      let Passed : Row → Type 0 = λ r. r.age < row.age + 1 → P r.tuple → ⊥ in
+      subst (All Passed) (sym first.split)
+      (All-append Passed first.before (row ∷ first.behind)
+      (All-weaker (λ r. P r.tuple → ⊥) Passed (λ r none older. none) first.before
+      (none_before key from rows row keys passed first))
+      (All-cons Passed row first.behind (λ older. never)
+      (All-weaker (λ r. row.age < r.age) Passed (λ r younger older has. absurd (omega (arith, younger, older))) first.behind
+      (Rises-behind first.before first.behind row next (subst (λ rs. Rises rs next) first.split rises)))))
+
+  -- where there is no candidate, no tuple has the property
+  pub passed_all : (key : Key) (from : ℕ) (rows : List Row) → IsKey key rows → IsPassed from rows
+      → NoneOf (IsCandidate key from) rows → NoneOf P (tuples_of rows)
+  passed_all key from rows keys passed none =
+      let never = All-from_NoneOf (IsCandidate key from) rows none in
+      NoneOf-from_All P (tuples_of rows)
+      (All-map (λ t. P t → ⊥) (λ (r : Row). r.tuple) rows
+      (λ k d inside has. elim (cases_lt (get_or rows k d).age from) [
+        | inl older ↦ passed k d inside older has
+        | inr late ↦ never k d inside (late, keys k d inside has)
+      ]))
+
+-- what a bag has by the age of a row
+pub tuple_at-row : (rows before behind : List Row) (row : Row) (next : ℕ) → Rises rows next
+    → rows ≡ before ++ row ∷ behind → tuple_at row.age rows ≡ Some row.tuple
+tuple_at-row rows before behind row next rises split =
+    ap (tuple_at row.age) split
+    ∙ tuple_at-at row.age before behind row
+    (others_before before behind row next (subst (λ rs. Rises rs next) split rises)) refl
+
+pub without_age-row : (rows before behind : List Row) (row : Row) (next : ℕ) → Rises rows next
+    → rows ≡ before ++ row ∷ behind → tuples_of (without_age row.age rows) ≡ tuples_of before ++ tuples_of behind
+without_age-row rows before behind row next rises split =
+    ap (λ rs. tuples_of (without_age row.age rs)) split
+    ∙ ap tuples_of (without_age-at row.age before behind row
+    (others_before before behind row next (subst (λ rs. Rises rs next) split rises)) refl)
+    ∙ map-append (λ (r : Row). r.tuple) before behind
+
+-- a candidate that the template matches is found
+pub found_row : (n : ℕ) (es : List Equation) (template : Tree) (key : Key) (from next : ℕ) (rows : List Row) (row : Row)
+    → Rises rows next → IsKey (Matches n es template) key rows → IsPassed (Matches n es template) from rows
+    → IsFirst (IsCandidate key from) rows row → Matches n es template row.tuple
+    → IsFound n es template rows row.age row.tuple
+found_row n es template key from next rows row rises keys passed first match =
+    let P : Tree → Type 0 = Matches n es template in
+    record {
+      first = record {
+        before = tuples_of first.before;
+        behind = tuples_of first.behind;
+        split = ap tuples_of first.split ∙ map-append (λ (r : Row). r.tuple) first.before (row ∷ first.behind);
+        has = match;
+        none = NoneOf-from_All P (tuples_of first.before)
+            (All-map (λ t. P t → ⊥) (λ (r : Row). r.tuple) first.before (none_before P key from rows row keys passed first));
+      };
+      there = tuple_at-row rows first.before first.behind row next rises first.split;
+      left = without_age-row rows first.before first.behind row next rises first.split;
+    }
+
+-- what a template matches agrees with its key
+pub keys_agree : (n : ℕ) (es : List Equation) (template : Tree) (key : Key) (rows : List Row) → key ≡ key_of template
+    → All (λ r. IsTuple r.tuple) rows → IsKey (Matches n es template) key rows
+keys_agree n es template key rows same tuples =
+    All-weaker (λ r. IsTuple r.tuple) (λ r. Matches n es template r.tuple → Agrees key r.tuple)
+    (λ r tuple match. subst (λ k. Agrees k r.tuple) (sym same) (Agrees-match n es template r.tuple match tuple)) rows tuples

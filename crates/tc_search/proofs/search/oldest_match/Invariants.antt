@@ -1,0 +1,15 @@
+use Rattle.std.proofs.Common.{◌≡◌, ◌-◌}
+use Rattle.tc_term.specs.Equations.{Matches}
+use Rattle.tc_term.specs.TreeView.{tree_of}
+use Rattle.tc_search.proofs.Passing.{IsPassed}
+use Rattle.tc_search.proofs.search.oldest_match.Given as goal
+
+-- the store is as before, and no row so far matches
+abbrev pub invariant-loop-age : goal.invariant-loop-age
+invariant-loop-age l = record {
+  same : l.store ≡ l.initial.store;
+  passed : IsPassed (Matches l.initial.store.vars l.initial.store.pairs (tree_of l.template)) l.from l.bag.now;
+}
+
+abbrev pub decreases-loop-age : goal.decreases-loop-age
+decreases-loop-age l = l.bag.next - l.from

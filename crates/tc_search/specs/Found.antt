@@ -1,0 +1,14 @@
+-- What a search in a bag finds.
+use Rattle.std.specs.Prelude.{◌≡◌, ℕ, List, ◌++◌, Some}
+use Rattle.tc_lists.specs.Firsts.{IsFirst}
+use Rattle.tc_term.specs.Equations.{Equation, Matches}
+use Rattle.tc_term.specs.Tree.{Tree}
+use Rattle.tc_bag.specs.Stock.{Row, tuples_of, tuple_at, without_age}
+
+-- the tuple is the first that the template matches under the equations, it has this age, and
+-- without its row the tuples before and behind it are left
+pub record IsFound (n : ℕ) (es : List Equation) (template : Tree) (rows : List Row)
+    (age : ℕ) (tuple : Tree) : Type 0 where
+  pub first : IsFirst (Matches n es template) (tuples_of rows) tuple
+  pub there : tuple_at age rows ≡ Some tuple
+  pub left : tuples_of (without_age age rows) ≡ first.before ++ first.behind

@@ -1,0 +1,93 @@
+//! Searches in a bag, under the equations of a store and for a template alone.
+ghost use Rattle.std.specs.Prelude.{◌≡◌, ◌≤◌, [], false, IsTrue, IfOk, IfSome, IfNone, OnErr};
+ghost use Rattle.tc_lists.specs.Firsts.{NoneOf};
+ghost use Rattle.tc_term.specs.Equations.{Solvable, Matches, with_pair};
+ghost use Rattle.tc_term.specs.TreeView.{tree_of};
+ghost use Rattle.tc_term.specs.Variables.{var_bound};
+ghost use Rattle.tc_bag.specs.Keys.{key_of};
+ghost use Rattle.tc_bag.specs.Stock.{tuples_of};
+ghost use Rattle.tc_search.specs.Found.{IsFound};
+
+use std::alloc::Global;
+use tc_bag::{Bag, Key};
+use tc_lists::NoMemory;
+use tc_term::{Ground, Pattern, Term};
+use tc_unify::{Part, Store};
+
+/// The oldest tuple that the template matches under the store's equations, with its age.
+///
+/// The equation of template and tuple is then added to the store; where no tuple matches, and where
+/// memory ends, the store is as before. The key is the template's.
+pub fn oldest_match<'a>(
+    store: &mut Store,
+    template: &Term,
+    key: &Key,
+    bag: &'a Bag,
+) -> Result<Option<(u64, &'a Ground)>, NoMemory>
+    requires bound { var_bound (tree_of template.now) ≤ store.old.vars }
+    requires key { key.now ≡ key_of (tree_of template.now) }
+    ensures found { IfOk result (λ found. IfSome found (λ m. IsFound store.old.vars store.old.pairs
+        (tree_of template.now) bag.now.now m.0 m.1.now)) }
+    ensures added { IfOk result (λ found. IfSome found
+        (λ m. store.new ≡ with_pair store.old (tree_of template.now) m.1.now)) }
+    ensures none { IfOk result (λ found. IfNone found
+        (NoneOf (Matches store.old.vars store.old.pairs (tree_of template.now))
+        (tuples_of bag.now.now))) }
+    ensures same_none { IfOk result (λ found. IfNone found (store.new ≡ store.old)) }
+    ensures same { OnErr result (store.new ≡ store.old) }
+
+    // After each answer:
+    ensures vars { store.new.vars ≡ store.old.vars }
+    ensures solvable { Solvable store.old.vars store.old.pairs
+        → Solvable store.new.vars store.new.pairs }
+{
+    let mut from = 0;
+    while let Some((age, tuple)) = bag.candidate(key, from) {
+        if does_match(store, template, tuple)? {
+            return Ok(Some((age, tuple)));
+        }
+        from = age + 1;
+    }
+    Ok(None)
+}
+
+/// The oldest tuple that the template matches, with its age.
+pub fn oldest_match_of<'a>(
+    alloc: Global,
+    template: &Pattern,
+    bag: &'a Bag,
+) -> Result<Option<(u64, &'a Ground)>, NoMemory>
+    ensures found { IfOk result (λ found. IfSome found
+        (λ m. IsFound (var_bound template.now) [] template.now bag.now.now m.0 m.1.now)) }
+    ensures none { IfOk result (λ found. IfNone found
+        (NoneOf (Matches (var_bound template.now) [] template.now) (tuples_of bag.now.now))) }
+{
+    let key = Key::of(alloc, template.term())?;
+    let mut store = Store::new(alloc, template.vars())?;
+    let found = oldest_match(&mut store, template.term(), &key, bag)?;
+    Ok(found)
+}
+
+// Whether the template matches a tuple, whose equation then is added.
+fn does_match(store: &mut Store, template: &Term, tuple: &Ground) -> Result<bool, NoMemory>
+    requires { var_bound (tree_of template.now) ≤ store.old.vars }
+    ensures yes { IfOk result (λ m. IsTrue m
+        → Matches store.old.vars store.old.pairs (tree_of template.now) tuple.now) }
+    ensures added { IfOk result (λ m. IsTrue m
+        → store.new ≡ with_pair store.old (tree_of template.now) tuple.now) }
+    ensures no { IfOk result (λ m. m ≡ false
+        → Matches store.old.vars store.old.pairs (tree_of template.now) tuple.now → ⊥) }
+    ensures same_no { IfOk result (λ m. m ≡ false → store.new ≡ store.old) }
+    ensures same { OnErr result (store.new ≡ store.old) }
+{
+    let left = Part {
+        term: template,
+        shift: 0,
+    };
+    let right = Part {
+        term: tuple.term(),
+        shift: 0,
+    };
+    let added = store.add(left, right)?;
+    Ok(added)
+}
