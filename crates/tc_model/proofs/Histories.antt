@@ -7,15 +7,14 @@ use Rattle.std.proofs.lemmas.List.{take_more, take_all}
 use Rattle.std.proofs.lemmas.List.Elements.{filter-append}
 use Rattle.std.proofs.lemmas.Option.{slice_get-get_or}
 use mathlib.Core.List.{IsPrefix}
-use Rattle.tc_term.specs.Tree.{Tree}
-use Rattle.tc_model.specs.Matches.{AnyOne}
-use Rattle.tc_model.specs.State.{Origin, after_history}
+use Rattle.tc_model.specs.Choices.{AnyOne}
+use Rattle.tc_model.specs.State.{State, Origin, opening, after_history}
 use Rattle.tc_model.specs.Calls.{id_of, same_id, is_call_of, calls_of}
 use Rattle.tc_model.specs.Replies.{reply_of, outcome_given, or_given, outcome_in, reply_in}
 use Rattle.tc_model.specs.Run.{IsLegal, IsRun}
 use Rattle.tc_model.specs.declared.calls.CallId.{CallId}
 use Rattle.tc_model.specs.declared.calls.Op.{Op}
-use Rattle.tc_model.specs.declared.reactions.Item.{Item}
+use Rattle.tc_model.specs.declared.items.Item.{Item}
 use Rattle.tc_model.specs.declared.outcomes.Outcome.{Outcome}
 use Rattle.tc_model.specs.declared.outcomes.Outcome.TheVariants as outcome
 use Rattle.tc_model.specs.declared.outcomes.Reply.{Reply}
@@ -98,14 +97,16 @@ reply_in-IsPrefix before history id r begins h =
     subst (λ es. reply_in es id ≡ Some r) begins.1 (ap reply_of (outcome_in-append before begins.0 id r h) ∙ h)
 
 -- the number of a legal entry of an agent is above those of the entries that it made before
-IsLegal-rises : (origin : Origin) (history : List Entry) (tuples : List Tree) (e : Entry) (agent : ℕ)
-    → IsLegal AnyOne origin history tuples e → is_call_of agent e ≡ true
+IsLegal-rises : (origin : Origin) (history : List Entry) (s : State) (e : Entry) (agent : ℕ)
+    → IsLegal AnyOne origin history s e → is_call_of agent e ≡ true
     → All (λ d. (id_of d).number < (id_of e).number) (calls_of agent history)
-IsLegal-rises origin history tuples (Called id op result items) agent legal made =
+IsLegal-rises origin history s (Called id op result items) agent legal made =
     let P : ℕ → Type 0 = λ a. All (λ d. (id_of d).number < id.number) (calls_of a history) in
-    subst P (eqb-true id.agent agent made) legal.next.number
-IsLegal-rises origin history tuples (Gave id result items) agent legal made = absurd legal
-IsLegal-rises origin history tuples (Looked id asked reply) agent legal made = absurd legal
+    subst P (eqb-true id.agent agent made) legal.1.number
+IsLegal-rises origin history s (Gave id result items) agent legal made = absurd (cc)
+IsLegal-rises origin history s (Looked id asked reply) agent legal made =
+    let P : ℕ → Type 0 = λ a. All (λ d. (id_of d).number < id.number) (calls_of a history) in
+    subst P (eqb-true id.agent agent made) legal.1.number
 
 -- the numbers of what the agent made among the first n entries rise
 numbers_rise-take : (origin : Origin) (history : List Entry) (agent : ℕ) (d : Entry) → IsRun origin history
@@ -119,7 +120,7 @@ numbers_rise-take origin history agent d run (suc n) within =
     let e : Entry = get_or history n d in
     let inside : n < length history = omega arith in
     let before : AllPairs R (calls_of agent so_far) = numbers_rise-take origin history agent d run n (omega arith) in
-    let legal : IsLegal AnyOne origin so_far (after_history origin.tuples so_far) e =
+    let legal : IsLegal AnyOne origin so_far (after_history (opening origin) so_far) e =
     run n e (slice_get-get_or history n d inside) in
     let grown : take (suc n) history ≡ so_far ++ e ∷ [] =
     ap (λ m. take m history) (sym (add-one n)) ∙ take_more history n d inside in
@@ -127,7 +128,7 @@ numbers_rise-take origin history agent d run (suc n) within =
     ap (calls_of agent) grown ∙ filter-append p so_far (e ∷ []) in
     subst (AllPairs R) (sym split)
     (AllPairs-push_if R (calls_of agent so_far) e (p e) before
-    (IsLegal-rises origin so_far (after_history origin.tuples so_far) e agent legal))
+    (IsLegal-rises origin so_far (after_history (opening origin) so_far) e agent legal))
 
 pub numbers_rise : (origin : Origin) (history : List Entry) (agent : ℕ) → IsRun origin history
     → AllPairs (λ c e. (id_of c).number < (id_of e).number) (calls_of agent history)

@@ -1,3 +1,9 @@
 pub mod Lists
+pub mod Choosing
+pub mod Following
+pub mod WellFormed
 pub mod Runs
 pub mod Histories
+pub mod Waiting
+pub mod NextEntry
+pub mod WaitingCalls

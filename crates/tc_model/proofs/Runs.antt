@@ -1,35 +1,29 @@
 -- Runs: how they begin, how they grow at their end, and what each of their entries is.
-use Rattle.std.proofs.Common.{◌≡◌, ◌<◌, ⊎_elim, List, [], ◌∷◌, ◌++◌, Some, All}
-use Rattle.std.proofs.Common.{length, get_or, take, slice_get, refl, sym, subst, arith}
-use Rattle.std.proofs.lemmas.List.{take-append-le, take_at}
-use Rattle.std.proofs.lemmas.List.Elements.{All-nil}
-use Rattle.std.proofs.lemmas.Option.{get_or_from_slice_get, slice_get_within, slice_get-get_or}
+use Rattle.std.proofs.Common.{◌≡◌, ℕ, zero, suc, add-one, ◌<◌, ◌≤◌, ⊎_elim, List, [], ◌∷◌, ◌++◌, Some, None, All}
+use Rattle.std.proofs.Common.{length, get_or, take, slice_get, refl, sym, ap, ◌∙◌, subst, arith}
+use Rattle.std.proofs.lemmas.List.{take-append-le, take_at, take_more, take_all}
+use Rattle.std.proofs.lemmas.Option.{slice_get_within, slice_get-get_or, slice_get_cases}
 use mathlib.Core.List.{IsPrefix}
 use Rattle.tc_lists.proofs.Places.{slice_get_push, slice_get_longer}
-use Rattle.tc_term.specs.Tree.{Tree}
-use Rattle.tc_model.specs.Matches.{Choice, AnyOne, TheFirst, IsMatch, IsFirstMatch}
-use Rattle.tc_model.specs.State.{Origin, after_entry, after_history}
-use Rattle.tc_model.specs.Run.{IsOutcome, IsLegal, EachEntry, IsRun, IsFirstRun}
-use Rattle.tc_model.specs.Entries.{IsOutcomeWellFormed, IsNumbered, IsWellFormed}
-use Rattle.tc_model.specs.declared.calls.Op.{Op}
-use Rattle.tc_model.specs.declared.calls.Op.TheVariants.{Out, Inp}
-use Rattle.tc_model.specs.declared.reactions.Phase.TheVariants.{Pre}
-use Rattle.tc_model.specs.declared.outcomes.Outcome.{Outcome}
-use Rattle.tc_model.specs.declared.outcomes.Outcome.TheVariants as outcome
+use Rattle.tc_model.specs.Choices.{AnyOne}
+use Rattle.tc_model.specs.State.{State, Origin, opening, after_entry, after_history}
+use Rattle.tc_model.specs.Run.{EachEntry, IsRun, IsFirstRun}
+use Rattle.tc_model.specs.Entries.{IsWellFormed}
 use Rattle.tc_model.specs.declared.entries.Entry.{Entry}
-use Rattle.tc_model.specs.declared.entries.Entry.TheVariants.{Called, Gave, Looked}
+use Rattle.tc_model.proofs.Choosing.{any_legal}
+use Rattle.tc_model.proofs.WellFormed.{legal-well_formed}
 
-pub after_history-push : (tuples : List Tree) (history : List Entry) (e : Entry)
-    → after_history tuples (history ++ e ∷ []) ≡ after_entry e (after_history tuples history)
-after_history-push tuples [] e = refl
-after_history-push tuples (d ∷ history) e = after_history-push (after_entry d tuples) history e
+pub after_history-push : (s : State) (history : List Entry) (e : Entry)
+    → after_history s (history ++ e ∷ []) ≡ after_entry e (after_history s history)
+after_history-push s [] e = refl
+after_history-push s (d ∷ history) e = after_history-push (after_entry d s) history e
 
-pub EachEntry-none : (R : List Entry → List Tree → Entry → Type 0) (tuples : List Tree) → EachEntry R tuples []
-EachEntry-none R tuples k e h = absurd (let within = slice_get_within [] k e h in omega (arith, within))
+pub EachEntry-none : (R : List Entry → State → Entry → Type 0) (s : State) → EachEntry R s []
+EachEntry-none R s k e h = absurd (let within = slice_get_within [] k e h in omega (arith, within))
 
-pub EachEntry-push : (R : List Entry → List Tree → Entry → Type 0) (tuples : List Tree) (history : List Entry) (e : Entry)
-    → EachEntry R tuples history → R history (after_history tuples history) e → EachEntry R tuples (history ++ e ∷ [])
-EachEntry-push R tuples history e each last k x h =
+pub EachEntry-push : (R : List Entry → State → Entry → Type 0) (s : State) (history : List Entry) (e : Entry)
+    → EachEntry R s history → R history (after_history s history) e → EachEntry R s (history ++ e ∷ [])
+EachEntry-push R s history e each last k x h =
     ⊎_elim
     (λ (old : (k < length history) × (slice_get history k ≡ Some x)).
     rw (take-append-le k history (e ∷ []) (omega (arith, old.0))) (each k x old.1))
@@ -37,63 +31,54 @@ EachEntry-push R tuples history e each last k x h =
     rw (new.0, new.1, take_at history (e ∷ []) (length history) refl) last)
     (slice_get_push history e k x h)
 
-pub EachEntry-append : (R : List Entry → List Tree → Entry → Type 0) (tuples : List Tree) (history more : List Entry)
-    → EachEntry R tuples (history ++ more) → EachEntry R tuples history
-EachEntry-append R tuples history more each k e h =
+pub EachEntry-append : (R : List Entry → State → Entry → Type 0) (s : State) (history more : List Entry)
+    → EachEntry R s (history ++ more) → EachEntry R s history
+EachEntry-append R s history more each k e h =
     let within : k < length history = slice_get_within history k e h in
-    let P : List Entry → Type 0 = λ before. R before (after_history tuples before) e in
+    let P : List Entry → Type 0 = λ before. R before (after_history s before) e in
     subst P (take-append-le k history more (omega arith)) (each k e (slice_get_longer history more k e h))
 
 -- what each entry of a history is to those before it, each of a beginning is too
-pub EachEntry-IsPrefix : (R : List Entry → List Tree → Entry → Type 0) (tuples : List Tree) (before history : List Entry)
-    → IsPrefix before history → EachEntry R tuples history → EachEntry R tuples before
-EachEntry-IsPrefix R tuples before history begins each =
-    EachEntry-append R tuples before begins.0 (subst (EachEntry R tuples) (sym begins.1) each)
+pub EachEntry-IsPrefix : (R : List Entry → State → Entry → Type 0) (s : State) (before history : List Entry)
+    → IsPrefix before history → EachEntry R s history → EachEntry R s before
+EachEntry-IsPrefix R s before history begins each =
+    EachEntry-append R s before begins.0 (subst (EachEntry R s) (sym begins.1) each)
 
-pub IsMatch-first : (template : Tree) (tuples : List Tree) (tuple : Tree)
-    → IsFirstMatch template tuples tuple → IsMatch template tuples tuple
-IsMatch-first template tuples tuple first =
-    let within = slice_get_within tuples first.place tuple first.stands in
-    record {
-      stands = (first.place, within, get_or_from_slice_get tuples first.place tuple tuple first.stands);
-      matches = first.matches;
-    }
+EachEntry-keeps-take : (R : List Entry → State → Entry → Type 0) (s : State) (P : List Entry → Type 0) → P []
+    → ((before : List Entry) (e : Entry) → P before → R before (after_history s before) e → P (before ++ e ∷ []))
+    → (history : List Entry) → EachEntry R s history → (n : ℕ) → n ≤ length history → P (take n history)
+EachEntry-keeps-take R s P none more history each zero within = none
+EachEntry-keeps-take R s P none more history each (suc n) within =
+    let so_far : List Entry = take n history in
+    let before : P so_far = EachEntry-keeps-take R s P none more history each n (omega arith) in
+    ⊎_elim
+    (λ (there : (e : Entry) × (n < length history) × (slice_get history n ≡ Some e) × (get_or history n e ≡ e)).
+    let grown : take (suc n) history ≡ so_far ++ there.0 ∷ [] =
+    ap (λ m. take m history) (sym (add-one n)) ∙ take_more history n there.0 there.1
+    ∙ ap (λ e. so_far ++ e ∷ []) there.3 in
+    subst P (sym grown) (more so_far there.0 before (each n there.0 there.2)))
+    (λ (past : (length history ≤ n) × (slice_get history n ≡ None)). absurd (omega (arith, past.0)))
+    (slice_get_cases history n).1
 
-pub IsOutcome-first : (tuples : List Tree) (op : Op) (result : Outcome)
-    → IsOutcome TheFirst tuples op result → IsOutcome AnyOne tuples op result
-IsOutcome-first tuples (Inp t) (outcome.Took u) first = IsMatch-first t tuples u first
-IsOutcome-first tuples _ _ first = first
-
-pub IsLegal-first : (origin : Origin) (history : List Entry) (tuples : List Tree) (e : Entry)
-    → IsLegal TheFirst origin history tuples e → IsLegal AnyOne origin history tuples e
-IsLegal-first origin history tuples (Called id op result items) first = record {
-  next = first.next;
-  served = IsOutcome-first tuples op result first.served;
-  no_items = first.no_items;
-}
-IsLegal-first origin history tuples (Gave id result items) first = first
-IsLegal-first origin history tuples (Looked id asked reply) first = first
+-- what holds at first, and is kept by each entry in its relation to those before, holds of the whole history
+pub EachEntry-keeps : (R : List Entry → State → Entry → Type 0) (s : State) (P : List Entry → Type 0) → P []
+    → ((before : List Entry) (e : Entry) → P before → R before (after_history s before) e → P (before ++ e ∷ []))
+    → (history : List Entry) → EachEntry R s history → P history
+EachEntry-keeps R s P none more history each =
+    subst P (take_all (length history) history (omega arith))
+    (EachEntry-keeps-take R s P none more history each (length history) (omega arith))
 
 pub IsRun-first : (origin : Origin) (history : List Entry) → IsFirstRun origin history → IsRun origin history
 IsRun-first origin history first k e h =
-    IsLegal-first origin (take k history) (after_history origin.tuples (take k history)) e (first k e h)
-
-pub IsOutcome-well_formed : (choice : Choice) (tuples : List Tree) (op : Op) (result : Outcome)
-    → IsOutcome choice tuples op result → IsOutcomeWellFormed result
-IsOutcome-well_formed choice tuples (Out t) (outcome.Over Pre (Some u)) served = served
-IsOutcome-well_formed choice tuples (Inp t) (outcome.Over Pre (Some u)) served = served
-IsOutcome-well_formed choice tuples _ _ served = tt
-
-pub IsLegal-well_formed : (choice : Choice) (origin : Origin) (history : List Entry) (tuples : List Tree) (e : Entry)
-    → IsLegal choice origin history tuples e → IsWellFormed e
-IsLegal-well_formed choice origin history tuples (Called id op result items) legal =
-    let numbered : All IsNumbered items = subst (All IsNumbered) (sym legal.no_items) (All-nil IsNumbered) in
-    (IsOutcome-well_formed choice tuples op result legal.served, numbered)
-IsLegal-well_formed choice origin history tuples (Gave id result items) legal = absurd legal
-IsLegal-well_formed choice origin history tuples (Looked id asked reply) legal = tt
+    any_legal origin (after_history (opening origin) (take k history)) (take k history) e (first k e h)
 
 pub IsRun-well_formed : (origin : Origin) (history : List Entry) → IsRun origin history → All IsWellFormed history
 IsRun-well_formed origin history run k d inside =
     let e : Entry = get_or history k d in
-    IsLegal-well_formed AnyOne origin (take k history) (after_history origin.tuples (take k history)) e
+    legal-well_formed AnyOne origin (after_history (opening origin) (take k history)) (take k history) e
     (run k e (slice_get-get_or history k d inside))
+
+pub after_history-append : (s : State) (history more : List Entry)
+    → after_history s (history ++ more) ≡ after_history (after_history s history) more
+after_history-append s [] more = refl
+after_history-append s (e ∷ history) more = after_history-append (after_entry e s) history more

@@ -1,5 +1,5 @@
 -- An agent's calls in a history.
-use Rattle.std.specs.Prelude.{ℕ, ◌==◌, Bool, false, ◌&&◌, List, filter}
+use Rattle.std.specs.Prelude.{◌≡◌, ℕ, ◌==◌, Bool, false, ◌&&◌, List, filter}
 use Rattle.tc_model.specs.declared.calls.CallId.{CallId}
 use Rattle.tc_model.specs.declared.entries.Entry.{Entry}
 use Rattle.tc_model.specs.declared.entries.Entry.TheVariants.{Called, Gave, Looked}
@@ -23,3 +23,8 @@ is_call_of agent (Looked id asked reply) = id.agent == agent
 -- the entries that the agent made, in order
 abbrev pub calls_of : ℕ → List Entry → List Entry
 calls_of agent history = filter (is_call_of agent) history
+
+-- the entry is the call of this id
+abbrev pub IsCallOf : CallId → Entry → Type 0
+IsCallOf id (Called i op outcome items) = i ≡ id
+IsCallOf id entry = ⊥

@@ -1,8 +1,9 @@
 -- What entries weigh, and which are well formed.
-use Rattle.std.specs.Prelude.{ℕ, ◌+◌, ◌≤◌, Some, List, All, length, sum_by}
-use Rattle.tc_model.specs.declared.reactions.Phase.TheVariants.{Pre, Post}
-use Rattle.tc_model.specs.declared.reactions.Item.{Item}
-use Rattle.tc_model.specs.declared.reactions.Item.TheVariants.{Fired, Failed}
+use Rattle.std.specs.Prelude.{ℕ, ◌+◌, ◌*◌, ◌<◌, ◌≤◌, Some, List, All, length, sum_by}
+use Rattle.tc_model.specs.State.{Origin, opening, after_history}
+use Rattle.tc_model.specs.declared.events.Phase.TheVariants.{Pre, Post}
+use Rattle.tc_model.specs.declared.items.Item.{Item}
+use Rattle.tc_model.specs.declared.items.Item.TheVariants.{Fired, Failed}
 use Rattle.tc_model.specs.declared.outcomes.Outcome.{Outcome}
 use Rattle.tc_model.specs.declared.outcomes.Outcome.TheVariants as outcome
 use Rattle.tc_model.specs.declared.entries.Entry.{Entry}
@@ -17,6 +18,15 @@ weight_of (Looked id asked reply) = 1
 -- what the entries of a history weigh together
 abbrev pub weight : List Entry → ℕ
 weight history = sum_by weight_of history
+
+-- how many requests wait after a history
+abbrev pub pending_after : Origin → List Entry → ℕ
+pending_after origin history = length (after_history (opening origin) history).pending
+
+-- another call, with all the answers that it may lead to, could make the history too heavy
+abbrev pub IsFull : Origin → List Entry → Type 0
+IsFull origin history =
+    4000000 < weight history + (pending_after origin history + 2) * (origin.budget + 1)
 
 -- the places that an item names are counted from 1
 abbrev pub IsNumbered : Item → Type 0

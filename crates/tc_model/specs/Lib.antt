@@ -1,6 +1,16 @@
-pub mod Matches
+pub mod Choices
+pub mod Events
+pub mod Reactions
+pub mod ReactionViews
+pub mod Tuples
+pub mod Goals
+pub mod Bodies
+pub mod Triggers
+pub mod Cascades
 pub mod State
 pub mod Calls
 pub mod Replies
+pub mod Tables
 pub mod Run
 pub mod Entries
+pub mod Waiting

@@ -1,14 +1,15 @@
 //! Operations, and who asks for them.
 ghost use Rattle.std.specs.Prelude.{◌≡◌, IfOk};
 
+use crate::reactions::Clauses;
 use std::alloc::Global;
 use tc_lists::NoMemory;
-use tc_term::Ground;
+use tc_term::{Ground, Pattern};
 
 /// A call of an agent, which is named by its place among the centre's agents, from 0.
 ///
 /// The numbers of an agent rise from call to call, but need not be consecutive.
-#[derive(Clone, Copy)]
+#[derive(Clone, Copy, Debug, PartialEq, Eq)]
 pub struct CallId {
     pub agent: u32,
     pub number: u64,
@@ -19,17 +20,55 @@ pub struct CallId {
 pub enum Op {
     /// Puts the tuple.
     Out(Ground),
+    /// Takes a tuple that matches the template, and waits for one where there is none.
+    In(Pattern),
+    /// Reads such a tuple, and waits likewise.
+    Rd(Pattern),
     /// Takes a tuple that matches the template, where there is one.
-    Inp(Ground),
+    Inp(Pattern),
+    /// Reads such a tuple, where there is one.
+    Rdp(Pattern),
+    /// Replaces the clauses.
+    SetSpec(Clauses),
+    /// Asks for the text of the clauses.
+    GetSpec,
+}
+
+/// A call that waits for a tuple.
+#[derive(Drop)]
+pub struct Request {
+    pub id: CallId,
+    /// Whether the tuple is removed that answers it.
+    pub takes: bool,
+    pub template: Pattern,
 }
 
 impl Op {
+    /// An equal operation.
     pub fn copy(&self, alloc: Global) -> Result<Op, NoMemory>
         ensures { IfOk result (λ op. op ≡ self.now) }
     {
         match self {
             Op::Out(tuple) => Ok(Op::Out(tuple.copy(alloc)?)),
+            Op::In(template) => Ok(Op::In(template.copy(alloc)?)),
+            Op::Rd(template) => Ok(Op::Rd(template.copy(alloc)?)),
             Op::Inp(template) => Ok(Op::Inp(template.copy(alloc)?)),
+            Op::Rdp(template) => Ok(Op::Rdp(template.copy(alloc)?)),
+            Op::SetSpec(clauses) => Ok(Op::SetSpec(clauses.copy(alloc)?)),
+            Op::GetSpec => Ok(Op::GetSpec),
         }
+    }
+}
+
+impl Request {
+    /// An equal request.
+    pub fn copy(&self, alloc: Global) -> Result<Request, NoMemory>
+        ensures { IfOk result (λ request. request ≡ self.now) }
+    {
+        Ok(Request {
+            id: self.id,
+            takes: self.takes,
+            template: self.template.copy(alloc)?,
+        })
     }
 }

@@ -2,8 +2,8 @@
 ghost use Rattle.std.specs.Prelude.{◌≡◌, IfOk};
 
 use crate::calls::{CallId, Op};
+use crate::items::Item;
 use crate::outcomes::{Outcome, Reply};
-use crate::reactions::Item;
 use std::alloc::Global;
 use tc_lists::{NoMemory, Seq};
 
@@ -35,6 +35,7 @@ pub enum Entry {
 }
 
 impl Entry {
+    /// An equal entry.
     pub fn copy(&self, alloc: Global) -> Result<Entry, NoMemory>
         ensures { IfOk result (λ entry. entry ≡ self.now) }
     {

@@ -1,11 +1,20 @@
 //! What holds of every run and of every history.
-ghost use Rattle.std.specs.Prelude.{◌≡◌, ◌<◌, ◌+◌, List, ◌++◌, All, AllPairs, Some, ℕ};
+ghost use Rattle.std.specs.Prelude.{◌≡◌, ◌<◌, ◌+◌, List, [], ◌++◌, All, AllPairs, Some, ℕ};
 ghost use mathlib.Core.List.{IsPrefix};
 ghost use Rattle.tc_model.specs.declared.calls.CallId.{CallId};
 ghost use Rattle.tc_model.specs.declared.entries.Entry.{Entry};
 ghost use Rattle.tc_model.specs.declared.outcomes.Reply.{Reply};
-ghost use Rattle.tc_model.specs.Matches.{Choice};
-ghost use Rattle.tc_model.specs.State.{Origin};
+ghost use Rattle.tc_model.specs.Choices.{Choice};
+ghost use Rattle.tc_model.specs.State.{State, Origin, opening, after_history};
+ghost use Rattle.tc_model.specs.Waiting.{NeverWaits, GivesNothing, AreWaiting};
+ghost use Rattle.tc_model.specs.Events.{Occurrence, Setting};
+ghost use Rattle.tc_model.specs.Reactions.{Rule};
+ghost use Rattle.tc_model.specs.Tuples.{after_effects, after_items};
+ghost use Rattle.tc_model.specs.Goals.{Scene, Moment, Leads};
+ghost use Rattle.tc_model.specs.Cascades.{Wave, Begins};
+ghost use Rattle.tc_model.specs.declared.goals.Goal.{Goal};
+ghost use Rattle.tc_model.specs.declared.items.Item.{Item};
+ghost use Rattle.tc_term.specs.Tree.{Tree};
 ghost use Rattle.tc_model.specs.Calls.{id_of, calls_of};
 ghost use Rattle.tc_model.specs.Replies.{reply_in};
 ghost use Rattle.tc_model.specs.Run.{IsRunBy, IsRun, IsFirstRun};
@@ -45,4 +54,32 @@ pub fn reply_stays()
 pub fn weights_add()
     ensures { (history more : List Entry)
         → weight (history ++ more) ≡ weight history + weight more }
+{}
+
+/// What entries record fixes where they lead: a body to the tuples after its effects, a cascade to
+/// those after its items, and a history to the state after its parts, one after the other.
+pub fn entries_fix_the_state()
+    ensures body { (choice : Choice) (scene : Scene) (goals : List Goal) (begin end : Moment)
+        → begin.effects ≡ [] → Leads choice scene goals begin end
+        → end.tuples ≡ after_effects end.effects begin.tuples }
+    ensures cascade { (choice : Choice) (clauses : List Rule) (setting : Setting) (e : Occurrence)
+        (tuples : List Tree) (items : List Item) (end : Wave)
+        → Begins choice clauses setting e tuples items end
+        → end.tuples ≡ after_items items tuples }
+    ensures history { (s : State) (history more : List Entry)
+        → after_history s (history ++ more) ≡ after_history (after_history s history) more }
+{}
+
+/// In a run the requests that wait are the calls that have no reply yet, each once.
+pub fn waiting_calls_have_no_reply()
+    ensures { (origin : Origin) (history : List Entry) → IsRun origin history
+        → AreWaiting history (after_history (opening origin) history).pending }
+{}
+
+/// Where no call may have to wait, no request waits, and none is answered later.
+pub fn nothing_waits_uncalled()
+    ensures none_waits { (origin : Origin) (history : List Entry) → IsRun origin history
+        → All NeverWaits history → (after_history (opening origin) history).pending ≡ [] }
+    ensures none_given { (origin : Origin) (history : List Entry) → IsRun origin history
+        → All NeverWaits history → All GivesNothing history }
 {}

@@ -1,21 +1,29 @@
-//! What a tuple centre does: operations, their outcomes, the entries of a history, and its runs.
+//! What a tuple centre does: operations, events and reactions, their outcomes, the entries of a
+//! history, and its runs.
 //!
 //! An entry records what was chosen, so the entries of a history fix the state that they lead to.
-//! Nothing here knows how a centre serves a call, or of text.
+//! Nothing here knows how a centre serves a call, or how text is read.
 #![tactic(auto)]
 
 mod calls;
 mod entries;
+mod events;
+mod goals;
+mod items;
 mod laws;
 mod outcomes;
 mod reactions;
 #[cfg(test)]
 mod tests;
 
-pub use calls::{CallId, Op};
+pub use calls::{CallId, Op, Request};
 pub use entries::Entry;
+pub use events::{Context, Event, EventOp, Phase, Sign};
+pub use goals::Goal;
+pub use items::{Effect, Item};
 pub use laws::{
-    beginning_is_run, first_run_is_run, numbers_rise, reply_stays, run_is_well_formed, weights_add,
+    beginning_is_run, entries_fix_the_state, first_run_is_run, nothing_waits_uncalled,
+    numbers_rise, reply_stays, run_is_well_formed, waiting_calls_have_no_reply, weights_add,
 };
 pub use outcomes::{Outcome, Reply};
-pub use reactions::{Effect, Item, Phase};
+pub use reactions::{Clauses, Reaction};

@@ -1,7 +1,7 @@
 //! Outcomes, which entries record, and replies, which agents get.
 ghost use Rattle.std.specs.Prelude.{◌≡◌, IfOk};
 
-use crate::reactions::Phase;
+use crate::events::Phase;
 use std::alloc::Global;
 use tc_lists::{NoMemory, Seq};
 use tc_term::Ground;
@@ -31,6 +31,7 @@ pub enum Outcome {
 }
 
 impl Reply {
+    /// An equal reply.
     pub fn copy(&self, alloc: Global) -> Result<Reply, NoMemory>
         ensures { IfOk result (λ reply. reply ≡ self.now) }
     {
@@ -45,6 +46,7 @@ impl Reply {
 }
 
 impl Outcome {
+    /// An equal outcome.
     pub fn copy(&self, alloc: Global) -> Result<Outcome, NoMemory>
         ensures { IfOk result (λ outcome. outcome ≡ self.now) }
     {

@@ -1,93 +1,179 @@
-//! What the reactions of a phase did.
-ghost use Rattle.std.specs.Prelude.{◌≡◌, IfOk};
+//! Reactions, and the list of them that programs a centre.
+ghost use Rattle.std.specs.Prelude.{◌≡◌, ◌<◌, ◌++◌, ◌∷◌, [], length, IfOk, OnOk, OnErr};
 
+use crate::events::EventOp;
+use crate::goals::Goal;
 use std::alloc::Global;
-use tc_lists::{NoMemory, Seq};
-use tc_term::Ground;
+use std::marker::Model;
+use tc_lists::NoMemory;
+use tc_term::Term;
 
-/// Whether a request or its answer triggers the reactions.
-#[derive(Clone, Copy)]
-pub enum Phase {
-    Pre,
-    Post,
-}
-
-/// What a goal of a reaction did to the tuples.
-#[derive(Drop)]
-pub enum Effect {
-    Put(Ground),
-    Took(Ground),
-    Read(Ground),
-}
-
-/// One reaction that was executed.
+/// A reaction: the clause `reaction(Head,Body)`, which runs its goals where an event meets its head.
 ///
-/// `pick` is its place among the triggered reactions and `clause` the number of its clause.
-/// Where it failed, `goal` is the number of the goal that could not succeed, and `effects` are
-/// those of the goals before it. All three count from 1.
+/// Its variables are numbered by first appearance in the clause. It has 1 to 64 goals, and the text
+/// of its clause can be read back.
 #[derive(Drop)]
-pub enum Item {
-    Fired {
-        pick: u32,
-        clause: u32,
-        effects: Seq<Effect>,
-    },
-    Failed {
-        pick: u32,
-        clause: u32,
-        goal: u32,
-        effects: Seq<Effect>,
-    },
+pub struct Reaction {
+    vars: u32,
+    op: EventOp,
+    head: Term,
+    goals: Vec<Goal>,
 }
 
-impl Effect {
-    pub fn copy(&self, alloc: Global) -> Result<Effect, NoMemory>
-        ensures { IfOk result (λ effect. effect ≡ self.now) }
+impl Model for Reaction {
+    ghost use Rattle.std.specs.Coded.{codes};
+    ghost use Rattle.tc_term.specs.TreeCode.{coded_tree, coded_trees};
+    ghost use Rattle.tc_model.specs.Reactions.{Rule};
+
+    ghost Value = { Rule };
+
+    ghost coded = { Prim.hlevel (codes, coded_tree, coded_trees) };
+
+    ghost use Rattle.tc_model.specs.ReactionViews.{rule_of, IsKept};
+
+    ghost view = { rule_of };
+
+    ghost invariant = { IsKept };
+}
+
+impl Reaction {
+    ghost use Rattle.tc_term.specs.TreeView.{tree_of};
+    ghost use Rattle.tc_model.specs.Reactions.{IsRule};
+
+    /// The reaction to an operation's events whose term meets the head.
+    pub fn new(vars: u32, op: EventOp, head: Term, goals: Vec<Goal>) -> Reaction
+        requires { IsRule (record { vars = vars; op = op; head = tree_of head; goals = goals.items }) }
+        ensures { result ≡ record { vars = vars; op = op; head = tree_of head; goals = goals.items } }
     {
-        match self {
-            Effect::Put(tuple) => Ok(Effect::Put(tuple.copy(alloc)?)),
-            Effect::Took(tuple) => Ok(Effect::Took(tuple.copy(alloc)?)),
-            Effect::Read(tuple) => Ok(Effect::Read(tuple.copy(alloc)?)),
+        Reaction {
+            vars,
+            op,
+            head,
+            goals,
         }
+    }
+
+    /// How many variables there are.
+    pub fn vars(&self) -> u32
+        ensures { result ≡ self.now.vars }
+    {
+        self.vars
+    }
+
+    /// The operation whose events trigger the reaction.
+    pub fn op(&self) -> EventOp
+        ensures { result ≡ self.now.op }
+    {
+        self.op
+    }
+
+    /// What the event's term is to meet.
+    pub fn head(&self) -> &Term
+        ensures { tree_of result.now ≡ self.now.head }
+    {
+        &self.head
+    }
+
+    /// The goals, in order.
+    pub fn goals(&self) -> &[Goal]
+        ensures goals { result.now ≡ self.now.goals }
+        ensures rule { IsRule self.now }
+    {
+        &self.goals
+    }
+
+    /// An equal reaction.
+    pub fn copy(&self, alloc: Global) -> Result<Reaction, NoMemory>
+        ensures { IfOk result (λ reaction. reaction ≡ self.now) }
+    {
+        Ok(Reaction {
+            vars: self.vars,
+            op: self.op,
+            head: self.head.copy(alloc)?,
+            goals: copy_goals(alloc, &self.goals)?,
+        })
     }
 }
 
-impl Item {
-    pub fn copy(&self, alloc: Global) -> Result<Item, NoMemory>
-        ensures { IfOk result (λ item. item ≡ self.now) }
-    {
-        match self {
-            Item::Fired {
-                pick,
-                clause,
-                effects,
-            } => Ok(Item::Fired {
-                pick: *pick,
-                clause: *clause,
-                effects: Seq::new(copy_effects(alloc, effects.items())?),
-            }),
-            Item::Failed {
-                pick,
-                clause,
-                goal,
-                effects,
-            } => Ok(Item::Failed {
-                pick: *pick,
-                clause: *clause,
-                goal: *goal,
-                effects: Seq::new(copy_effects(alloc, effects.items())?),
-            }),
-        }
-    }
-}
-
-// Each effect, in order.
-fn copy_effects(alloc: Global, effects: &[Effect]) -> Result<Vec<Effect>, NoMemory>
-    ensures { IfOk result (λ copies. copies.items ≡ effects.now) }
+// Each goal, in order.
+fn copy_goals(alloc: Global, goals: &[Goal]) -> Result<Vec<Goal>, NoMemory>
+    ensures { IfOk result (λ copies. copies.items ≡ goals.now) }
 {
-    let mut copies = Vec::with_capacity(alloc, effects.len())?;
-    for effect in effects {
-        copies.push(effect.copy(alloc)?)?;
+    let mut copies = Vec::with_capacity(alloc, goals.len())?;
+    for goal in goals {
+        copies.push(goal.copy(alloc)?)?;
+    }
+    Ok(copies)
+}
+
+/// The reactions of a centre, in the order of their clause numbers: at most 1,000.
+#[derive(Drop)]
+pub struct Clauses {
+    items: Vec<Reaction>,
+}
+
+impl Model for Clauses {
+    ghost use Rattle.std.specs.Prelude.{◌≤◌, List, length};
+    ghost use Rattle.std.specs.Coded.{codes};
+    ghost use Rattle.tc_term.specs.TreeCode.{coded_tree, coded_trees};
+    ghost use Rattle.tc_model.specs.Reactions.{Rule};
+
+    ghost Value = { List Rule };
+
+    ghost coded = { Prim.hlevel (codes, coded_tree, coded_trees) };
+
+    ghost view = { λ c. c.items.items };
+
+    ghost invariant = { λ c. length c.items.items ≤ 1000 };
+}
+
+impl Clauses {
+    ghost use Rattle.std.specs.Prelude.{◌≤◌};
+
+    /// No clause.
+    pub fn new(alloc: Global) -> Clauses
+        ensures { result ≡ [] }
+    {
+        Clauses {
+            items: Vec::new(alloc),
+        }
+    }
+
+    /// Appends a clause.
+    pub fn push(&mut self, reaction: Reaction) -> Result<(), NoMemory>
+        requires { length self.old < 1000 }
+        ensures ok { OnOk result (self.new ≡ self.old ++ reaction ∷ []) }
+        ensures err { OnErr result (self.new ≡ self.old) }
+    {
+        self.items.push(reaction)?;
+        Ok(())
+    }
+
+    /// The clauses, in order.
+    pub fn items(&self) -> &[Reaction]
+        ensures items { result.now ≡ self.now }
+        ensures few { length self.now ≤ 1000 }
+    {
+        &self.items
+    }
+
+    /// Equal clauses.
+    pub fn copy(&self, alloc: Global) -> Result<Clauses, NoMemory>
+        ensures { IfOk result (λ clauses. clauses ≡ self.now) }
+    {
+        Ok(Clauses {
+            items: copy_reactions(alloc, &self.items)?,
+        })
+    }
+}
+
+// Each reaction, in order.
+fn copy_reactions(alloc: Global, reactions: &[Reaction]) -> Result<Vec<Reaction>, NoMemory>
+    ensures { IfOk result (λ copies. copies.items ≡ reactions.now) }
+{
+    let mut copies = Vec::with_capacity(alloc, reactions.len())?;
+    for reaction in reactions {
+        copies.push(reaction.copy(alloc)?)?;
     }
     Ok(copies)
 }

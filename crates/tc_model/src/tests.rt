@@ -1,9 +1,12 @@
 //! Copies with ample memory.
-use crate::{CallId, Effect, Entry, Item, Op, Outcome, Phase, Reply};
+use crate::{
+    CallId, Clauses, Context, Effect, Entry, Event, EventOp, Goal, Item, Op, Outcome, Phase,
+    Reaction, Reply, Request, Sign,
+};
 use std::alloc::Global;
 use std::test::Fail;
 use tc_lists::Seq;
-use tc_term::{Ground, Name, Term};
+use tc_term::{Cmp, Ground, Name, Pattern, Term};
 
 const ID: CallId = CallId {
     agent: 0,
@@ -14,6 +17,12 @@ const ID: CallId = CallId {
 fn tuple(alloc: Global) -> Result<Ground, Fail> {
     let term = Term::Atom(Name::new(alloc, b"a")?);
     Ok(Ground::of(term).ok().ok_or("an atom is a tuple")?)
+}
+
+// The template `a`.
+fn template(alloc: Global) -> Result<Pattern, Fail> {
+    let term = Term::Atom(Name::new(alloc, b"a")?);
+    Ok(Pattern::of(term).ok().ok_or("an atom is a template")?)
 }
 
 // A reaction that put the tuple.
@@ -30,7 +39,7 @@ fn fired(alloc: Global) -> Result<Item, Fail> {
 fn called(alloc: Global) -> Result<Entry, Fail> {
     Ok(Entry::Called {
         id: ID,
-        op: Op::Inp(tuple(alloc)?),
+        op: Op::Inp(template(alloc)?),
         outcome: Outcome::Took(tuple(alloc)?),
         items: Seq::new(vec![in alloc; fired(alloc)?]?),
     })
@@ -65,5 +74,41 @@ fn copies_each_kind_of_entry(rt: HostRuntime) -> Result<(), Fail> {
     assert!(rt; copies(alloc, called(alloc)?));
     assert!(rt; copies(alloc, gave(alloc)?));
     assert!(rt; copies(alloc, looked(alloc)?));
+    Ok(())
+}
+
+#[test]
+fn copies_a_request(rt: HostRuntime) -> Result<(), Fail> {
+    let alloc = rt.alloc();
+    let request = Request {
+        id: ID,
+        takes: true,
+        template: template(alloc)?,
+    };
+    let copy = request.copy(alloc)?;
+    assert!(rt; copy.takes && copy.id == ID);
+    Ok(())
+}
+
+// The clause `reaction(out(a),(true,1 < 2))`.
+fn clauses(alloc: Global) -> Result<Clauses, Fail> {
+    let head = Term::Atom(Name::new(alloc, b"a")?);
+    let mut goals = Vec::new(alloc);
+    goals.push(Goal::True)?;
+    goals.push(Goal::Compare(Cmp::Lt, Term::Int(1), Term::Int(2)))?;
+    let mut clauses = Clauses::new(alloc);
+    clauses.push(Reaction::new(0, EventOp::Out, head, goals))?;
+    Ok(clauses)
+}
+
+#[test]
+fn copies_clauses(rt: HostRuntime) -> Result<(), Fail> {
+    let alloc = rt.alloc();
+    let Op::SetSpec(copy) = Op::SetSpec(clauses(alloc)?).copy(alloc)? else {
+        return Err(Fail::new("another operation"));
+    };
+    assert_eq!(rt; copy.items().len(), 1);
+    assert_eq!(rt; copy.items()[0].op(), EventOp::Out);
+    assert_eq!(rt; copy.items()[0].goals().len(), 2);
     Ok(())
 }

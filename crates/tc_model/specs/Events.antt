@@ -1,0 +1,77 @@
+-- Events: what has happened to a centre's tuples, or is asked for.
+use Rattle.std.specs.Prelude.{◌≡◌, ◌≤◌, ℕ, IsTrue, List, length, codes}
+use Rattle.tc_term.specs.Tree.{Tree, is_ground}
+use Rattle.tc_term.specs.Variables.{IsPattern}
+use Rattle.tc_model.specs.declared.events.EventOp.{EventOp}
+use Rattle.tc_model.specs.declared.events.EventOp.TheVariants as op
+use Rattle.tc_model.specs.declared.events.Phase.{Phase}
+use Rattle.tc_model.specs.declared.events.Phase.TheVariants.{Pre, Post}
+use Rattle.tc_model.specs.declared.events.Sign.{Sign}
+use Rattle.tc_model.specs.declared.events.Sign.TheVariants.{Neither, Success, Failure}
+use Rattle.tc_model.specs.declared.items.Effect.{Effect}
+use Rattle.tc_model.specs.declared.items.Effect.TheVariants.{Put, Took, Read}
+
+-- an operation on a term, in its phase, and how it went
+pub record Occurrence : Type 0 where
+  pub op : EventOp
+  pub term : Tree
+  pub phase : Phase
+  pub sign : Sign
+
+-- the table of events: which phase and which sign an operation may have
+abbrev pub MayOccur : EventOp → Phase → Sign → Type 0
+MayOccur op.NoR phase sign = ⊥
+MayOccur op.In Pre Neither = Unit {0}
+MayOccur op.Rd Pre Neither = Unit {0}
+MayOccur op.Inp Post Failure = Unit {0}
+MayOccur op.Rdp Post Failure = Unit {0}
+MayOccur operation Post Success = Unit {0}
+MayOccur operation phase sign = ⊥
+
+-- an event of the table; where it succeeded, its term is a tuple
+pub record IsOccurrence (e : Occurrence) : Type 0 where
+  pub allowed : MayOccur e.op e.phase e.sign
+  pub term : IsPattern e.term
+  pub tuple : e.sign ≡ Success → IsTrue (is_ground e.term)
+
+-- in whose name reactions run, and at which centre
+pub record Setting : Type 0 where
+  pub agent : List ℕ
+  pub centre : List ℕ
+
+-- names of at most 65,535 bytes
+pub record IsSetting (setting : Setting) : Type 0 where
+  pub agent : length setting.agent ≤ 65535
+  pub centre : length setting.centre ≤ 65535
+
+-- an operation has succeeded with this tuple
+abbrev pub success_event : EventOp → Tree → Occurrence
+success_event operation tuple = record { op = operation; term = tuple; phase = Post; sign = Success }
+
+-- an operation has found no tuple for the template
+abbrev pub failure_event : EventOp → Tree → Occurrence
+failure_event operation template =
+    record { op = operation; term = template; phase = Post; sign = Failure }
+
+-- an operation is about to wait for a tuple
+abbrev pub request_event : EventOp → Tree → Occurrence
+request_event operation template =
+    record { op = operation; term = template; phase = Pre; sign = Neither }
+
+-- the event for which an effect of a reaction stands
+abbrev pub event_of : Effect → Occurrence
+event_of (Put tuple) = success_event op.OutR tuple
+event_of (Took tuple) = success_event op.InR tuple
+event_of (Read tuple) = success_event op.RdR tuple
+
+-- the name of an operation
+abbrev pub op_name : EventOp → List ℕ
+op_name op.Out = codes "out"
+op_name op.In = codes "in"
+op_name op.Rd = codes "rd"
+op_name op.Inp = codes "inp"
+op_name op.Rdp = codes "rdp"
+op_name op.OutR = codes "out_r"
+op_name op.InR = codes "in_r"
+op_name op.RdR = codes "rd_r"
+op_name op.NoR = codes "no_r"

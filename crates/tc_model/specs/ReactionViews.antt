@@ -1,0 +1,10 @@
+-- The reaction that a value of the program stands for.
+use Rattle.tc_term.specs.TreeView.{tree_of}
+use Rattle.tc_model.specs.Reactions.{Rule, IsRule}
+use Rattle.tc_model.specs.declared.reactions.Reaction.TheInside.{Inside}
+
+abbrev pub rule_of : Inside → Rule
+rule_of r = record { vars = r.vars; op = r.op; head = tree_of r.head; goals = r.goals.items }
+
+abbrev pub IsKept : Inside → Type 0
+IsKept r = IsRule (rule_of r)

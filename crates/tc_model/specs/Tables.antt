@@ -1,0 +1,87 @@
+-- The tables of calls and of answers: which outcome and which reactions each may have.
+use Rattle.std.specs.Prelude.{◌≡◌, ℕ, Bool, true, false, Some, None, List, [], ◌∷◌, ◌++◌, if◌then◌else◌}
+use Rattle.std.proofs.Common.{get_or}
+use Rattle.tc_lists.specs.Firsts.{NoneOf}
+use Rattle.tc_term.specs.Tree.{Tree}
+use Rattle.tc_model.specs.Choices.{Choice, IsChosen}
+use Rattle.tc_model.specs.Events.{Occurrence, Setting, success_event, failure_event, request_event}
+use Rattle.tc_model.specs.Reactions.{clauses_text}
+use Rattle.tc_model.specs.Tuples.{without_first}
+use Rattle.tc_model.specs.Cascades.{IsWhole, IsOver}
+use Rattle.tc_model.specs.State.{State, Origin, IsMatch, after_taking}
+use Rattle.tc_model.specs.declared.calls.CallId.{CallId}
+use Rattle.tc_model.specs.declared.calls.Op.{Op}
+use Rattle.tc_model.specs.declared.calls.Op.TheVariants.{Out, In, Rd, Inp, Rdp, SetSpec, GetSpec}
+use Rattle.tc_model.specs.declared.calls.Request.{Request}
+use Rattle.tc_model.specs.declared.events.EventOp.{EventOp}
+use Rattle.tc_model.specs.declared.events.EventOp.TheVariants as op
+use Rattle.tc_model.specs.declared.events.Phase.TheVariants.{Pre, Post}
+use Rattle.tc_model.specs.declared.items.Item.{Item}
+use Rattle.tc_model.specs.declared.outcomes.Outcome.{Outcome}
+use Rattle.tc_model.specs.declared.outcomes.Outcome.TheVariants.{Done, Took, NoTuple, Pending, Spec, Over}
+
+-- reactions run in the name of the agent whose call or request they belong to
+abbrev pub setting_of : Origin → CallId → Setting
+setting_of origin id = record { agent = get_or origin.agents id.agent []; centre = origin.name }
+
+module _ (choice : Choice) (origin : Origin) (s : State) where
+  -- the reactions to a phase of a call, over these tuples: all within the budget
+  abbrev pub Reacts : CallId → Occurrence → List Tree → List Item → Type 0
+  Reacts id e tuples items =
+      IsWhole choice s.clauses (setting_of origin id) origin.budget e tuples items
+
+  -- they go over the budget
+  abbrev pub Overruns : CallId → Occurrence → List Tree → List Item → Type 0
+  Overruns id e tuples items =
+      IsOver choice s.clauses (setting_of origin id) origin.budget e tuples items
+
+  -- the tuple may be chosen for the template
+  abbrev pub IsFound : Tree → Tree → Type 0
+  IsFound template tuple = IsChosen choice (IsMatch template) s.tuples tuple
+
+  -- no tuple matches the template
+  abbrev pub NoneFound : Tree → Type 0
+  NoneFound template = NoneOf (IsMatch template) s.tuples
+
+  -- the table of calls
+  abbrev pub IsServed : CallId → Op → Outcome → List Item → Type 0
+  IsServed id (Out t) Done items = Reacts id (success_event op.Out t) (s.tuples ++ t ∷ []) items
+  IsServed id (Out t) (Over Post None) items =
+      Overruns id (success_event op.Out t) (s.tuples ++ t ∷ []) items
+  IsServed id (Inp t) (Took u) items =
+      IsFound t u × Reacts id (success_event op.Inp u) (without_first u s.tuples) items
+  IsServed id (Inp t) (Over Post (Some u)) items =
+      IsFound t u × Overruns id (success_event op.Inp u) (without_first u s.tuples) items
+  IsServed id (Rdp t) (Took u) items =
+      IsFound t u × Reacts id (success_event op.Rdp u) s.tuples items
+  IsServed id (Rdp t) (Over Post (Some u)) items =
+      IsFound t u × Overruns id (success_event op.Rdp u) s.tuples items
+  IsServed id (Inp t) NoTuple items =
+      NoneFound t × Reacts id (failure_event op.Inp t) s.tuples items
+  IsServed id (Inp t) (Over Post None) items =
+      NoneFound t × Overruns id (failure_event op.Inp t) s.tuples items
+  IsServed id (Rdp t) NoTuple items =
+      NoneFound t × Reacts id (failure_event op.Rdp t) s.tuples items
+  IsServed id (Rdp t) (Over Post None) items =
+      NoneFound t × Overruns id (failure_event op.Rdp t) s.tuples items
+  IsServed id (In t) Pending items = Reacts id (request_event op.In t) s.tuples items
+  IsServed id (In t) (Over Pre None) items = Overruns id (request_event op.In t) s.tuples items
+  IsServed id (Rd t) Pending items = Reacts id (request_event op.Rd t) s.tuples items
+  IsServed id (Rd t) (Over Pre None) items = Overruns id (request_event op.Rd t) s.tuples items
+  IsServed id (SetSpec clauses) Done items = items ≡ []
+  IsServed id GetSpec (Spec text) items = (text ≡ clauses_text s.clauses) × (items ≡ [])
+  IsServed id operation result items = ⊥
+
+  -- the operation of the event that answers a request
+  abbrev pub answer_op : Bool → EventOp
+  answer_op takes = if takes then op.In else op.Rd
+
+  -- the table of answers
+  abbrev pub IsGiven : Request → Outcome → List Item → Type 0
+  IsGiven r (Took u) items =
+      IsFound r.template u
+      × Reacts r.id (success_event (answer_op r.takes) u) (after_taking r.takes u s.tuples) items
+  IsGiven r (Over Post (Some u)) items =
+      IsFound r.template u
+      × Overruns r.id (success_event (answer_op r.takes) u) (after_taking r.takes u s.tuples) items
+  IsGiven r result items = ⊥

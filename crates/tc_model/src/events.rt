@@ -1,0 +1,175 @@
+//! Events that trigger reactions, and in whose name and where reactions run.
+ghost use Rattle.std.specs.Prelude.{◌≡◌, IfOk};
+
+use std::alloc::Global;
+use std::marker::Model;
+use tc_lists::NoMemory;
+use tc_term::{Name, Pattern};
+
+/// An operation as events and heads of reactions name it: of an agent, or of a reaction's goal.
+#[derive(Clone, Copy, Debug, PartialEq, Eq)]
+pub enum EventOp {
+    Out,
+    In,
+    Rd,
+    Inp,
+    Rdp,
+    OutR,
+    InR,
+    RdR,
+    /// No event is of this operation: a clause with this head is never triggered.
+    NoR,
+}
+
+/// Whether a request or its answer triggers the reactions.
+#[derive(Clone, Copy, Debug, PartialEq, Eq)]
+pub enum Phase {
+    Pre,
+    Post,
+}
+
+/// How the operation of an event went; a request has no outcome yet.
+#[derive(Clone, Copy, Debug, PartialEq, Eq)]
+pub enum Sign {
+    Neither,
+    Success,
+    Failure,
+}
+
+/// An event, as the table of events allows it.
+///
+/// | Operation | Phase | Sign | The term |
+/// |---|---|---|---|
+/// | `out`, `out_r`, `in_r`, `rd_r` | post | success | the tuple |
+/// | `inp`, `rdp` | post | success | the tuple |
+/// | `inp`, `rdp` | post | failure | the template |
+/// | `in`, `rd` | pre | neither | the template |
+/// | `in`, `rd` | post | success | the tuple |
+#[derive(Drop)]
+pub struct Event {
+    op: EventOp,
+    term: Pattern,
+    phase: Phase,
+    sign: Sign,
+}
+
+impl Model for Event {
+    ghost use Rattle.std.specs.Coded.{codes};
+    ghost use Rattle.tc_term.specs.TreeCode.{coded_tree};
+    ghost use Rattle.tc_model.specs.Events.{Occurrence, IsOccurrence};
+
+    ghost Value = { Occurrence };
+
+    ghost coded = { Prim.hlevel (codes, coded_tree) };
+
+    ghost view = { λ e. record { op = e.op; term = e.term; phase = e.phase; sign = e.sign } };
+
+    ghost invariant = { λ e.
+        IsOccurrence (record { op = e.op; term = e.term; phase = e.phase; sign = e.sign }) };
+}
+
+impl Event {
+    ghost use Rattle.tc_model.specs.Events.{IsOccurrence};
+
+    /// The event of an operation on a term.
+    pub fn new(op: EventOp, term: Pattern, phase: Phase, sign: Sign) -> Event
+        requires { IsOccurrence (record { op = op; term = term; phase = phase; sign = sign }) }
+        ensures { result ≡ record { op = op; term = term; phase = phase; sign = sign } }
+    {
+        Event {
+            op,
+            term,
+            phase,
+            sign,
+        }
+    }
+
+    /// The operation.
+    pub fn op(&self) -> EventOp
+        ensures { result ≡ self.now.op }
+    {
+        self.op
+    }
+
+    /// The tuple or the template.
+    pub fn term(&self) -> &Pattern
+        ensures term { result.now ≡ self.now.term }
+        ensures event { IsOccurrence self.now }
+    {
+        &self.term
+    }
+
+    /// The phase.
+    pub fn phase(&self) -> Phase
+        ensures { result ≡ self.now.phase }
+    {
+        self.phase
+    }
+
+    /// How the operation went.
+    pub fn sign(&self) -> Sign
+        ensures { result ≡ self.now.sign }
+    {
+        self.sign
+    }
+
+    /// An equal event.
+    pub fn copy(&self, alloc: Global) -> Result<Event, NoMemory>
+        ensures { IfOk result (λ event. event ≡ self.now) }
+    {
+        Ok(Event {
+            op: self.op,
+            term: self.term.copy(alloc)?,
+            phase: self.phase,
+            sign: self.sign,
+        })
+    }
+}
+
+/// In whose name reactions run, and where: the names of an agent and of a centre.
+#[derive(Drop)]
+pub struct Context {
+    agent: Name,
+    centre: Name,
+}
+
+impl Model for Context {
+    ghost use Rattle.std.specs.Coded.{codes};
+    ghost use Rattle.tc_model.specs.Events.{Setting, IsSetting};
+
+    ghost Value = { Setting };
+
+    ghost coded = { Prim.hlevel (codes) };
+
+    ghost view = { λ c. record { agent = c.agent; centre = c.centre } };
+
+    ghost invariant = { λ c. IsSetting (record { agent = c.agent; centre = c.centre }) };
+}
+
+impl Context {
+    ghost use Rattle.tc_model.specs.Events.{IsSetting};
+
+    /// The context of an agent at a centre, whose names have at most 65,535 bytes each.
+    pub fn new(agent: Name, centre: Name) -> Context
+        requires { IsSetting (record { agent = agent; centre = centre }) }
+        ensures { result ≡ record { agent = agent; centre = centre } }
+    {
+        Context { agent, centre }
+    }
+
+    /// The agent's name.
+    pub fn agent(&self) -> &Name
+        ensures agent { result.now ≡ self.now.agent }
+        ensures setting { IsSetting self.now }
+    {
+        &self.agent
+    }
+
+    /// The centre's name.
+    pub fn centre(&self) -> &Name
+        ensures centre { result.now ≡ self.now.centre }
+        ensures setting { IsSetting self.now }
+    {
+        &self.centre
+    }
+}
