@@ -1,0 +1,10 @@
+//! Requests that wait for a tuple, and which of them is answered next.
+//!
+//! Nothing here knows of histories, or of what an answer brings about.
+#![tactic(auto)]
+
+mod pending;
+#[cfg(test)]
+mod tests;
+
+pub use pending::Pending;
