@@ -1,2 +1,11 @@
-pub mod FirstMatches
-pub mod Turns
+pub mod Phases
+pub mod Removals
+pub mod Entries
+pub mod Performed
+pub mod Answered
+pub mod FreshReplies
+pub mod Room
+pub mod Growing
+pub mod Called
+pub mod Turned
+pub mod TestLists

@@ -1,2 +1,5 @@
 pub mod Centre
+pub mod Turns
+pub mod Held
+pub mod Operations
 pub mod Core

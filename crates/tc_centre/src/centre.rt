@@ -1,33 +1,44 @@
 //! The centre and its history.
-ghost use Rattle.std.specs.Prelude.{◌≡◌, ◌<◌, [], ◌∷◌, ◌++◌, IfOk, OnErr, vec_len};
-ghost use Rattle.std.specs.Vec.{vec_capacity};
+ghost use Rattle.std.specs.Prelude.{◌≡◌, ◌↔◌, ◌+◌, ◌*◌, ◌<◌, ◌≤◌, [], ◌∷◌, ◌++◌, IsTrue, IfOk, OnOk, OnErr};
+ghost use Rattle.tc_model.specs.Replies.{reply_in};
+ghost use Rattle.tc_model.specs.Run.{earlier};
+ghost use Rattle.tc_centre.specs.Turns.{IsPoll};
 
-use crate::serving::serve;
+use crate::answers::{Answer, Poll, PollFault, TurnFault};
+use crate::founding::{Founding, fill};
+use crate::replies::{has_call, reply_to};
+use crate::serving::guarded;
+use crate::weights::weigh;
 use std::alloc::Global;
 use std::marker::Model;
-use tc_lists::{NoMemory, Seq};
-use tc_model::{CallId, Entry, Op, Reply};
+use std::snapshot::Snapshot;
+use tc_bag::Bag;
+use tc_lists::NoMemory;
+use tc_model::{CallId, Entry, Op, Reply, Request};
+use tc_pending::Pending;
 use tc_term::{Ground, Name};
 
-/// A tuple centre: what it began with, its tuples, and its history.
+// What a history may weigh.
+const MOST: u64 = 4_000_000;
+
+/// A tuple centre: what it began with, its tuples, the requests that wait, and its history.
 #[derive(Drop)]
 pub struct Core {
-    name: Name,
-    agents: Vec<Name>,
-    budget: u32,
-    opening: Vec<Ground>,
-    tuples: Vec<Ground>,
+    founding: Founding,
+    bag: Bag,
+    pending: Pending,
     history: Vec<Entry>,
+    weight: u64,
 }
 
 impl Model for Core {
     ghost use Rattle.std.specs.Coded.{codes};
-    ghost use Rattle.tc_term.specs.TreeCode.{coded_tree};
+    ghost use Rattle.tc_term.specs.TreeCode.{coded_tree, coded_trees};
     ghost use Rattle.tc_centre.specs.Centre.{Centre};
 
     ghost Value = { Centre };
 
-    ghost coded = { Prim.hlevel (codes, coded_tree) };
+    ghost coded = { Prim.hlevel (codes, coded_tree, coded_trees) };
 
     ghost use Rattle.tc_centre.specs.Core.{centre_of, IsSound};
 
@@ -37,11 +48,15 @@ impl Model for Core {
 }
 
 impl Core {
-    ghost use Rattle.tc_model.specs.State.{IsOrigin};
-    ghost use Rattle.tc_model.specs.Run.{IsNext, IsRun, IsFirstRun};
-    ghost use Rattle.tc_centre.specs.Centre.{centre_from, Serves};
+    ghost use Rattle.std.specs.Prelude.{◌≡◌, ◌≤◌, ◌↔◌, ◌^◌, ◌<◌, slice_get, map, IsTrue, IfOk, IfErr, OnErr};
+    ghost use Rattle.std.specs.Option.{option_copied};
+    ghost use Rattle.tc_model.specs.Replies.{reply_in};
+    ghost use Rattle.tc_model.specs.State.{IsOrigin, IsQuiescent};
+    ghost use Rattle.tc_model.specs.Run.{IsNext, IsRun, IsFirstRun, HasCall, earlier};
+    ghost use Rattle.tc_centre.specs.Centre.{centre_from, state_of, weight_in, waiting_in, IsFullCentre};
+    ghost use Rattle.tc_centre.specs.Turns.{IsOnTuples, Serves, IsRefused, Tells, IsPollRefused};
 
-    /// A centre of these tuples, oldest first, with an empty history.
+    /// A centre of these tuples, oldest first, with an empty history and no clauses.
     pub fn new(
         alloc: Global,
         name: Name,
@@ -52,35 +67,104 @@ impl Core {
         requires { IsOrigin (centre_from name agents.items budget tuples.items).origin }
         ensures { IfOk result (λ core. core ≡ centre_from name agents.items budget tuples.items) }
     {
-        let opening = copy_tuples(alloc, &tuples)?;
-        Ok(Core {
+        let founding = Founding {
             name,
             agents,
             budget,
-            opening,
-            tuples,
+            tuples: Snapshot::of(&tuples),
+        };
+        let bag = fill(alloc, tuples)?;
+        Ok(Core {
+            founding,
+            bag,
+            pending: Pending::new(alloc),
             history: Vec::new(alloc),
+            weight: 0,
         })
     }
 
-    /// Serves a call and appends its entry.
+    /// Serves a call: appends its entry, and then answers the requests that can be answered, the
+    /// oldest first, each with the oldest tuple that matches.
     ///
-    /// It takes time in proportion to the tuples, however long the history is.
-    pub fn turn(&mut self, alloc: Global, id: CallId, op: Op) -> Result<Reply, NoMemory>
-        requires { IsNext self.old.origin self.old.history id }
-        ensures ok { IfOk result (Serves self.old self.new id op) }
-        ensures err { OnErr result (self.new ≡ self.old) }
+    /// Where the history is too heavy for another call, it is refused. Takes time in proportion to
+    /// the tuples and the requests that wait, however long the history is.
+    pub fn turn(&mut self, alloc: Global, id: CallId, op: Op) -> Result<Answer, TurnFault>
+        requires next { IsNext self.old.origin self.old.history id }
+        requires tuples { IsOnTuples op }
+        ensures served { IfOk result (Serves self.old self.new id op) }
+        ensures refused { IfErr result (IsRefused self.old) }
+        ensures full { IsFullCentre self.old
+            → result ≡ Err (TurnFault.Full (weight_in self.old) (waiting_in self.old)) }
+        ensures same { OnErr result (self.new ≡ self.old) }
     {
-        self.history.reserve(1)?;
-        let (outcome, reply) = serve(alloc, &mut self.tuples, &op)?;
-        let entry = Entry::Called {
+        let waiting = self.pending.list().len() as u64;
+        if is_full(self.weight, waiting, self.founding.budget) {
+            return Err(TurnFault::Full {
+                weight: self.weight,
+                pending: waiting,
+            });
+        }
+        let before = self.history.len();
+        match guarded(
+            alloc,
+            &self.founding,
             id,
             op,
-            outcome,
-            items: Seq::empty(alloc),
+            &mut self.bag,
+            &mut self.pending,
+            &mut self.history,
+        ) {
+            Ok(answer) => {
+                self.weight += weigh(&self.history[before..]);
+                Ok(answer)
+            }
+            Err(_) => Err(TurnFault::NoMemory),
+        }
+    }
+
+    /// Tells an agent the reply to its earlier call of the number `asked`, and appends an entry of that.
+    ///
+    /// Takes time in proportion to the history.
+    pub fn poll(&mut self, alloc: Global, id: CallId, asked: u64) -> Result<Poll, PollFault>
+        requires { IsNext self.old.origin self.old.history id }
+        ensures told { IfOk result (Tells self.old self.new id asked) }
+        ensures refused { IfErr result (IsPollRefused self.old id asked) }
+        ensures stranger { (HasCall (earlier id asked) self.old.history → ⊥)
+            → result ≡ Err PollFault.Stranger }
+        ensures full { HasCall (earlier id asked) self.old.history → IsFullCentre self.old
+            → result ≡ Err (PollFault.Full (weight_in self.old) (waiting_in self.old)) }
+        ensures same { OnErr result (self.new ≡ self.old) }
+    {
+        let call = CallId {
+            agent: id.agent,
+            number: asked,
         };
-        append(&mut self.history, entry);
-        Ok(reply)
+        if !has_call(&self.history, call) {
+            return Err(PollFault::Stranger);
+        }
+        let waiting = self.pending.list().len() as u64;
+        if is_full(self.weight, waiting, self.founding.budget) {
+            return Err(PollFault::Full {
+                weight: self.weight,
+                pending: waiting,
+            });
+        }
+        match look_up(alloc, id, asked, &mut self.history) {
+            Ok(poll) => {
+                self.weight += 1;
+                Ok(poll)
+            }
+            Err(_) => Err(PollFault::NoMemory),
+        }
+    }
+
+    /// The reply to a call of the history; `None` while it waits. Takes time in proportion to the
+    /// history.
+    pub fn look(&self, alloc: Global, id: CallId) -> Result<Option<Reply>, NoMemory>
+        requires { HasCall id self.now.history }
+        ensures { IfOk result (λ reply. reply ≡ reply_in self.now.history id) }
+    {
+        reply_to(alloc, &self.history, id)
     }
 
     /// The entries so far, oldest first.
@@ -89,26 +173,88 @@ impl Core {
         ensures origin { IsOrigin self.now.origin }
         ensures run { IsRun self.now.origin self.now.history }
         ensures first { IsFirstRun self.now.origin self.now.history }
+        ensures quiescent { IsQuiescent (state_of self.now) }
+        ensures light { weight_in self.now ≤ 4000000 }
     {
         &self.history
     }
-}
 
-// Appends an entry for which there is room.
-fn append(history: &mut Vec<Entry>, entry: Entry)
-    requires { vec_len history.old < vec_capacity history.old }
-    ensures { history.new.items ≡ history.old.items ++ entry ∷ [] }
-{
-    history.push(entry).unwrap();
-}
-
-// Each tuple, in order.
-fn copy_tuples(alloc: Global, tuples: &[Ground]) -> Result<Vec<Ground>, NoMemory>
-    ensures { IfOk result (λ copies. copies.items ≡ tuples.now) }
-{
-    let mut copies = Vec::with_capacity(alloc, tuples.len())?;
-    for tuple in tuples {
-        copies.push(tuple.copy(alloc)?)?;
+    /// The requests that wait, oldest first.
+    pub fn pending(&self) -> &[Request]
+        ensures { result.now ≡ (state_of self.now).pending }
+    {
+        self.pending.list()
     }
-    Ok(copies)
+
+    /// What the history weighs: each entry 1, and 1 for each of its reactions.
+    pub fn weight(&self) -> u64
+        ensures { result ≡ weight_in self.now }
+    {
+        self.weight
+    }
+
+    /// The tuple of this place, from 0, oldest first.
+    pub fn tuple(&self, i: usize) -> Option<&Ground>
+        ensures { option_copied result ≡ slice_get (state_of self.now).tuples i }
+    {
+        self.bag.nth(i)
+    }
+
+    /// The centre's name.
+    pub fn name(&self) -> &Name
+        ensures { result.now ≡ self.now.origin.name }
+    {
+        &self.founding.name
+    }
+
+    /// The names of the agents, in the order of their numbers.
+    pub fn agents(&self) -> &[Name]
+        ensures { result.now ≡ self.now.origin.agents }
+    {
+        &self.founding.agents
+    }
+}
+
+// Another call, with all the answers that it may lead to, could make the history too heavy.
+fn is_full(weight: u64, waiting: u64, budget: u32) -> bool
+    requires weight { weight ≤ 4000000 }
+    requires waiting { waiting ≤ 4000000 }
+    requires budget { budget ≤ 10000 }
+    ensures { IsTrue result ↔ (4000000 < weight + (waiting + 2) * (budget + 1)) }
+{
+    weight + (waiting + 2) * (budget as u64 + 1) > MOST
+}
+
+// Appends an entry of what an earlier call came to, and tells it.
+fn look_up(
+    alloc: Global,
+    id: CallId,
+    asked: u64,
+    history: &mut Vec<Entry>,
+) -> Result<Poll, NoMemory>
+    ensures poll { IfOk result (IsPoll (reply_in history.old.items (earlier id asked))) }
+    ensures appended { OnOk result (history.new.items ≡ history.old.items
+        ++ Entry.Looked id asked (reply_in history.old.items (earlier id asked)) ∷ []) }
+    ensures same { OnErr result (history.new.items ≡ history.old.items) }
+{
+    let call = CallId {
+        agent: id.agent,
+        number: asked,
+    };
+    let Some(reply) = reply_to(alloc, history, call)? else {
+        history.push(Entry::Looked {
+            id,
+            asked,
+            reply: None,
+        })?;
+        return Ok(Poll::NotYet);
+    };
+    let first = reply.copy(alloc)?;
+    let again = reply.copy(alloc)?;
+    history.push(Entry::Looked {
+        id,
+        asked,
+        reply: Some(reply),
+    })?;
+    Ok(Poll::Answered(first, again))
 }

@@ -1,12 +1,19 @@
 //! One tuple centre that serves one call after another.
 //!
-//! Its history is always a run, in which every choice is the first, and a call that is refused
-//! leaves it as it was. Nothing here knows of threads, of roles or of text.
+//! Its history is always a run, in which every choice is the first, and no request that waits could
+//! be answered. A call that is refused leaves all as it was. Nothing here knows of threads, of roles
+//! or of text.
 #![tactic(auto)]
 
+mod answers;
 mod centre;
+mod founding;
+mod operations;
+mod replies;
 mod serving;
 #[cfg(test)]
 mod tests;
+mod weights;
 
+pub use answers::{Answer, Poll, PollFault, TurnFault};
 pub use centre::Core;

@@ -1,44 +1,506 @@
-//! The calls of one agent on one tuple.
-use crate::Core;
+//! Rows of calls: which history they leave, and what the callers are told.
+ghost use Rattle.std.specs.Prelude.{◌≡◌, ◌≢◌, ◌<◌, ◌≤◌, false, true, All, AllPairs, IfOk, IfSome, length};
+ghost use Rattle.tc_model.specs.Calls.{id_of, is_call_of, calls_of};
+ghost use Rattle.tc_model.specs.Run.{IsNext};
+ghost use Rattle.tc_centre.specs.Turns.{IsOnTuples};
+
+use crate::{Answer, Core, Poll, PollFault, TurnFault};
 use std::alloc::Global;
 use std::test::Fail;
-use tc_model::{CallId, Op, Reply};
-use tc_term::{Args, Ground, Name, Term};
+use tc_lists::NoMemory;
+use tc_model::{CallId, Entry, Op, Outcome, Reply};
+use tc_term::{Args, Ground, Name, Pattern, Term};
 
-// The tuple `p(1)`.
-fn tuple(alloc: Global) -> Result<Ground, Fail> {
-    let args = Args::new(vec![in alloc; Term::Int(1)]?);
-    let term = Term::Comp(Name::new(alloc, b"p")?, args);
-    Ok(Ground::of(term).ok().ok_or("p(1) is a tuple")?)
+// Whether the name stands among these.
+fn stands_among(name: &Name, names: &[Name]) -> bool
+    ensures { result ≡ false → All (λ other. other ≢ name.now) names.now }
+{
+    for other in names {
+        if other == name {
+            return true;
+        }
+    }
+    false
+}
+
+// Whether no two names are equal.
+fn differ(names: &[Name]) -> bool
+    ensures { result ≡ true → AllPairs ◌≢◌ names.now }
+{
+    for place in 0..names.len() {
+        if stands_among(&names[place], &names[..place]) {
+            return false;
+        }
+    }
+    true
+}
+
+// Whether each name is within the limit.
+fn are_short(names: &[Name]) -> bool
+    ensures { result ≡ true → All (λ name. length name ≤ 65535) names.now }
+{
+    for name in names {
+        if name.bytes().len() > 65535 {
+            return false;
+        }
+    }
+    true
+}
+
+// A centre `c` of these agents and tuples.
+fn centre(
+    alloc: Global,
+    agents: Vec<Name>,
+    budget: u32,
+    tuples: Vec<Ground>,
+) -> Result<Core, Fail> {
+    let name = Name::new(alloc, b"c")?;
+    let short = name.bytes().len() <= 65535 && are_short(&agents) && differ(&agents);
+    if !short || agents.is_empty() || agents.len() >= 4294967296 {
+        return Err(Fail::new("agents out of range"));
+    }
+    if budget == 0 || budget > 10000 || tuples.len() > 16777216 {
+        return Err(Fail::new("a budget or tuples out of range"));
+    }
+    Ok(Core::new(alloc, name, agents, budget, tuples)?)
+}
+
+// The next call of an agent: its number is one above those of all its entries.
+fn next_call(core: &Core, agent: u32) -> Option<CallId>
+    ensures { IfSome result (IsNext core.now.origin core.now.history) }
+{
+    if agent as usize >= core.agents().len() {
+        return None;
+    }
+    let number = last_number(core.history(), agent).checked_add(1)?;
+    Some(CallId { agent, number })
+}
+
+// The greatest number of an entry that the agent made, or 0.
+fn last_number(entries: &[Entry], agent: u32) -> u64
+    ensures { All (λ e. (id_of e).number ≤ result) (calls_of agent entries.now) }
+{
+    let mut last = 0;
+    for entry in entries {
+        last = greater(last, made_number(entry, agent));
+    }
+    last
+}
+
+// The greater of two numbers.
+fn greater(one: u64, other: u64) -> u64
+    ensures first { one ≤ result }
+    ensures second { other ≤ result }
+{
+    if one < other { other } else { one }
+}
+
+// The number of an entry that the agent made, or 0.
+fn made_number(entry: &Entry, agent: u32) -> u64
+    ensures { is_call_of agent entry.now ≡ true → (id_of entry.now).number ≤ result }
+{
+    match entry {
+        Entry::Called { id, .. } | Entry::Looked { id, .. } => {
+            if id.agent == agent { id.number } else { 0 }
+        }
+        Entry::Gave { .. } => 0,
+    }
+}
+
+// What is asked in these rows.
+#[derive(Clone, Copy)]
+enum Ask {
+    // out(p(1))
+    Out,
+    // in(p(X)), rd(p(X)), inp(p(X)) and rdp(p(X))
+    In,
+    Rd,
+    Inp,
+    Rdp,
+    // in(f(X,X))
+    Twice,
+}
+
+// What is told of a call in these rows.
+#[derive(Clone, Copy, Debug, PartialEq, Eq)]
+enum Told {
+    Done,
+    // p(n)
+    P(i64),
+    // f(m,n)
+    F(i64, i64),
+    NoTuple,
+    Pending,
+    Other,
+}
+
+// An entry: the agent, the number, and what was told.
+#[derive(Clone, Copy, Debug, PartialEq, Eq)]
+enum Line {
+    Called(u32, u64, Told),
+    Gave(u32, u64, Told),
+    Looked(u32, u64, u64, Told),
+}
+
+// The term of a name and its arguments.
+fn compound(alloc: Global, name: &[u8], args: Vec<Term>) -> Result<Term, NoMemory>
+    requires { 0 < length args.items }
+{
+    Ok(Term::Comp(Name::new(alloc, name)?, Args::new(args)))
+}
+
+// The term p(t).
+fn p(alloc: Global, t: Term) -> Result<Term, NoMemory> {
+    let mut args = Vec::new(alloc);
+    args.push(t)?;
+    compound(alloc, b"p", args)
+}
+
+// The term f(s,t).
+fn f(alloc: Global, s: Term, t: Term) -> Result<Term, NoMemory> {
+    let mut args = Vec::new(alloc);
+    args.push(s)?;
+    args.push(t)?;
+    compound(alloc, b"f", args)
+}
+
+fn tuple(term: Term) -> Result<Ground, Fail> {
+    match Ground::of(term) {
+        Ok(tuple) => Ok(tuple),
+        Err(_) => Err(Fail::new("no tuple")),
+    }
+}
+
+fn template(term: Term) -> Result<Pattern, Fail> {
+    match Pattern::of(term) {
+        Ok(template) => Ok(template),
+        Err(_) => Err(Fail::new("no template")),
+    }
+}
+
+// The operation that is asked for.
+fn op(alloc: Global, ask: Ask) -> Result<Op, Fail>
+    ensures { IfOk result IsOnTuples }
+{
+    match ask {
+        Ask::Out => Ok(Op::Out(tuple(p(alloc, Term::Int(1))?)?)),
+        Ask::In => Ok(Op::In(template(p(alloc, Term::Var(0))?)?)),
+        Ask::Rd => Ok(Op::Rd(template(p(alloc, Term::Var(0))?)?)),
+        Ask::Inp => Ok(Op::Inp(template(p(alloc, Term::Var(0))?)?)),
+        Ask::Rdp => Ok(Op::Rdp(template(p(alloc, Term::Var(0))?)?)),
+        Ask::Twice => Ok(Op::In(template(f(alloc, Term::Var(0), Term::Var(0))?)?)),
+    }
+}
+
+// A tuple as these rows tell it.
+fn told_tuple(tuple: &Ground) -> Told {
+    match tuple.term() {
+        Term::Comp(_, args) => match args.items() {
+            [Term::Int(n)] => Told::P(*n),
+            [Term::Int(m), Term::Int(n)] => Told::F(*m, *n),
+            _ => Told::Other,
+        },
+        _ => Told::Other,
+    }
+}
+
+fn told_reply(reply: &Reply) -> Told {
+    match reply {
+        Reply::Done => Told::Done,
+        Reply::Tuple(tuple) => told_tuple(tuple),
+        Reply::NoTuple => Told::NoTuple,
+        Reply::Spec(_) | Reply::OverBudget(_) => Told::Other,
+    }
+}
+
+fn told_outcome(outcome: &Outcome) -> Told {
+    match outcome {
+        Outcome::Done => Told::Done,
+        Outcome::Took(tuple) => told_tuple(tuple),
+        Outcome::NoTuple => Told::NoTuple,
+        Outcome::Pending => Told::Pending,
+        Outcome::Spec(_) | Outcome::Over(_, _) => Told::Other,
+    }
+}
+
+fn told_answer(answer: &Answer) -> Told {
+    match answer {
+        Answer::Replied(reply) => told_reply(reply),
+        Answer::Pending => Told::Pending,
+    }
+}
+
+// What both replies of a look tell; they are to be equal.
+fn told_poll(poll: &Poll) -> Told {
+    match poll {
+        Poll::Answered(one, other) => {
+            let told = told_reply(one);
+            if told == told_reply(other) {
+                told
+            } else {
+                Told::Other
+            }
+        }
+        Poll::NotYet => Told::Pending,
+    }
+}
+
+// An entry as these rows tell it.
+fn entry_line(entry: &Entry) -> Line {
+    match entry {
+        Entry::Called { id, outcome, .. } => {
+            Line::Called(id.agent, id.number, told_outcome(outcome))
+        }
+        Entry::Gave { id, outcome, .. } => Line::Gave(id.agent, id.number, told_outcome(outcome)),
+        Entry::Looked { id, asked, reply } => match reply {
+            Some(reply) => Line::Looked(id.agent, id.number, *asked, told_reply(reply)),
+            None => Line::Looked(id.agent, id.number, *asked, Told::Pending),
+        },
+    }
+}
+
+// Whether the history is just these lines.
+fn has_lines(core: &Core, lines: &[Line]) -> bool {
+    let history = core.history();
+    if history.len() != lines.len() {
+        return false;
+    }
+    for (entry, want) in history.iter().zip(lines) {
+        if entry_line(entry) != *want {
+            return false;
+        }
+    }
+    true
+}
+
+// Serves the next call of an agent, and tells its answer.
+fn call(core: &mut Core, alloc: Global, agent: u32, ask: Ask) -> Result<Told, Fail> {
+    let Some(id) = next_call(core, agent) else {
+        return Err(Fail::new("no further call"));
+    };
+    let op = op(alloc, ask)?;
+    let answer = core.turn(alloc, id, op)?;
+    Ok(told_answer(&answer))
+}
+
+// Looks at an earlier call of an agent, and tells what became of it.
+fn look(core: &mut Core, alloc: Global, agent: u32, asked: u64) -> Result<Told, Fail> {
+    let Some(id) = next_call(core, agent) else {
+        return Err(Fail::new("no further call"));
+    };
+    let poll = core.poll(alloc, id, asked)?;
+    Ok(told_poll(&poll))
+}
+
+// Whether the calls, by these agents in turn, are told so.
+fn tells(core: &mut Core, alloc: Global, calls: &[(u32, Ask, Told)]) -> Result<bool, Fail> {
+    for (agent, ask, want) in calls {
+        if call(core, alloc, *agent, *ask)? != *want {
+            return Ok(false);
+        }
+    }
+    Ok(true)
+}
+
+// The names of one byte each.
+fn names(alloc: Global, bytes: &[u8]) -> Result<Vec<Name>, NoMemory> {
+    let mut names = Vec::new(alloc);
+    for byte in bytes {
+        names.push(Name::new(alloc, &[*byte])?)?;
+    }
+    Ok(names)
+}
+
+// The tuples f(m,n).
+fn pairs(alloc: Global, pairs: &[(i64, i64)]) -> Result<Vec<Ground>, Fail> {
+    let mut tuples = Vec::new(alloc);
+    for (m, n) in pairs {
+        tuples.push(tuple(f(alloc, Term::Int(*m), Term::Int(*n))?)?)?;
+    }
+    Ok(tuples)
+}
+
+// The tuple p(1), so many times.
+fn copies(alloc: Global, count: u32) -> Result<Vec<Ground>, Fail> {
+    let mut tuples = Vec::new(alloc);
+    for _ in 0..count {
+        tuples.push(tuple(p(alloc, Term::Int(1))?)?)?;
+    }
+    Ok(tuples)
+}
+
+// A centre of these agents without tuples.
+fn empty(alloc: Global, agents: &[u8]) -> Result<Core, Fail> {
+    centre(alloc, names(alloc, agents)?, 1000, Vec::new(alloc))
 }
 
 #[test]
-fn a_tuple_is_put_and_taken_once(rt: HostRuntime) -> Result<(), Fail> {
+fn a_request_without_a_tuple_waits(rt: HostRuntime) -> Result<(), Fail> {
     let alloc = rt.alloc();
-    let agents = vec![in alloc; Name::new(alloc, b"a")?]?;
-    let mut core = Core::new(
-        alloc,
-        Name::new(alloc, b"c")?,
-        agents,
-        1000,
-        Vec::new(alloc),
-    )?;
-    let id = |number| CallId { agent: 0, number };
-    assert!(rt;
-        matches!(
-            core.turn(alloc, id(1), Op::Out(tuple(alloc)?))?,
-            Reply::Done
-        )
+    let mut core = empty(alloc, b"a")?;
+    let told = tells(&mut core, alloc, &[(0, Ask::In, Told::Pending)])?;
+    assert!(rt; told);
+    assert!(rt; has_lines(&core, &[Line::Called(0, 1, Told::Pending)]));
+    assert_eq!(rt; core.pending().len(), 1);
+    assert_eq!(rt; core.weight(), 1);
+    Ok(())
+}
+
+#[test]
+fn each_request_takes_a_tuple_of_its_own(rt: HostRuntime) -> Result<(), Fail> {
+    let alloc = rt.alloc();
+    let mut core = centre(alloc, names(alloc, b"a")?, 1000, copies(alloc, 2)?)?;
+    let calls = [
+        (0, Ask::In, Told::P(1)),
+        (0, Ask::In, Told::P(1)),
+        (0, Ask::Inp, Told::NoTuple),
+    ];
+    let told = tells(&mut core, alloc, &calls)?;
+    assert!(rt; told);
+    let lines = [
+        Line::Called(0, 1, Told::Pending),
+        Line::Gave(0, 1, Told::P(1)),
+        Line::Called(0, 2, Told::Pending),
+        Line::Gave(0, 2, Told::P(1)),
+        Line::Called(0, 3, Told::NoTuple),
+    ];
+    assert!(rt; has_lines(&core, &lines));
+    assert!(rt; core.tuple(0).is_none());
+    Ok(())
+}
+
+#[test]
+fn the_oldest_tuple_that_matches_is_taken(rt: HostRuntime) -> Result<(), Fail> {
+    let alloc = rt.alloc();
+    let tuples = pairs(alloc, &[(1, 2), (2, 2), (3, 3)])?;
+    let mut core = centre(alloc, names(alloc, b"a")?, 1000, tuples)?;
+    let told = tells(&mut core, alloc, &[(0, Ask::Twice, Told::F(2, 2))])?;
+    assert!(rt; told);
+    let lines = [
+        Line::Called(0, 1, Told::Pending),
+        Line::Gave(0, 1, Told::F(2, 2)),
+    ];
+    assert!(rt; has_lines(&core, &lines));
+    assert_eq!(rt; core.tuple(0).map(told_tuple), Some(Told::F(1, 2)));
+    assert_eq!(rt; core.tuple(1).map(told_tuple), Some(Told::F(3, 3)));
+    Ok(())
+}
+
+#[test]
+fn a_tuple_that_is_read_stays(rt: HostRuntime) -> Result<(), Fail> {
+    let alloc = rt.alloc();
+    let mut core = empty(alloc, b"a")?;
+    let calls = [
+        (0, Ask::Rdp, Told::NoTuple),
+        (0, Ask::Out, Told::Done),
+        (0, Ask::Rdp, Told::P(1)),
+        (0, Ask::Rd, Told::P(1)),
+        (0, Ask::Inp, Told::P(1)),
+        (0, Ask::Rdp, Told::NoTuple),
+    ];
+    let told = tells(&mut core, alloc, &calls)?;
+    assert!(rt; told);
+    assert_eq!(rt; core.weight(), 7);
+    Ok(())
+}
+
+#[test]
+fn the_oldest_requests_are_answered_first(rt: HostRuntime) -> Result<(), Fail> {
+    let alloc = rt.alloc();
+    let mut core = empty(alloc, b"abde")?;
+    let calls = [
+        (0, Ask::Rd, Told::Pending),
+        (1, Ask::In, Told::Pending),
+        (2, Ask::In, Told::Pending),
+        (3, Ask::Out, Told::Done),
+    ];
+    let told = tells(&mut core, alloc, &calls)?;
+    assert!(rt; told);
+    let lines = [
+        Line::Called(0, 1, Told::Pending),
+        Line::Called(1, 1, Told::Pending),
+        Line::Called(2, 1, Told::Pending),
+        Line::Called(3, 1, Told::Done),
+        Line::Gave(0, 1, Told::P(1)),
+        Line::Gave(1, 1, Told::P(1)),
+    ];
+    assert!(rt; has_lines(&core, &lines));
+    assert_eq!(rt; core.pending().len(), 1);
+    Ok(())
+}
+
+#[test]
+fn a_look_tells_what_became_of_a_call(rt: HostRuntime) -> Result<(), Fail> {
+    let alloc = rt.alloc();
+    let mut core = empty(alloc, b"ab")?;
+    let waits = tells(&mut core, alloc, &[(0, Ask::In, Told::Pending)])?;
+    let early = look(&mut core, alloc, 0, 1)?;
+    let done = tells(&mut core, alloc, &[(1, Ask::Out, Told::Done)])?;
+    let late = look(&mut core, alloc, 0, 1)?;
+    assert!(rt; waits && done);
+    assert_eq!(rt; early, Told::Pending);
+    assert_eq!(rt; late, Told::P(1));
+    let lines = [
+        Line::Called(0, 1, Told::Pending),
+        Line::Looked(0, 2, 1, Told::Pending),
+        Line::Called(1, 1, Told::Done),
+        Line::Gave(0, 1, Told::P(1)),
+        Line::Looked(0, 3, 1, Told::P(1)),
+    ];
+    assert!(rt; has_lines(&core, &lines));
+    Ok(())
+}
+
+#[test]
+fn a_look_at_no_call_is_refused(rt: HostRuntime) -> Result<(), Fail> {
+    let alloc = rt.alloc();
+    let mut core = empty(alloc, b"a")?;
+    let Some(id) = next_call(&core, 0) else {
+        return Err(Fail::new("no further call"));
+    };
+    let refused = matches!(core.poll(alloc, id, 5), Err(PollFault::Stranger));
+    assert!(rt; refused);
+    assert_eq!(rt; core.history().len(), 0);
+    Ok(())
+}
+
+// The names of so many agents, two bytes each.
+fn many_names(alloc: Global, count: u16) -> Result<Vec<Name>, NoMemory> {
+    let mut names = Vec::new(alloc);
+    for n in 0..count {
+        names.push(Name::new(alloc, &n.to_be_bytes())?)?;
+    }
+    Ok(names)
+}
+
+// Whether so many agents, one after another, wait for a tuple.
+fn all_wait(core: &mut Core, alloc: Global, count: u32) -> Result<bool, Fail> {
+    for agent in 0..count {
+        if call(core, alloc, agent, Ask::In)? != Told::Pending {
+            return Ok(false);
+        }
+    }
+    Ok(true)
+}
+
+#[test]
+fn a_centre_that_could_grow_too_heavy_is_full(rt: HostRuntime) -> Result<(), Fail> {
+    let alloc = rt.alloc();
+    let mut core = centre(alloc, many_names(alloc, 399)?, 10000, Vec::new(alloc))?;
+    let wait = all_wait(&mut core, alloc, 398)?;
+    assert!(rt; wait);
+    let Some(id) = next_call(&core, 398) else {
+        return Err(Fail::new("no further call"));
+    };
+    let op = op(alloc, Ask::In)?;
+    let full = matches!(
+        core.turn(alloc, id, op),
+        Err(TurnFault::Full {
+            weight: 398,
+            pending: 398
+        })
     );
-    let taken = core.turn(alloc, id(2), Op::Inp(tuple(alloc)?))?;
-    let want = tuple(alloc)?;
-    assert!(rt; matches!(&taken, Reply::Tuple(tuple) if tuple.term() == want.term()));
-    assert!(rt;
-        matches!(
-            core.turn(alloc, id(3), Op::Inp(tuple(alloc)?))?,
-            Reply::NoTuple
-        )
-    );
-    assert_eq!(rt; core.history().len(), 3);
+    assert!(rt; full);
+    assert_eq!(rt; core.history().len(), 398);
     Ok(())
 }

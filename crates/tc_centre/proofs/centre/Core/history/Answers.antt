@@ -1,13 +1,20 @@
-use Rattle.tc_model.specs.Run.{IsFirstRun}
-use Rattle.tc_model.proofs.Runs.{IsRun-first}
-use Rattle.tc_centre.specs.Centre.{Centre}
-use Rattle.tc_centre.proofs.centre.Core.history.Goals as goal
 use Rattle.std.proofs.Common.{subst}
+use Rattle.tc_model.specs.Run.{IsFirstRun}
+use Rattle.tc_model.specs.State.{IsQuiescent}
+use Rattle.tc_model.proofs.Runs.{IsRun-first}
+use Rattle.tc_centre.specs.Centre.{Centre, state_of}
+use Rattle.tc_centre.proofs.centre.Core.history.Goals as goal
 
 pub returns-clause-first : goal.returns-clause-first
 returns-clause-first c =
     let P : Centre → Type 0 = λ centre. IsFirstRun centre.origin centre.history in
-    subst P c.self.view_is c.self.invariant.run
+    subst P c.self.view_is c.self.invariant.settled.holds.run
 
 pub returns-clause-run : goal.returns-clause-run
 returns-clause-run c = IsRun-first c.args.self.now.origin c.args.self.now.history (returns-clause-first c)
+
+pub returns-clause-quiescent : goal.returns-clause-quiescent
+returns-clause-quiescent c =
+    let P : Centre → Type 0 = λ centre. IsQuiescent (state_of centre) in
+    subst P c.self.view_is
+    (subst IsQuiescent c.self.invariant.settled.holds.state c.self.invariant.settled.quiescent)

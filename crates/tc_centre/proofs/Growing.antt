@@ -1,0 +1,44 @@
+-- Histories that grow by several entries.
+use Rattle.std.proofs.Common.{◌≡◌, ◌++◌, ◌<◌, ℕ, List, [], ◌∷◌, All, ◌+◌, ◌-◌, length, length-append, take, drop, append_assoc, sym, ap, ◌∙◌, arith}
+use Rattle.std.proofs.Math.Seq.{drop-append_seam}
+use Rattle.std.proofs.lemmas.List.{take_all}
+use Rattle.std.proofs.lemmas.List.Elements.{All-append}
+use Rattle.tc_model.specs.Calls.{id_of, calls_of}
+use Rattle.tc_model.specs.Replies.{reply_of, reply_in}
+use Rattle.tc_model.specs.declared.calls.CallId.{CallId}
+use Rattle.tc_model.specs.declared.calls.Op.{Op}
+use Rattle.tc_model.specs.declared.entries.Entry.{Entry}
+use Rattle.tc_model.specs.declared.entries.Entry.TheVariants.{Called}
+use Rattle.tc_centre.specs.Held.{Answers, Calls}
+use Rattle.tc_centre.specs.Turns.{IsGave}
+use Rattle.tc_centre.proofs.FreshReplies.{outcome_in-fresh}
+
+pub answers-more : (a b c : List Entry) → Answers a b → Answers b c → Answers a c
+answers-more a b c first then = record {
+  gaves = first.gaves ++ then.gaves;
+  answers = All-append IsGave first.gaves then.gaves first.answers then.answers;
+  history = then.history ∙ ap (λ es. es ++ then.gaves) first.history ∙ append_assoc a first.gaves then.gaves;
+}
+
+-- what stands behind the old list in the grown one
+slice-behind : (old more whole : List Entry) (n : ℕ) → whole ≡ old ++ more → n ≡ length old
+    → take (length whole - n) (drop n whole) ≡ more
+slice-behind old more whole n grown start =
+    let behind : drop n whole ≡ more =
+    ap (λ m. drop m whole) start ∙ ap (drop (length old)) grown ∙ drop-append_seam old more in
+    let count : length whole ≡ length old + length more = ap length grown ∙ length-append old more in
+    ap (take (length whole - n)) behind ∙ take_all (length whole - n) more (omega (arith, count, start))
+
+-- the reply to a new call is the one that the entries behind the old history give
+pub new-reply : (old called new whole : List Entry) (id : CallId) (op : Op) (n : ℕ)
+    → All (λ e. (id_of e).number < id.number) (calls_of id.agent old)
+    → Calls id op old called → Answers called new → whole ≡ new → n ≡ length old
+    → reply_in new id ≡ reply_in (take (length whole - n) (drop n whole)) id
+new-reply old called new whole id op n above calls answers same start =
+    let more : List Entry = Called id op calls.result calls.items ∷ answers.gaves in
+    let grown : new ≡ old ++ more =
+    answers.history ∙ ap (λ es. es ++ answers.gaves) calls.history
+    ∙ append_assoc old (Called id op calls.result calls.items ∷ []) answers.gaves in
+    ap (λ es. reply_in es id) grown
+    ∙ ap reply_of (outcome_in-fresh old more id above)
+    ∙ sym (ap (λ es. reply_in es id) (slice-behind old more whole n (same ∙ grown) start))

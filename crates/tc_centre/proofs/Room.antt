@@ -1,0 +1,15 @@
+-- Room for the answers: each needs at most one weight more than the budget.
+use Rattle.std.proofs.Common.{◌+◌, ◌*◌, ◌≤◌, ℕ, arith}
+use Rattle.std.proofs.Math.Nat.{mul-le-mul_right}
+
+pub room_for_call : (w p q b : ℕ) → w + (p + 2) * (b + 1) ≤ 4000000 → q ≤ p + 1
+    → w + 1 + q * (b + 1) ≤ 4000000
+room_for_call w p q b room few =
+    let fewer : q * (b + 1) ≤ (p + 1) * (b + 1) = mul-le-mul_right (b + 1) few in
+    omega (arith, fewer, room)
+
+pub room_for_answer : (w p q b : ℕ) → w + p * (b + 1) ≤ 4000000 → q + 1 ≤ p
+    → w + 1 + q * (b + 1) ≤ 4000000
+room_for_answer w p q b room fewer =
+    let less : (q + 1) * (b + 1) ≤ p * (b + 1) = mul-le-mul_right (b + 1) fewer in
+    omega (arith, less, room)

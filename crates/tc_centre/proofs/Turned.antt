@@ -1,0 +1,77 @@
+-- What a turn and a look have done, as their callers see it.
+use Rattle.std.proofs.Common.{◌≡◌, ◌+◌, ◌*◌, ◌<◌, ◌≤◌, ◌++◌, ℕ, false, true, List, [], ◌∷◌, length, refl, sym, ap, subst, ◌∙◌, ⊎_elim, arith}
+use Rattle.std.proofs.lemmas.Bool.{cases_lt, true≢false}
+use Rattle.tc_bag.specs.Stock.{Row}
+use Rattle.tc_model.specs.Entries.{weight}
+use Rattle.tc_model.specs.Replies.{reply_in}
+use Rattle.tc_model.specs.Run.{IsNext, IsFirstRun, IsTold, HasCall, earlier}
+use Rattle.tc_model.specs.State.{IsQuiescent}
+use Rattle.tc_model.specs.declared.calls.CallId.{CallId}
+use Rattle.tc_model.specs.declared.calls.Op.{Op}
+use Rattle.tc_model.specs.declared.calls.Request.{Request}
+use Rattle.tc_model.specs.declared.entries.Entry.{Entry}
+use Rattle.tc_model.specs.declared.entries.Entry.TheVariants.{Called, Looked}
+use Rattle.tc_centre.specs.Centre.{Centre}
+use Rattle.tc_centre.specs.Held.{origin_of, IsSettled, Grows}
+use Rattle.tc_centre.specs.Turns.{IsAnswer, Serves, IsPoll, Tells}
+use Rattle.tc_centre.specs.declared.answers.Answer.{Answer}
+use Rattle.tc_centre.specs.declared.answers.Poll.{Poll}
+use Rattle.tc_centre.specs.declared.founding.Founding.{Founding}
+use Rattle.tc_centre.proofs.Entries.{weight-push}
+use Rattle.tc_centre.proofs.Called.{looked}
+
+-- the centre of a founding and a history
+abbrev pub centre_with : Founding → List Entry → Centre
+centre_with f history = record { origin = origin_of f; history = history }
+
+module _ (f : Founding) (old new : List Entry) (rows : List Row) (n : ℕ) (requests : List Request) (centre : Centre)
+    (id : CallId) (view : centre_with f old ≡ centre) where
+  pub serves : (op : Op) (answer : Answer) → Grows id op old new → IsSettled (origin_of f) new rows n requests
+      → IsAnswer (reply_in new id) answer → Serves centre (centre_with f new) id op answer
+  serves op answer grown settled told =
+      let appended : (k : Centre) → Type 0 = λ k.
+      centre_with f new ≡ record k { history = k.history ++ Called id op grown.result grown.items ∷ grown.gaves } in
+      record {
+        result = grown.result;
+        items = grown.items;
+        gaves = grown.gaves;
+        answers = grown.answers;
+        appended = subst appended view (ap (centre_with f) grown.history);
+        run = settled.holds.run;
+        quiescent = subst IsQuiescent settled.holds.state settled.quiescent;
+        answer = told;
+      }
+
+  pub tells : (asked : ℕ) (poll : Poll) → HasCall (earlier id asked) old
+      → new ≡ old ++ Looked id asked (reply_in old (earlier id asked)) ∷ []
+      → IsFirstRun (origin_of f) new → IsPoll (reply_in old (earlier id asked)) poll
+      → Tells centre (centre_with f new) id asked poll
+  tells asked poll called grown run told =
+      let P : Centre → Type 0 = λ k. Tells k (centre_with f new) id asked poll in
+      subst P view (record {
+        called = called;
+        appended = ap (centre_with f) grown;
+        run = run;
+        poll = told;
+      })
+
+  -- what is held stays settled behind a look
+  pub look-settled : (asked waiting kept : ℕ) → IsSettled (origin_of f) old rows n requests → IsNext centre.origin centre.history id
+      → HasCall (earlier id asked) old → kept ≡ weight old → waiting ≡ length requests
+      → (4000000 < kept + (waiting + 2) * (f.budget + 1) → false ≡ true)
+      → new ≡ old ++ Looked id asked (reply_in old (earlier id asked)) ∷ []
+      → IsSettled (origin_of f) new rows n requests
+  look-settled asked waiting kept settled next called weighs count light grown =
+      let P : Centre → Type 0 = λ k. IsNext k.origin k.history id in
+      let room : kept + (waiting + 2) * (f.budget + 1) ≤ 4000000 =
+      ⊎_elim (λ over. absurd (true≢false (sym (light over)))) (λ within. within)
+      (cases_lt 4000000 (kept + (waiting + 2) * (f.budget + 1))) in
+      looked (origin_of f) old new rows n requests id settled (subst P (sym view) next)
+      (subst (λ w. w + (length requests + 2) * (f.budget + 1) ≤ 4000000) weighs
+      (subst (λ p. kept + (p + 2) * (f.budget + 1) ≤ 4000000) count room))
+      asked (reply_in old (earlier id asked)) (record { called = called; told = refl }) grown
+
+  pub look-weight : (asked kept : ℕ) → kept ≡ weight old
+      → new ≡ old ++ Looked id asked (reply_in old (earlier id asked)) ∷ [] → kept + 1 ≡ weight new
+  look-weight asked kept weighs grown =
+      ap (λ w. w + 1) weighs ∙ sym (ap weight grown ∙ weight-push old (Looked id asked (reply_in old (earlier id asked))))
