@@ -14,8 +14,7 @@ use Rattle.tucson.specs.Setup.{IsPlain, ArePlain}
 use Rattle.tucson.specs.Reading.{gathered, term_at}
 use Rattle.tucson.proofs.Names.{name_at-again}
 use Rattle.tc_lists.proofs.Decimals.{integer_at-again}
-use Rattle.tucson.specs.Plain.{plain_text, plain_texts}
-use Rattle.tucson.proofs.PlainText.{listed, length-listed, gathered-listed, items_text-listed, length-items_text, depth_of_all_some, first_lowercase}
+use Rattle.tucson.proofs.PlainText.{plain_text, plain_texts, listed, length-listed, gathered-listed, items_text-listed, length-items_text, depth_of_all_some, first_lowercase}
 
 -- a byte behind a term, which is no part of it
 pub record IsBehind (b : ℕ) : Type 0 where

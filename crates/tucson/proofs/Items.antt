@@ -10,10 +10,9 @@ use Rattle.tc_term.specs.Tree.{Tree, depth}
 use Rattle.tc_model.specs.declared.calls.Op.{Op}
 use Rattle.tc_model.specs.declared.calls.Op.TheVariants.{Out, Inp}
 use Rattle.tc_term.specs.Text.{canonical}
-use Rattle.tucson.specs.Setup.{IsPlain, IsItem, operand, op_text, item_text}
+use Rattle.tucson.specs.Setup.{IsPlain, IsOperand, IsItem, op_text, item_text}
 use Rattle.tucson.specs.Reading.{term_at, operand_at, op_with, op_at, item_at, at_end, items_to_end}
-use Rattle.tucson.specs.Plain.{plain_text}
-use Rattle.tucson.proofs.PlainText.{canonical-plain, IsWithin, length-items_text}
+use Rattle.tucson.proofs.PlainText.{plain_text, canonical-plain, IsWithin, length-items_text}
 use Rattle.tucson.proofs.Again.{term_at-again, closing}
 use Rattle.tucson.proofs.Takes.{term_at-takes, option_map_some}
 
@@ -27,6 +26,7 @@ op_at-again (Out t) rest item =
     rw (canonical-plain t item.plain, append_assoc (plain_text t) (codes ")") rest, operand_at-again t rest item.plain item.depth) refl
 op_at-again (Inp t) rest item =
     rw (canonical-plain t item.plain, append_assoc (plain_text t) (codes ")") rest, operand_at-again t rest item.plain item.depth) refl
+op_at-again _ rest item = absurd item
 
 item_at-again : (centre : List ℕ) (op : Op) (rest : List ℕ) → IsItem op → item_at centre (item_text centre op ++ rest) ≡ Some (op, rest)
 unfolding item_at
@@ -68,17 +68,16 @@ closed_text : {bytes : List ℕ} (t : Tree) (rest : List ℕ) → IsPlain t → 
 closed_text t rest plain e = e ∙ sym (append_assoc (plain_text t) (codes ")") rest) ∙ ap (λ (l : List ℕ). (l ++ codes ")") ++ rest) (sym (canonical-plain t plain))
 
 -- an operation by its word, its operand and the bracket that closes it
-word_takes : (make : Tree → Op) (word : List ℕ) → ((t : Tree) → (operand (make t) ≡ t) × (op_text (make t) ≡ (word ++ canonical t) ++ codes ")")) → (bytes behind : List ℕ) (op : Op) (rest : List ℕ) → after word bytes ≡ Some behind → option_map {U = Op × List ℕ} (λ r. (make r.0, r.1)) (operand_at behind) ≡ Some (op, rest) → IsOpAt bytes op rest
-word_takes make word made bytes behind op rest is e =
+word_takes : (make : Tree → Op) (word : List ℕ) → ((t : Tree) → IsOperand t → IsItem (make t)) → ((t : Tree) → op_text (make t) ≡ (word ++ canonical t) ++ codes ")") → (bytes behind : List ℕ) (op : Op) (rest : List ℕ) → after word bytes ≡ Some behind → option_map {U = Op × List ℕ} (λ r. (make r.0, r.1)) (operand_at behind) ≡ Some (op, rest) → IsOpAt bytes op rest
+word_takes make word good made bytes behind op rest is e =
     let (r, read, same) = option_map_some {B = Op × List ℕ} (λ (r : Tree × List ℕ). (make r.0, r.1)) (operand_at behind) (op, rest) e in
     let taken = operand_at-takes behind r.0 r.1 read in
     let t : Tree = r.0 in
-    let is_it : operand (make t) ≡ t = (made t).0 in
     let text : bytes ≡ op_text (make t) ++ r.1 =
     after-takes word bytes behind is ∙ ap (λ (l : List ℕ). word ++ l) (closed_text t r.1 taken.within.plain taken.text)
-    ∙ simp append_assoc refl ∙ ap (λ (l : List ℕ). l ++ r.1) (sym (made t).1) in
+    ∙ simp append_assoc refl ∙ ap (λ (l : List ℕ). l ++ r.1) (sym (made t)) in
     let whole : IsOpAt bytes (make t) r.1 = record {
-      item = record { plain = subst (λ (u : Tree). IsPlain u) (sym is_it) taken.within.plain; depth = subst (λ (u : Tree). depth u ≤ 151) (sym is_it) taken.within.depth };
+      item = good t (record { plain = taken.within.plain; depth = taken.within.depth });
       text = text;
     } in
     subst (λ (q : Op × List ℕ). IsOpAt bytes q.0 q.1) same whole
@@ -88,8 +87,8 @@ unfolding op_at
 op_at-takes bytes op rest e = by_word (after (codes "out(") bytes) refl (after (codes "inp(") bytes) refl e
   where
     by_word : (out : Option (List ℕ)) → after (codes "out(") bytes ≡ out → (inp : Option (List ℕ)) → after (codes "inp(") bytes ≡ inp → op_with out inp ≡ Some (op, rest) → IsOpAt bytes op rest
-    by_word (Some behind) is inp other read = word_takes Out (codes "out(") (λ t. (refl, refl)) bytes behind op rest is read
-    by_word None is (Some behind) other read = word_takes Inp (codes "inp(") (λ t. (refl, refl)) bytes behind op rest other read
+    by_word (Some behind) is inp other read = word_takes Out (codes "out(") (λ t good. good) (λ t. refl) bytes behind op rest is read
+    by_word None is (Some behind) other read = word_takes Inp (codes "inp(") (λ t good. good) (λ t. refl) bytes behind op rest other read
     by_word None is None other read = absurd (cc)
 
 item_at-takes : (centre bytes : List ℕ) (op : Op) (rest : List ℕ) → item_at centre bytes ≡ Some (op, rest) → IsItem op × (bytes ≡ item_text centre op ++ rest)

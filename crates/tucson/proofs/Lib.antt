@@ -8,10 +8,10 @@ pub mod Behind
 pub mod Listing
 pub mod TermSteps
 pub mod Sizes
-pub mod Separated
-pub mod Appended
+pub mod Clauses
+pub mod Lines
 pub mod Scripts
-pub mod PlainRuns
+pub mod Turns
 pub mod Origins
 pub mod Words
 pub mod Endings

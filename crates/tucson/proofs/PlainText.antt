@@ -7,9 +7,21 @@ use Rattle.tc_term.specs.Text.{is_word, is_name, is_nil, is_dot, applied, text_i
 use Rattle.tc_term.specs.Variables.{instance, instances, place_in, variables}
 use Rattle.std.proofs.lemmas.Bool.{false≢true}
 use Rattle.std.specs.Char.{is_ascii_lowercase}
+use Rattle.std.specs.Fmt.{signed_decimal}
 use Rattle.tucson.specs.Setup.{IsPlain, ArePlain}
-use Rattle.tucson.specs.Plain.{plain_text, plain_texts}
 use Rattle.tucson.specs.Reading.{gathered}
+
+-- the text of a plain term, which has no variable, no quotes and no lists
+abbrev mutual
+  pub plain_text : Tree → List ℕ
+  plain_text (Variable n) = []
+  plain_text (Atomic name) = name
+  plain_text (Number n) = signed_decimal n
+  plain_text (Compound name args) = name ++ 40 ∷ (plain_texts args ++ 41 ∷ [])
+
+  pub plain_texts : Trees → List ℕ
+  plain_texts (Last t) = plain_text t
+  plain_texts (More t ts) = plain_text t ++ 44 ∷ plain_texts ts
 
 and_first : (a b : Bool) → (a && b) ≡ true → a ≡ true
 and_first true b e = refl

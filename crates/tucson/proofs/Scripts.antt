@@ -1,7 +1,7 @@
 -- A script that is served one operation after another.
-use Rattle.std.proofs.Common.{◌≡◌, ℕ, ◌+◌, ◌<◌, List, [], ◌∷◌, ◌++◌, length, Some, All, sym, ap, ◌∙◌, refl, subst, length-append, arith}
+use Rattle.std.proofs.Common.{◌≡◌, ℕ, ◌+◌, ◌<◌, List, [], ◌∷◌, ◌++◌, length, Some, All, sym, ap, refl, subst, length-append, arith}
 use Rattle.std.proofs.lemmas.List.Elements.{All-nil, All-cons, All-weaker, filter-append}
-use Rattle.tc_centre.specs.Centre.{Centre, Serves}
+use Rattle.tc_lists.proofs.Prefixes.{IsPrefix-append}
 use Rattle.tc_model.specs.Calls.{id_of, is_call_of, calls_of}
 use Rattle.tc_model.specs.Replies.{reply_in}
 use Rattle.tc_model.specs.Run.{IsNext}
@@ -10,13 +10,11 @@ use Rattle.tc_model.specs.declared.calls.CallId.{CallId}
 use Rattle.tc_model.specs.declared.calls.Op.{Op}
 use Rattle.tc_model.specs.declared.entries.Entry.{Entry}
 use Rattle.tc_model.specs.declared.entries.Entry.TheVariants.{Called, Gave, Looked}
+use Rattle.tc_model.specs.declared.items.Item.{Item}
+use Rattle.tc_model.specs.declared.outcomes.Outcome.{Outcome}
 use Rattle.tc_model.specs.declared.outcomes.Reply.{Reply}
-use Rattle.tc_lists.proofs.Prefixes.{IsPrefix-append}
 use Rattle.tc_model.proofs.Histories.{reply_in-IsPrefix}
 use Rattle.tucson.specs.Good.{call, IsCallFor, AreCallsFor, AreRepliesIn, IsServed}
-
-pub IsServed-none : IsServed [] [] []
-IsServed-none = record { calls = tt; rows = refl; replies = tt }
 
 -- one call more
 AreCallsFor-push : (number : ℕ) (ops : List Op) (es : List Entry) (op : Op) (e : Entry) → AreCallsFor number ops es → IsCallFor (number + length ops) op e → AreCallsFor number (ops ++ op ∷ []) (es ++ e ∷ [])
@@ -38,12 +36,19 @@ AreCallsFor-numbers number (o ∷ ops) (Looked id asked reply ∷ es) calls = ab
 AreCallsFor-numbers number [] (d ∷ es) calls = absurd calls
 AreCallsFor-numbers number (o ∷ ops) [] calls = absurd calls
 
+-- the next number is above those so far
+pub numbers-served : (ops : List Op) (history : List Entry) (log : List Reply) → IsServed ops history log
+    → All (λ e. (id_of e).number < length log + 1) (calls_of 0 history)
+numbers-served ops history log served =
+    All-weaker (λ e. (id_of e).number < 1 + length ops) (λ e. (id_of e).number < length log + 1)
+    (λ e below. omega (arith, served.rows)) (calls_of 0 history)
+    (AreCallsFor-numbers 1 ops (calls_of 0 history) served.calls)
+
 -- the next call may be made
-pub IsNext-served : (origin : Origin) (ops : List Op) (history : List Entry) (log : List Reply) → 0 < length origin.agents → IsServed ops history log → IsNext origin history (call (length log + 1))
-IsNext-served origin ops history log some served = record {
-  agent = some;
-  number = All-weaker (λ e. (id_of e).number < 1 + length ops) (λ e. (id_of e).number < length log + 1) (λ e below. omega (arith, served.rows)) (calls_of 0 history) (AreCallsFor-numbers 1 ops (calls_of 0 history) served.calls);
-}
+pub IsNext-served : (origin : Origin) (ops : List Op) (history : List Entry) (log : List Reply)
+    → 0 < length origin.agents → IsServed ops history log → IsNext origin history (call (length log + 1))
+IsNext-served origin ops history log some served =
+    record { agent = some; number = numbers-served ops history log served }
 
 -- replies stay as the history goes on
 AreRepliesIn-append : (history more : List Entry) (number : ℕ) (log : List Reply) → AreRepliesIn history number log → AreRepliesIn (history ++ more) number log
@@ -57,15 +62,18 @@ AreRepliesIn-push history number (q ∷ log) r replies last =
     (replies.0, AreRepliesIn-push history (number + 1) log r replies.1 (subst (λ (n : ℕ). reply_in history (call n) ≡ Some r) (omega arith) last))
 
 -- one operation more is served
-pub IsServed-push : (ops : List Op) (old new : Centre) (log : List Reply) (op : Op) (r : Reply) → IsServed ops old.history log → Serves old new (call (length log + 1)) op r → IsServed (ops ++ op ∷ []) new.history (log ++ r ∷ [])
-IsServed-push ops old new log op r served serves =
-    let e : Entry = Called (call (length log + 1)) op serves.outcome [] in
-    let longer : new.history ≡ old.history ++ e ∷ [] = ap (λ (c : Centre). c.history) serves.appended in
-    let calls : calls_of 0 new.history ≡ calls_of 0 old.history ++ e ∷ [] = ap (calls_of 0) longer ∙ filter-append (is_call_of 0) old.history (e ∷ []) in
+pub IsServed-push : (ops : List Op) (history : List Entry) (log : List Reply) (op : Op) (result : Outcome) (items : List Item)
+    (r : Reply) → let e : Entry = Called (call (length log + 1)) op result items in
+    IsServed ops history log → reply_in (history ++ e ∷ []) (call (length log + 1)) ≡ Some r
+    → IsServed (ops ++ op ∷ []) (history ++ e ∷ []) (log ++ r ∷ [])
+IsServed-push ops history log op result items r served replied =
+    let e : Entry = Called (call (length log + 1)) op result items in
     let last : IsCallFor (1 + length ops) op e = (ap call (omega (arith, served.rows)), refl) in
-    let stay : AreRepliesIn new.history 1 log = subst (λ (h : List Entry). AreRepliesIn h 1 log) (sym longer) (AreRepliesIn-append old.history (e ∷ []) 1 log served.replies) in
+    let calls : calls_of 0 (history ++ e ∷ []) ≡ calls_of 0 history ++ e ∷ [] = filter-append (is_call_of 0) history (e ∷ []) in
+    let before : AreRepliesIn (history ++ e ∷ []) 1 log = AreRepliesIn-append history (e ∷ []) 1 log served.replies in
     record {
-      calls = subst (λ (es : List Entry). AreCallsFor 1 (ops ++ op ∷ []) es) (sym calls) (AreCallsFor-push 1 ops (calls_of 0 old.history) op e served.calls last);
+      calls = subst (AreCallsFor 1 (ops ++ op ∷ [])) (sym calls) (AreCallsFor-push 1 ops (calls_of 0 history) op e served.calls last);
       rows = omega (arith, served.rows, length-append log (r ∷ []), length-append ops (op ∷ []));
-      replies = AreRepliesIn-push new.history 1 log r stay (subst (λ (n : ℕ). reply_in new.history (call n) ≡ Some r) (omega arith) serves.replied);
+      replies = AreRepliesIn-push (history ++ e ∷ []) 1 log r before
+          (subst (λ n. reply_in (history ++ e ∷ []) (call n) ≡ Some r) (omega arith) replied);
     }

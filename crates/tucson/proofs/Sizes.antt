@@ -1,15 +1,17 @@
 -- Plain terms of a short text are tuples.
-use Rattle.std.proofs.Common.{◌≡◌, ℕ, ◌≤◌, ◌<◌, true, IsTrue, List, [], ◌∷◌, ◌++◌, length, sym, ap, ◌∙◌, refl, length-append, arith}
+use Rattle.std.proofs.Common.{◌≡◌, ℕ, ◌≤◌, ◌<◌, true, IsTrue, List, [], ◌∷◌, ◌++◌, length, ap, ◌∙◌, refl, length-append, arith}
 use Rattle.std.proofs.lemmas.Bool.{false≢true}
-use Rattle.tc_term.specs.Ground.{HasCause}
 use Rattle.tc_term.specs.Text.{is_name}
 use Rattle.tc_term.specs.TreeView.{tree_of}
 use Rattle.tc_term.specs.declared.terms.Term.{Term}
-use Rattle.tc_term.specs.declared.tuple.NotTuple.{NotTuple}
-use Rattle.tc_term.specs.declared.tuple.NotTuple.TheVariants.{TooBig, NotGround}
+use Rattle.tc_term.specs.declared.template.NotPattern.{NotPattern}
+use Rattle.tc_term.specs.declared.template.NotPattern.TheVariants.{TooBig, TooMany}
+use Rattle.tc_term.specs.Pattern.{HasExcess}
+use Rattle.tc_term.specs.Variables.{place_in, variables_after, variables_after_all, variables, renumbered}
+use Rattle.tc_term.proofs.Instances.{both_true, instance-ground}
 use Rattle.tc_term.specs.Tree.{Tree, Variable, Atomic, Number, Compound, Trees, Last, More, nodes, nodes_of_all, name_bytes, name_bytes_of_all, is_ground, are_ground, IsTuple}
 use Rattle.tucson.specs.Setup.{IsPlain, ArePlain}
-use Rattle.tucson.specs.Plain.{plain_text, plain_texts}
+use Rattle.tucson.proofs.PlainText.{plain_text, plain_texts}
 use Rattle.tucson.proofs.TermSteps.{signed_decimal_some}
 use Rattle.tucson.proofs.Takes.{IsTermAt}
 
@@ -68,6 +70,25 @@ IsTuple-plain bytes t rest short term =
       };
     }
 
-pub HasCause-tuple : (t : Term) (why : NotTuple) → IsTuple (tree_of t) → HasCause t why → ⊥
-HasCause-tuple t (TooBig u) tuple cause = cause.1 tuple.fits
-HasCause-tuple t (NotGround u) tuple cause = false≢true (sym cause.2 ∙ tuple.ground)
+mutual
+  variables_after-ground : (seen : List ℕ) (t : Tree) → IsTrue (is_ground t) → variables_after seen t ≡ seen
+  variables_after-ground seen (Variable n) ground = absurd (false≢true ground)
+  variables_after-ground seen (Atomic name) ground = refl
+  variables_after-ground seen (Number z) ground = refl
+  variables_after-ground seen (Compound name args) ground = variables_after_all-ground seen args ground
+
+  variables_after_all-ground : (seen : List ℕ) (ts : Trees) → IsTrue (are_ground ts) → variables_after_all seen ts ≡ seen
+  variables_after_all-ground seen (Last t) ground = variables_after-ground seen t ground
+  variables_after_all-ground seen (More t ts) ground =
+      let both = both_true (is_ground t) (are_ground ts) ground in
+      ap (λ vs. variables_after_all vs ts) (variables_after-ground seen t both.0) ∙ variables_after_all-ground seen ts both.1
+
+-- a tuple is a template too
+pub HasExcess-tuple : (t : Term) (why : NotPattern) → IsTuple (tree_of t) → HasExcess t why → ⊥
+HasExcess-tuple t (TooBig u) tuple excess = excess.1 tuple.fits
+HasExcess-tuple t (TooMany u) tuple excess =
+    omega (arith, excess.2, ap length (variables_after-ground [] (tree_of t) tuple.ground))
+
+-- it is its own template: there is no variable to number
+pub renumbered-tuple : (t : Tree) → IsTuple t → renumbered t ≡ t
+renumbered-tuple t tuple = instance-ground (λ n. Variable (place_in (variables t) n)) t tuple.ground

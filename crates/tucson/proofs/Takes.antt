@@ -10,8 +10,7 @@ use Rattle.tc_term.specs.Tree.{Tree, Atomic, Number, Compound}
 use Rattle.tucson.specs.Reading.{gathered, name_at, compound_with, compound_at, number_or, term_at}
 use Rattle.tucson.proofs.Names.{IsNameAt, name_at-takes}
 use Rattle.tc_lists.proofs.Decimals.{integer_at-takes}
-use Rattle.tucson.specs.Plain.{plain_text}
-use Rattle.tucson.proofs.PlainText.{plain_texts-gathered, IsWithin, AreWithin-gathered}
+use Rattle.tucson.proofs.PlainText.{plain_text, plain_texts-gathered, IsWithin, AreWithin-gathered}
 
 -- the bytes are a plain term within the limit and what stands behind it
 pub record IsTermAt (limit : ℕ) (bytes : List ℕ) (t : Tree) (rest : List ℕ) : Type 0 where

@@ -10,6 +10,7 @@ use Rattle.tc_term.specs.Text.{is_name, is_word}
 use Rattle.tucson.specs.Setup.{IsItem, item_text, Setup, setup_text, Spells}
 use Rattle.tucson.specs.Reading.{name_at, grants, script_head, name_behind, items_to_end, script_at, setup_at}
 use Rattle.tucson.proofs.Names.{name_at-again, name_at-takes}
+use Rattle.tucson.proofs.PlainText.{length-items_text}
 use Rattle.tucson.proofs.Items.{items_to_end-again, items_to_end-takes}
 
 name_behind-again : (texts : List (List ℕ)) (name : List ℕ) (b : ℕ) (more : List ℕ) → IsTrue (is_name name) → is_word b ≡ false → name_behind texts (joined texts ++ (name ++ b ∷ more)) ≡ Some (name, b ∷ more)
@@ -70,16 +71,20 @@ module _ (s : Setup) where
   unfolding at_role at_grants at_script
   setup_text-read = simp (append_assoc, append-nil) refl
 
--- the names of the centre and of the agent are no longer than the text
-pub length-names : (s : Setup) → (length s.centre ≤ length (setup_text s)) × (length s.agent ≤ length (setup_text s))
+-- the names of the centre and of the agent are no longer than the text, and there are no more operations
+pub length-parts : (s : Setup) → (length s.centre ≤ length (setup_text s)) × (length s.agent ≤ length (setup_text s)) × (length s.ops ≤ length (setup_text s))
 unfolding at_role at_grants at_script
-length-names s =
+length-parts s =
     let whole = ap length (setup_text-read s) in
     let one = length-append s.centre (at_role s) in
     let two = length-append s.role (at_grants s) in
     let three = length-append (joined (grants s.centre s.role)) (s.agent ++ at_script s) in
     let four = length-append s.agent (at_script s) in
-    (omega arith, omega arith)
+    let items : List ℕ = items_text (item_text s.centre) 44 s.ops in
+    let five = length-append (joined (script_head s.role s.agent)) (items ++ codes "]).\n") in
+    let six = length-append items (codes "]).\n") in
+    let few = length-items_text (item_text s.centre) 44 s.ops in
+    (omega arith, omega arith, omega arith)
 
 pub read_again : (bytes : List ℕ) (s : Setup) → Spells bytes s → setup_at bytes ≡ Some s
 unfolding setup_at at_role at_grants at_script

@@ -11,9 +11,15 @@ use Rattle.tc_model.specs.declared.entries.Entry.TheVariants.{Called}
 use Rattle.tc_model.specs.declared.outcomes.Reply.{Reply}
 use Rattle.tucson.specs.Setup.{Setup}
 
--- the configured centre: one agent, the usual budget and no tuple
+-- the configured centre: one agent, the usual budget, no tuple and no clause
 abbrev pub origin_of : Setup → Origin
-origin_of s = record { name = s.centre; agents = s.agent ∷ []; budget = 1000; tuples = [] }
+origin_of s = record {
+  name = s.centre;
+  agents = s.agent ∷ [];
+  budget = 1000;
+  tuples = [];
+  clauses = [];
+}
 
 -- the agent's call of this number
 abbrev pub call : ℕ → CallId

@@ -1,7 +1,7 @@
 pub mod Setup
-pub mod Plain
 pub mod Output
 pub mod Good
+pub mod Serving
 pub mod Status
 pub mod Answer
 pub mod Reading

@@ -21,18 +21,22 @@ abbrev mutual
   ArePlain (Last t) = IsPlain t
   ArePlain (More t ts) = IsPlain t × ArePlain ts
 
-abbrev pub operand : Op → Tree
-operand (Out t) = t
-operand (Inp t) = t
+-- a plain term, in which at most 150 brackets are open at each place
+pub record IsOperand (t : Tree) : Type 0 where
+  pub plain : IsPlain t
+  pub depth : depth t ≤ 151
 
--- the operand is plain, and at most 150 of its brackets are open at each place
-pub record IsItem (op : Op) : Type 0 where
-  pub plain : IsPlain (operand op)
-  pub depth : depth (operand op) ≤ 151
+-- an out or an inp of an operand
+abbrev pub IsItem : Op → Type 0
+IsItem (Out t) = IsOperand t
+IsItem (Inp t) = IsOperand t
+IsItem op = ⊥
 
+-- an operation as it is written; an item is one of these two
 abbrev pub op_text : Op → List ℕ
 op_text (Out t) = codes "out(" ++ canonical t ++ codes ")"
 op_text (Inp t) = codes "inp(" ++ canonical t ++ codes ")"
+op_text op = []
 
 -- an item of a script: an operation on the centre
 abbrev pub item_text : List ℕ → Op → List ℕ

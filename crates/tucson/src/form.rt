@@ -2,6 +2,8 @@
 ghost use Rattle.std.specs.Prelude.{◌≡◌, ◌<◌, ◌≤◌, length, map, IfOk};
 ghost use Rattle.std.specs.Result.{IsErrOf};
 ghost use Rattle.tc_lists.specs.Items.{items_at};
+ghost use Rattle.tc_term.specs.Tree.{IsTuple};
+ghost use Rattle.tc_term.specs.TreeView.{tree_of};
 ghost use Rattle.tucson.specs.Reading.{operand_at, op_at, item_at, items_to_end, name_behind, script_at, grants, setup_at};
 ghost use Rattle.tucson.specs.Given.{Gives};
 ghost use Rattle.tucson.specs.Setup.{Spells};
@@ -12,7 +14,7 @@ use crate::parsing::term;
 use crate::reading::{Fault, behind, behind_all, name};
 use std::alloc::Global;
 use tc_model::Op;
-use tc_term::{Ground, Name};
+use tc_term::{Ground, Name, Pattern, Term};
 
 /// The most bytes of a configuration.
 pub const MAX_INPUT: usize = 8192;
@@ -31,15 +33,35 @@ pub struct Config {
 
 // An operand, up to the bracket that closes it.
 #[tactic(auto, unfolding(crate::specs::Reading::operand_at))]
-fn operand(alloc: Global, bytes: &[u8]) -> Result<(Ground, &[u8]), Fault>
+fn operand(alloc: Global, bytes: &[u8]) -> Result<(Term, &[u8]), Fault>
     requires { length bytes.now ≤ 8192 }
-    ensures read { Gives (λ r. (r.0, r.1.now)) result (operand_at bytes.now) }
+    ensures read { Gives (λ r. (tree_of r.0, r.1.now)) result (operand_at bytes.now) }
+    ensures tuple { IfOk result (λ r. IsTuple (tree_of r.0)) }
     ensures shorter { IfOk result (λ r. length r.1.now < length bytes.now) }
 {
     let (term, rest) = term(alloc, bytes, MAX_OPEN)?;
     let rest = behind(b")", rest).ok_or(Fault::Form)?;
+    Ok((term, rest))
+}
+
+// The term as a tuple.
+fn tuple(term: Term) -> Ground
+    requires { IsTuple (tree_of term) }
+    ensures { result ≡ tree_of term }
+{
     match Ground::of(term) {
-        Ok(tuple) => Ok((tuple, rest)),
+        Ok(tuple) => tuple,
+        Err(_) => unreachable!(),
+    }
+}
+
+// The term, which has no variable, as a template.
+fn template(term: Term) -> Pattern
+    requires { IsTuple (tree_of term) }
+    ensures { result ≡ tree_of term }
+{
+    match Pattern::of(term) {
+        Ok(template) => template,
         Err(_) => unreachable!(),
     }
 }
@@ -52,12 +74,12 @@ fn op(alloc: Global, bytes: &[u8]) -> Result<(Op, &[u8]), Fault>
     ensures shorter { IfOk result (λ r. length r.1.now < length bytes.now) }
 {
     if let Some(inside) = behind(b"out(", bytes) {
-        let (tuple, rest) = operand(alloc, inside)?;
-        return Ok((Op::Out(tuple), rest));
+        let (term, rest) = operand(alloc, inside)?;
+        return Ok((Op::Out(tuple(term)), rest));
     }
     let inside = behind(b"inp(", bytes).ok_or(Fault::Form)?;
-    let (template, rest) = operand(alloc, inside)?;
-    Ok((Op::Inp(template), rest))
+    let (term, rest) = operand(alloc, inside)?;
+    Ok((Op::Inp(template(term)), rest))
 }
 
 // An item of a script: an operation on the centre.

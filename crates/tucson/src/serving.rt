@@ -1,19 +1,23 @@
 //! A script that is served by a centre of its own.
-ghost use Rattle.std.specs.Prelude.{◌≡◌, ◌<◌, [], length, IfOk};
+ghost use Rattle.std.specs.Prelude.{◌≡◌, All, IfOk};
 ghost use Rattle.tucson.specs.Good.{IsServed};
+ghost use Rattle.tucson.specs.Output.{IsLine, HasReplyWords};
+ghost use Rattle.tucson.specs.Serving.{IsFresh, IsScript};
 
 use std::alloc::Global;
-use tc_centre::Core;
+use tc_centre::{Answer, Core, TurnFault};
 use tc_lists::NoMemory;
 use tc_model::{CallId, Op, Reply};
 
 /// Serves the operations one after another, as the calls 1, 2, .. of the first agent, and gives
 /// their replies.
 pub fn serve_script(alloc: Global, core: &mut Core, ops: Vec<Op>) -> Result<Vec<Reply>, NoMemory>
-    requires agent { 0 < length core.old.origin.agents }
-    requires fresh { core.old.history ≡ [] }
+    requires fresh { IsFresh core.old }
+    requires script { IsScript ops.items }
     ensures origin { core.new.origin ≡ core.old.origin }
     ensures served { IfOk result (λ log. IsServed ops.items core.new.history log.items) }
+    ensures lines { IfOk result (λ log. All IsLine core.new.history) }
+    ensures rows { IfOk result (λ log. All HasReplyWords log.items) }
 {
     let mut log = Vec::new(alloc);
     for op in ops {
@@ -21,7 +25,12 @@ pub fn serve_script(alloc: Global, core: &mut Core, ops: Vec<Op>) -> Result<Vec<
             agent: 0,
             number: log.len() as u64 + 1,
         };
-        log.push(core.turn(alloc, id, op)?)?;
+        match core.turn(alloc, id, op) {
+            Ok(Answer::Replied(reply)) => log.push(reply)?,
+            Ok(Answer::Pending) => unreachable!(),
+            Err(TurnFault::Full { .. }) => unreachable!(),
+            Err(TurnFault::NoMemory) => return Err(NoMemory),
+        }
     }
     Ok(log)
 }
