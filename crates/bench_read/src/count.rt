@@ -1,0 +1,47 @@
+//! The clauses of a text, and the nodes of their terms.
+ghost use Rattle.std.specs.Prelude.{◌≡◌, ◌≤◌};
+ghost use Rattle.tc_term.specs.Tree as tree;
+ghost use Rattle.tc_term.specs.TreeView.{tree_of};
+
+use std::alloc::Global;
+use tc_read::{ReadFault, read_clause};
+use tc_term::Term;
+
+/// How many clauses there are, and how many nodes their terms have together.
+#[derive(Clone, Copy)]
+pub struct Counts {
+    pub clauses: u64,
+    pub nodes: u64,
+}
+
+/// Reads a text to its end, or to its first fault.
+pub fn count(alloc: Global, text: &[u8]) -> Result<Counts, ReadFault> {
+    let mut counts = Counts {
+        clauses: 0,
+        nodes: 0,
+    };
+    let mut from = 0;
+    while let Some((clause, behind)) = read_clause(alloc, text, from)? {
+        counts.clauses += 1;
+        counts.nodes = counts.nodes.saturating_add(nodes(clause.term()));
+        from = behind;
+    }
+    Ok(counts)
+}
+
+/// How many nodes a term has. Recurses as deep as the term is.
+fn nodes(term: &Term) -> u64
+    requires { tree.nodes (tree_of term.now) ≤ 10000 }
+    ensures { result ≡ tree.nodes (tree_of term.now) }
+{
+    match term {
+        Term::Var(_) | Term::Atom(_) | Term::Int(_) => 1,
+        Term::Comp(_, args) => {
+            let mut all = 1;
+            for arg in args.items() {
+                all += nodes(arg);
+            }
+            all
+        }
+    }
+}
