@@ -122,3 +122,10 @@ pub keys_agree : (n : ℕ) (es : List Equation) (template : Tree) (key : Key) (r
 keys_agree n es template key rows same tuples =
     All-weaker (λ r. IsTuple r.tuple) (λ r. Matches n es template r.tuple → Agrees key r.tuple)
     (λ r tuple match. subst (λ k. Agrees k r.tuple) (sym same) (Agrees-match n es template r.tuple match tuple)) rows tuples
+
+-- where no row has the key, the template matches no tuple
+pub none_with_key : (n : ℕ) (es : List Equation) (template : Tree) (key : Key) (rows : List Row) → key ≡ key_of template
+    → All (λ r. IsTuple r.tuple) rows → NoneOf (IsCandidate key 0) rows → NoneOf (Matches n es template) (tuples_of rows)
+none_with_key n es template key rows same tuples none =
+    passed_all (Matches n es template) key 0 rows (keys_agree n es template key rows same tuples)
+    (λ k d inside older has. absurd (omega (arith, older))) none

@@ -63,6 +63,9 @@ pub fn oldest_match_of<'a>(
         (NoneOf (Matches (var_bound template.now) [] template.now) (tuples_of bag.now.now))) }
 {
     let key = Key::of(alloc, template.term())?;
+    let Some(_) = bag.candidate(&key, 0) else {
+        return Ok(None);
+    };
     let mut store = Store::new(alloc, template.vars())?;
     let found = oldest_match(&mut store, template.term(), &key, bag)?;
     Ok(found)
