@@ -1,6 +1,6 @@
 -- Histories that grow by several entries.
-use Rattle.std.proofs.Common.{◌≡◌, ◌++◌, ◌<◌, ℕ, List, [], ◌∷◌, All, ◌+◌, ◌-◌, length, length-append, take, drop, append_assoc, sym, ap, ◌∙◌, arith}
-use Rattle.std.proofs.Math.Seq.{drop-append_seam}
+use Rattle.std.proofs.Common.{◌≡◌, ◌++◌, ◌<◌, ℕ, List, [], ◌∷◌, All, ◌+◌, ◌-◌, length, length-append, take, drop, append_assoc, sym, ap, subst, ◌∙◌, ◌≤◌, arith}
+use Rattle.std.proofs.Math.Seq.{drop-append_seam, take-append_seam, drop-append-add}
 use Rattle.std.proofs.lemmas.List.{take_all}
 use Rattle.std.proofs.lemmas.List.Elements.{All-append}
 use Rattle.tc_model.specs.Calls.{id_of, calls_of}
@@ -9,7 +9,7 @@ use Rattle.tc_model.specs.declared.calls.CallId.{CallId}
 use Rattle.tc_model.specs.declared.calls.Op.{Op}
 use Rattle.tc_model.specs.declared.entries.Entry.{Entry}
 use Rattle.tc_model.specs.declared.entries.Entry.TheVariants.{Called}
-use Rattle.tc_centre.specs.Held.{Answers, Calls}
+use Rattle.tc_centre.specs.Held.{Answers, Calls, Grows}
 use Rattle.tc_centre.specs.Turns.{IsGave}
 use Rattle.tc_centre.proofs.FreshReplies.{outcome_in-fresh}
 
@@ -42,3 +42,21 @@ new-reply old called new whole id op n above calls answers same start =
     ap (λ es. reply_in es id) grown
     ∙ ap reply_of (outcome_in-fresh old more id above)
     ∙ sym (ap (λ es. reply_in es id) (slice-behind old more whole n (same ∙ grown) start))
+
+-- what a call and the answers to requests have left, by the length of the history before
+module _ (id : CallId) (op : Op) (old new : List Entry) (n : ℕ) (start : n ≡ length old) (grown : Grows id op old new) where
+  pub grown-before : take n new ≡ old
+  grown-before = ap (λ m. take m new) start ∙ ap (take (length old)) grown.history
+      ∙ take-append_seam old (Called id op grown.result grown.items ∷ grown.gaves)
+
+  pub grown-longer : n ≤ length new
+  grown-longer =
+      let count = ap length grown.history ∙ length-append old (Called id op grown.result grown.items ∷ grown.gaves) in
+      omega (arith, start, count)
+
+  pub grown-answers : All IsGave (drop (n + 1) new)
+  grown-answers =
+      subst (All IsGave)
+      (sym (ap (λ m. drop (m + 1) new) start ∙ ap (drop (length old + 1)) grown.history
+      ∙ drop-append-add old (Called id op grown.result grown.items ∷ grown.gaves) 1))
+      grown.answers

@@ -8,4 +8,6 @@ pub mod Room
 pub mod Growing
 pub mod Called
 pub mod Turned
+pub mod Indexed
+pub mod Noting
 pub mod TestLists

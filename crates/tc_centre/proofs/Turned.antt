@@ -1,5 +1,5 @@
 -- What a turn and a look have done, as their callers see it.
-use Rattle.std.proofs.Common.{◌≡◌, ◌+◌, ◌*◌, ◌<◌, ◌≤◌, ◌++◌, ℕ, false, true, List, [], ◌∷◌, length, refl, sym, ap, subst, ◌∙◌, ⊎_elim, arith}
+use Rattle.std.proofs.Common.{◌≡◌, ◌+◌, ◌*◌, ◌<◌, ◌≤◌, ◌++◌, ℕ, false, true, List, [], ◌∷◌, length, refl, sym, ap, subst, ◌∙◌, ⊎_elim, Option, arith}
 use Rattle.std.proofs.lemmas.Bool.{cases_lt, true≢false}
 use Rattle.tc_bag.specs.Stock.{Row}
 use Rattle.tc_model.specs.Entries.{weight}
@@ -13,12 +13,14 @@ use Rattle.tc_model.specs.declared.entries.Entry.{Entry}
 use Rattle.tc_model.specs.declared.entries.Entry.TheVariants.{Called, Looked}
 use Rattle.tc_centre.specs.Centre.{Centre}
 use Rattle.tc_centre.specs.Held.{origin_of, IsSettled, Grows}
+use Rattle.tc_centre.specs.Places.{IsIndex}
 use Rattle.tc_centre.specs.Turns.{IsAnswer, Serves, IsPoll, Tells}
 use Rattle.tc_centre.specs.declared.answers.Answer.{Answer}
 use Rattle.tc_centre.specs.declared.answers.Poll.{Poll}
 use Rattle.tc_centre.specs.declared.founding.Founding.{Founding}
 use Rattle.tc_centre.proofs.Entries.{weight-push}
 use Rattle.tc_centre.proofs.Called.{looked}
+use Rattle.tc_centre.proofs.Indexed.{index-looked}
 
 -- the centre of a founding and a history
 abbrev pub centre_with : Founding → List Entry → Centre
@@ -75,3 +77,11 @@ module _ (f : Founding) (old new : List Entry) (rows : List Row) (n : ℕ) (requ
       → new ≡ old ++ Looked id asked (reply_in old (earlier id asked)) ∷ [] → kept + 1 ≡ weight new
   look-weight asked kept weighs grown =
       ap (λ w. w + 1) weighs ∙ sym (ap weight grown ∙ weight-push old (Looked id asked (reply_in old (earlier id asked))))
+
+  -- the index of the old history is one of the new
+  pub look-places : (asked : ℕ) (f : CallId → Option ℕ) → IsNext centre.origin centre.history id → IsIndex f old
+      → new ≡ old ++ Looked id asked (reply_in old (earlier id asked)) ∷ [] → IsIndex f new
+  look-places asked f next index grown =
+      let P : Centre → Type 0 = λ k. IsNext k.origin k.history id in
+      subst (IsIndex f) (sym grown)
+      (index-looked old id asked (reply_in old (earlier id asked)) f (subst P (sym view) next).number index)

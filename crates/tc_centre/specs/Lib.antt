@@ -2,4 +2,5 @@ pub mod Centre
 pub mod Turns
 pub mod Held
 pub mod Operations
+pub mod Places
 pub mod Core

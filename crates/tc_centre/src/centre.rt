@@ -1,12 +1,13 @@
 //! The centre and its history.
 ghost use Rattle.std.specs.Prelude.{◌≡◌, ◌↔◌, ◌+◌, ◌*◌, ◌<◌, ◌≤◌, [], ◌∷◌, ◌++◌, IsTrue, IfOk, OnOk, OnErr};
 ghost use Rattle.tc_model.specs.Replies.{reply_in};
-ghost use Rattle.tc_model.specs.Run.{earlier};
+ghost use Rattle.tc_model.specs.Run.{HasCall, earlier};
+ghost use Rattle.tc_centre.specs.Places.{place_in, IsIndex};
 ghost use Rattle.tc_centre.specs.Turns.{IsPoll};
 
 use crate::answers::{Answer, Poll, PollFault, TurnFault};
 use crate::founding::{Founding, fill};
-use crate::replies::{has_call, reply_to};
+use crate::places::{Places, has_call, note_turn, reply_to_call};
 use crate::serving::guarded;
 use crate::weights::weigh;
 use std::alloc::Global;
@@ -21,13 +22,15 @@ use tc_term::{Ground, Name};
 // What a history may weigh.
 const MOST: u64 = 4_000_000;
 
-/// A tuple centre: what it began with, its tuples, the requests that wait, and its history.
+/// A tuple centre: what it began with, its tuples, the requests that wait, and its history, with the
+/// places in it that tell what became of its calls.
 #[derive(Drop)]
 pub struct Core {
     founding: Founding,
     bag: Bag,
     pending: Pending,
     history: Vec<Entry>,
+    places: Places,
     weight: u64,
 }
 
@@ -79,6 +82,7 @@ impl Core {
             bag,
             pending: Pending::new(alloc),
             history: Vec::new(alloc),
+            places: Places::new(alloc),
             weight: 0,
         })
     }
@@ -104,6 +108,9 @@ impl Core {
                 pending: waiting,
             });
         }
+        if self.places.reserve(1).is_err() {
+            return Err(TurnFault::NoMemory);
+        }
         let before = self.history.len();
         match guarded(
             alloc,
@@ -116,6 +123,7 @@ impl Core {
         ) {
             Ok(answer) => {
                 self.weight += weigh(&self.history[before..]);
+                note_turn(&mut self.places, &self.history, before);
                 Ok(answer)
             }
             Err(_) => Err(TurnFault::NoMemory),
@@ -124,7 +132,7 @@ impl Core {
 
     /// Tells an agent the reply to its earlier call of the number `asked`, and appends an entry of that.
     ///
-    /// Takes time in proportion to the history.
+    /// Takes about the same time however long the history is.
     pub fn poll(&mut self, alloc: Global, id: CallId, asked: u64) -> Result<Poll, PollFault>
         requires { IsNext self.old.origin self.old.history id }
         ensures told { IfOk result (Tells self.old self.new id asked) }
@@ -139,7 +147,7 @@ impl Core {
             agent: id.agent,
             number: asked,
         };
-        if !has_call(&self.history, call) {
+        if !has_call(&self.places, &self.history, call) {
             return Err(PollFault::Stranger);
         }
         let waiting = self.pending.list().len() as u64;
@@ -149,7 +157,7 @@ impl Core {
                 pending: waiting,
             });
         }
-        match look_up(alloc, id, asked, &mut self.history) {
+        match look_up(alloc, id, asked, &self.places, &mut self.history) {
             Ok(poll) => {
                 self.weight += 1;
                 Ok(poll)
@@ -158,13 +166,13 @@ impl Core {
         }
     }
 
-    /// The reply to a call of the history; `None` while it waits. Takes time in proportion to the
-    /// history.
+    /// The reply to a call of the history; `None` while it waits. Takes about the same time however
+    /// long the history is.
     pub fn look(&self, alloc: Global, id: CallId) -> Result<Option<Reply>, NoMemory>
         requires { HasCall id self.now.history }
         ensures { IfOk result (λ reply. reply ≡ reply_in self.now.history id) }
     {
-        reply_to(alloc, &self.history, id)
+        reply_to_call(alloc, &self.places, &self.history, id)
     }
 
     /// The entries so far, oldest first.
@@ -230,8 +238,11 @@ fn look_up(
     alloc: Global,
     id: CallId,
     asked: u64,
+    places: &Places,
     history: &mut Vec<Entry>,
 ) -> Result<Poll, NoMemory>
+    requires places { IsIndex (place_in places.now) history.old.items }
+    requires called { HasCall (earlier id asked) history.old.items }
     ensures poll { IfOk result (IsPoll (reply_in history.old.items (earlier id asked))) }
     ensures appended { OnOk result (history.new.items ≡ history.old.items
         ++ Entry.Looked id asked (reply_in history.old.items (earlier id asked)) ∷ []) }
@@ -241,7 +252,7 @@ fn look_up(
         agent: id.agent,
         number: asked,
     };
-    let Some(reply) = reply_to(alloc, history, call)? else {
+    let Some(reply) = reply_to_call(alloc, places, history, call)? else {
         history.push(Entry::Looked {
             id,
             asked,

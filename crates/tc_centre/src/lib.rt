@@ -9,6 +9,7 @@ mod answers;
 mod centre;
 mod founding;
 mod operations;
+mod places;
 mod replies;
 mod serving;
 #[cfg(test)]

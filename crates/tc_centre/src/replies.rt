@@ -1,8 +1,7 @@
 //! What a history tells of a call.
-ghost use Rattle.std.specs.Prelude.{◌≡◌, ◌↔◌, IfOk, IfSome, IfNone, IsTrue};
-ghost use Rattle.tc_model.specs.Calls.{IsCallOf};
+ghost use Rattle.std.specs.Prelude.{◌≡◌, IfOk, IfSome, IfNone};
+ghost use Rattle.tc_centre.specs.Places.{reply_from};
 ghost use Rattle.tc_model.specs.Replies.{reply_of, outcome_given, outcome_in, reply_in};
-ghost use Rattle.tc_model.specs.Run.{HasCall};
 
 use std::alloc::Global;
 use tc_lists::{NoMemory, Seq};
@@ -15,23 +14,6 @@ pub fn reply_to(alloc: Global, entries: &[Entry], id: CallId) -> Result<Option<R
     match outcome_of(entries, id) {
         Some(outcome) => reply_for(alloc, outcome),
         None => Ok(None),
-    }
-}
-
-/// Whether the call stands among the entries.
-pub fn has_call(entries: &[Entry], id: CallId) -> bool
-    ensures { IsTrue result ↔ HasCall id entries.now }
-{
-    entries.iter().any(|entry| is_call_of(entry, id))
-}
-
-// The entry is the call of this id.
-fn is_call_of(entry: &Entry, id: CallId) -> bool
-    ensures { IsTrue result ↔ IsCallOf id entry.now }
-{
-    match entry {
-        Entry::Called { id: called, .. } => *called == id,
-        Entry::Gave { .. } | Entry::Looked { .. } => false,
     }
 }
 
@@ -76,6 +58,16 @@ fn given(entries: &[Entry], id: CallId) -> Option<&Outcome>
         }
     }
     None
+}
+
+/// The reply that an entry gives to its call; `None` where it gives none.
+pub fn reply_given(alloc: Global, entry: &Entry) -> Result<Option<Reply>, NoMemory>
+    ensures { IfOk result (λ reply. reply ≡ reply_from entry.now) }
+{
+    match entry {
+        Entry::Called { outcome, .. } | Entry::Gave { outcome, .. } => reply_for(alloc, outcome),
+        Entry::Looked { .. } => Ok(None),
+    }
 }
 
 // What the agent is told of an outcome.

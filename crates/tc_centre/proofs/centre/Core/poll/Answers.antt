@@ -1,7 +1,8 @@
 use Rattle.std.proofs.Common.{ap, length, refl, subst}
-use Rattle.tc_centre.proofs.Turned.{tells, look-settled, look-weight}
+use Rattle.tc_centre.proofs.Turned.{tells, look-settled, look-weight, look-places}
 use Rattle.tc_model.specs.Run.{HasCall, earlier}
 use Rattle.tc_centre.specs.Core.{IsSound}
+use Rattle.tc_centre.specs.Places.{place_in}
 use Rattle.tc_centre.proofs.centre.Core.poll.Goals as goal
 
 has_call : (c : goal.After-self-1) → HasCall (earlier c.args.id c.args.asked) c.self.inside.history.items
@@ -19,6 +20,9 @@ invariant_of-self c = record {
   weight = look-weight c.self.inside.founding c.self.inside.history.items c.look_up.new.history.items
       c.self.inside.bag.now c.self.inside.bag.next c.self.inside.pending.now c.args.self.now c.args.id c.self.view_is
       c.args.asked c.self.inside.weight c.self.invariant.weight c.in-Ok.ensures.appended;
+  places = look-places c.self.inside.founding c.self.inside.history.items c.look_up.new.history.items
+      c.self.inside.bag.now c.self.inside.bag.next c.self.inside.pending.now c.args.self.now c.args.id c.self.view_is
+      c.args.asked (place_in c.self.inside.places) c.requires c.self.invariant.places c.in-Ok.ensures.appended;
   bag_unmarked = c.self.invariant.bag_unmarked;
   pending_unmarked = c.self.invariant.pending_unmarked;
 }
