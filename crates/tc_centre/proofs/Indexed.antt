@@ -127,9 +127,10 @@ module _ (origin : Origin) (history : List Entry) (f g : CallId → Option ℕ) 
       let requests : List Request = (after_history (opening origin) history).pending in
       let waiting : AreWaiting history requests = waiting-run origin history run in
       let r : Request = answered.request in
-      subst (λ i. HasCall i history × (reply_in history i ≡ None)) answered.asked
-      (All-contains (λ q. HasCall q.id history) requests r waiting.called answered.chosen.0,
-      All-contains (λ q. reply_in history q.id ≡ None) requests r waiting.unanswered answered.chosen.0)
+      subst (λ i. HasCall i history × (reply_in history i ≡ None)) answered.asked (
+        All-contains (λ q. HasCall q.id history) requests r waiting.called answered.chosen.0,
+        All-contains (λ q. reply_in history q.id ≡ None) requests r waiting.unanswered answered.chosen.0,
+      )
 
   -- an answered call has a place
   pub answered-place : IsRun origin history → (id : CallId) (result : Outcome) (items : List Item)

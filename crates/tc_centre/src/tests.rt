@@ -1,7 +1,7 @@
 //! Rows of calls: which history they leave, and what the callers are told.
-ghost use Rattle.std.specs.Prelude.{◌≡◌, ◌≢◌, ◌<◌, ◌≤◌, false, true, All, AllPairs, IfOk, IfSome, length};
-ghost use Rattle.tc_model.specs.Calls.{id_of, is_call_of, calls_of};
-ghost use Rattle.tc_model.specs.Run.{IsNext};
+ghost use Rattle.std.specs.Prelude.{◌≡◌, ◌≢◌, ◌↔◌, ◌<◌, ◌≤◌, false, true, All, AllPairs, IfOk, IfSome, IsTrue, length};
+ghost use Rattle.tc_model.specs.Calls.{id_of, is_call_of, calls_of, IsCallOf};
+ghost use Rattle.tc_model.specs.Run.{IsNext, HasCall};
 ghost use Rattle.tc_centre.specs.Turns.{IsOnTuples};
 
 use crate::{Answer, Core, Poll, PollFault, TurnFault};
@@ -448,6 +448,94 @@ fn a_look_tells_what_became_of_a_call(rt: HostRuntime) -> Result<(), Fail> {
         Line::Looked(0, 3, 1, Told::P(1)),
     ];
     assert!(rt; has_lines(&core, &lines));
+    Ok(())
+}
+
+// The entry is the call of this id.
+fn is_call(entry: &Entry, id: CallId) -> bool
+    ensures { IsTrue result ↔ IsCallOf id entry.now }
+{
+    match entry {
+        Entry::Called { id: called, .. } => *called == id,
+        Entry::Gave { .. } | Entry::Looked { .. } => false,
+    }
+}
+
+// Whether the call stands among the entries.
+fn stands(entries: &[Entry], id: CallId) -> bool
+    ensures { IsTrue result ↔ HasCall id entries.now }
+{
+    entries.iter().any(|entry| is_call(entry, id))
+}
+
+// The reply to an earlier call, as these rows tell it.
+fn replied(core: &Core, alloc: Global, id: CallId) -> Result<Told, Fail> {
+    if !stands(core.history(), id) {
+        return Err(Fail::new("no such call"));
+    }
+    match core.look(alloc, id)? {
+        Some(reply) => Ok(told_reply(&reply)),
+        None => Ok(Told::Pending),
+    }
+}
+
+// Whether these earlier calls, by agent and number, have these replies, and their agents are told so.
+fn tells_of(core: &mut Core, alloc: Global, calls: &[(u32, u64, Told)]) -> Result<bool, Fail> {
+    for (agent, number, want) in calls {
+        let id = CallId {
+            agent: *agent,
+            number: *number,
+        };
+        let reply = replied(core, alloc, id)?;
+        if reply != *want || look(core, alloc, *agent, *number)? != *want {
+            return Ok(false);
+        }
+    }
+    Ok(true)
+}
+
+// Whether so many calls of an agent for a tuple p(n) are told that there is none.
+fn none_there(core: &mut Core, alloc: Global, agent: u32, count: u32) -> Result<bool, Fail> {
+    for _ in 0..count {
+        if call(core, alloc, agent, Ask::Rdp)? != Told::NoTuple {
+            return Ok(false);
+        }
+    }
+    Ok(true)
+}
+
+#[test]
+fn a_call_is_found_among_many(rt: HostRuntime) -> Result<(), Fail> {
+    let alloc = rt.alloc();
+    let mut core = empty(alloc, b"abd")?;
+    let calls = [
+        (0, Ask::In, Told::Pending),
+        (1, Ask::Twice, Told::Pending),
+        (1, Ask::In, Told::Pending),
+    ];
+    let wait = tells(&mut core, alloc, &calls)?;
+    let none = none_there(&mut core, alloc, 2, 100)?;
+    let out = tells(&mut core, alloc, &[(2, Ask::Out, Told::Done)])?;
+    assert!(rt; wait && none && out);
+    let early = [
+        (0, 1, Told::P(1)),
+        (1, 1, Told::Pending),
+        (1, 2, Told::Pending),
+        (2, 1, Told::NoTuple),
+        (2, 100, Told::NoTuple),
+        (2, 101, Told::Done),
+    ];
+    let told = tells_of(&mut core, alloc, &early)?;
+    assert!(rt; told);
+    let out = tells(&mut core, alloc, &[(0, Ask::Out, Told::Done)])?;
+    let late = [
+        (0, 1, Told::P(1)),
+        (1, 1, Told::Pending),
+        (1, 2, Told::P(1)),
+        (0, 3, Told::Done),
+    ];
+    let told = tells_of(&mut core, alloc, &late)?;
+    assert!(rt; out && told);
     Ok(())
 }
 

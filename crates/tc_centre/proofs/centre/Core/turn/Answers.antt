@@ -13,9 +13,10 @@ use Rattle.tc_centre.proofs.centre.Core.turn.Goals as goal
 
 pub note_turn-requires-clause-run : goal.note_turn-requires-clause-run
 note_turn-requires-clause-run c =
-    subst IsSomeRun (sym c.deref-in-Ok.ensures.value)
-    (origin_of c.self.inside.founding,
-    IsRun-first (origin_of c.self.inside.founding) c.guarded.new.history.items c.in-Ok.ensures.settled.holds.run)
+    subst IsSomeRun (sym c.deref-in-Ok.ensures.value) (
+      origin_of c.self.inside.founding,
+      IsRun-first (origin_of c.self.inside.founding) c.guarded.new.history.items c.in-Ok.ensures.settled.holds.run,
+    )
 
 pub note_turn-requires-clause-answers : goal.note_turn-requires-clause-answers
 note_turn-requires-clause-answers c =
