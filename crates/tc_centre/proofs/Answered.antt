@@ -1,17 +1,14 @@
 -- The answer to the request that is next is legal, and leads to what is held then.
-use Rattle.std.proofs.Common.{◌≡◌, ◌++◌, ◌+◌, ◌<◌, ℕ, Bool, true, false, if◌then◌else◌, List, [], ◌∷◌, All, AllPairs, Contains, Some, suc, zero, get_or, ◌≤◌, length, take, drop, slice_get, refl, sym, ap, subst, ◌∙◌, arith}
+use Rattle.std.proofs.Common.{◌≡◌, ◌++◌, ◌+◌, ◌<◌, ℕ, false, List, [], ◌∷◌, AllPairs, Contains, Some, suc, zero, get_or, length, take, drop, slice_get, refl, sym, ap, subst, ◌∙◌, arith}
 use Rattle.std.specs.List.{remove}
-use Rattle.tc_lists.specs.Firsts.{NoneOf, IsFirst}
+use Rattle.tc_lists.specs.Firsts.{IsFirst}
 use Rattle.tc_term.specs.Tree.{Tree}
-use Rattle.tc_term.specs.Variables.{var_bound}
-use Rattle.tc_bag.specs.Stock.{Row, tuples_of, tuple_at, without_age}
-use Rattle.tc_search.specs.Found.{IsFound}
+use Rattle.tc_bag.specs.Stock.{Row, tuples_of, tuple_at}
 use Rattle.tc_pending.specs.Answers.{IsNextAnswer}
 use Rattle.tc_model.specs.Calls.{same_id}
 use Rattle.tc_model.specs.Choices.{TheFirst}
 use Rattle.tc_model.specs.State.{Origin, IsAnswerable, IsMatch, after_taking, without_request, after_entry}
 use Rattle.tc_model.specs.Run.{IsLegal}
-use Rattle.tc_model.specs.declared.calls.CallId.{CallId}
 use Rattle.tc_model.specs.declared.calls.Request.{Request}
 use Rattle.tc_model.specs.Entries.{weight}
 use Rattle.tc_model.specs.declared.items.Item.{Item}

@@ -3,8 +3,7 @@ use Rattle.std.proofs.Common.{◌≡◌, ◌+◌, ◌*◌, ◌≤◌, ◌++◌, 
 use Rattle.tc_bag.specs.Stock.{Row}
 use Rattle.tc_model.specs.Choices.{TheFirst}
 use Rattle.tc_model.specs.Entries.{weight}
-use Rattle.tc_model.specs.Run.{IsNext, IsLegal, IsFirstRun, IsTold, earlier}
-use Rattle.tc_model.specs.Replies.{reply_in}
+use Rattle.tc_model.specs.Run.{IsNext, IsTold}
 use Rattle.tc_model.specs.State.{Origin, after_call}
 use Rattle.tc_model.specs.Tables.{IsServed}
 use Rattle.tc_model.specs.declared.calls.CallId.{CallId}

@@ -1,10 +1,10 @@
 -- A legal entry behind what is held leads to what is held then.
-use Rattle.std.proofs.Common.{◌≡◌, ◌+◌, ◌*◌, ◌≤◌, ℕ, List, [], ◌∷◌, ◌++◌, length, refl, sym, ap, subst, ◌∙◌, arith}
+use Rattle.std.proofs.Common.{◌≡◌, ◌+◌, ◌*◌, ◌≤◌, ℕ, List, [], ◌∷◌, ◌++◌, length, sym, ap, subst, ◌∙◌, arith}
 use Rattle.std.proofs.lemmas.List.Sums.{sum_by-append}
 use Rattle.tc_bag.specs.Stock.{Row}
 use Rattle.tc_model.specs.Choices.{TheFirst}
 use Rattle.tc_model.specs.Entries.{weight_of, weight}
-use Rattle.tc_model.specs.Run.{IsLegal, IsFirstRun}
+use Rattle.tc_model.specs.Run.{IsLegal}
 use Rattle.tc_model.specs.State.{State, Origin, opening, after_entry, after_history}
 use Rattle.tc_model.specs.declared.calls.Request.{Request}
 use Rattle.tc_model.specs.declared.entries.Entry.{Entry}

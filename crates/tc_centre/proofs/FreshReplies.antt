@@ -1,5 +1,5 @@
 -- The reply to a call that is new in a history is the one that the new entries give.
-use Rattle.std.proofs.Common.{◌≡◌, ◌<◌, ◌++◌, ◌==◌, ℕ, Bool, true, false, cond, List, [], ◌∷◌, All, refl, ap, ◌∙◌}
+use Rattle.std.proofs.Common.{◌≡◌, ◌<◌, ◌++◌, Bool, false, cond, List, [], ◌∷◌, All, refl, ap, ◌∙◌}
 use Rattle.tc_model.specs.Calls.{id_of, same_id, is_call_of, calls_of}
 use Rattle.tc_model.specs.Replies.{or_given, outcome_given, outcome_in}
 use Rattle.tc_model.specs.declared.calls.CallId.{CallId}

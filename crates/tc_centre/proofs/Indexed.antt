@@ -1,16 +1,15 @@
 -- An index stays one where the entries that it is told of are appended.
-use Rattle.std.proofs.Common.{◌≡◌, ℕ, ◌+◌, ◌<◌, Bool, true, false, cond, List, [], ◌∷◌, ◌++◌, All, Contains, Option, Some, None, length, slice_get, get_or, take, suc, add-one, refl, sym, ap, subst, ◌∙◌, ⊎_elim, arith}
+use Rattle.std.proofs.Common.{◌≡◌, ℕ, ◌<◌, Bool, true, false, cond, List, [], ◌∷◌, ◌++◌, All, Option, Some, None, length, get_or, refl, sym, ap, subst, ◌∙◌, ⊎_elim, arith}
 use Rattle.std.specs.Option.{MatchOption, is_some}
 use Rattle.std.proofs.lemmas.Bool.{cases_Bool, both_ways, true≢false}
-use Rattle.std.proofs.lemmas.List.{length-take, take_more}
 use Rattle.std.proofs.lemmas.List.Elements.{All-contains, Contains-push}
-use Rattle.std.proofs.lemmas.Option.{slice_get_within, get_or_from_slice_get}
+use Rattle.std.proofs.lemmas.Option.{get_or_from_slice_get}
 use Rattle.tc_lists.proofs.Places.{slice_get_longer, slice_get_pushed}
 use Rattle.tc_model.specs.Calls.{id_of, same_id, calls_of, IsCallOf}
 use Rattle.tc_model.specs.Choices.{AnyOne}
-use Rattle.tc_model.specs.Replies.{reply_of, reply_in}
-use Rattle.tc_model.specs.Run.{HasCall, IsRun, IsNext, IsAnswered, IsLegal, EachEntry}
-use Rattle.tc_model.specs.State.{State, Origin, opening, after_history}
+use Rattle.tc_model.specs.Replies.{reply_in}
+use Rattle.tc_model.specs.Run.{HasCall, IsRun, IsNext, IsAnswered}
+use Rattle.tc_model.specs.State.{Origin, opening, after_history}
 use Rattle.tc_model.specs.Waiting.{AreWaiting}
 use Rattle.tc_model.specs.declared.calls.CallId.{CallId}
 use Rattle.tc_model.specs.declared.calls.Op.{Op}
@@ -22,7 +21,7 @@ use Rattle.tc_model.specs.declared.entries.Entry.{Entry}
 use Rattle.tc_model.specs.declared.entries.Entry.TheVariants.{Called, Gave, Looked}
 use Rattle.tc_model.proofs.NextEntry.{same_id-true, same_id-at, call-id, HasCall-grows, HasCall-push_cases, HasCall-other}
 use Rattle.tc_model.proofs.NextEntry.{reply_in-other, reply_in-called, reply_in-given}
-use Rattle.tc_model.proofs.Runs.{EachEntry-IsPrefix, IsRun-well_formed}
+use Rattle.tc_model.proofs.Runs.{IsRun-well_formed}
 use Rattle.tc_model.proofs.WaitingCalls.{waiting-run}
 use Rattle.tc_centre.specs.Places.{reply_from, IsToldAt, IsIndex}
 

@@ -1,17 +1,15 @@
 -- An operation that is done on what is held has a legal outcome, and leads to what is held then.
-use Rattle.std.proofs.Common.{◌≡◌, ◌++◌, ℕ, Bool, true, false, List, [], ◌∷◌, refl, sym, ap, ◌∙◌}
-use Rattle.tc_lists.specs.Firsts.{NoneOf, IsFirst}
+use Rattle.std.proofs.Common.{◌≡◌, ◌++◌, true, false, List, [], ◌∷◌, ap}
 use Rattle.tc_term.specs.Tree.{Tree}
 use Rattle.tc_bag.specs.Stock.{Row, tuples_of}
 use Rattle.tc_model.specs.Choices.{TheFirst}
-use Rattle.tc_model.specs.State.{State, Origin, after_call}
+use Rattle.tc_model.specs.State.{Origin, after_call}
 use Rattle.tc_model.specs.Tables.{IsServed}
 use Rattle.tc_model.specs.declared.calls.CallId.{CallId}
-use Rattle.tc_model.specs.declared.calls.Op.{Op}
 use Rattle.tc_model.specs.declared.calls.Op.TheVariants.{Out, In, Rd, Inp, Rdp}
 use Rattle.tc_model.specs.declared.calls.Request.{Request}
 use Rattle.tc_model.specs.declared.outcomes.Outcome.{Outcome}
-use Rattle.tc_model.specs.declared.outcomes.Outcome.TheVariants.{Done, Took, NoTuple, Pending, Spec, Over}
+use Rattle.tc_model.specs.declared.outcomes.Outcome.TheVariants.{Done, Took, NoTuple, Pending}
 use Rattle.tc_centre.specs.Held.{held}
 use Rattle.tc_centre.specs.Operations.{IsSearched}
 use Rattle.tc_centre.proofs.Phases.{whole-without}

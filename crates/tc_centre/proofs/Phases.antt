@@ -1,5 +1,5 @@
 -- Without clauses every phase is whole, and has no items.
-use Rattle.std.proofs.Common.{◌≡◌, ◌<◌, ◌≤◌, ◌↔◌, ℕ, List, [], ◌∷◌, AllPairs, Contains, refl, arith}
+use Rattle.std.proofs.Common.{ℕ, List, [], refl, arith}
 use Rattle.std.proofs.lemmas.Option.{slice_get_within}
 use Rattle.tc_term.specs.Tree.{Tree}
 use Rattle.tc_model.specs.Choices.{Choice}

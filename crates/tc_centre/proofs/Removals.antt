@@ -1,6 +1,5 @@
 -- The first of a list that has a property is the one that is removed as the first equal to it.
-use Rattle.std.proofs.Common.{◌≡◌, ◌++◌, List, [], ◌∷◌, Bool, true, false, cond, ℕ, if◌then◌else◌, Contains, suc, refl, sym, ap, subst, ◌∙◌, arith}
-use Rattle.std.proofs.lemmas.Bool.{true≢false}
+use Rattle.std.proofs.Common.{◌≡◌, ◌++◌, List, [], ◌∷◌, Bool, true, false, cond, ℕ, if◌then◌else◌, suc, refl, sym, ap, subst, ◌∙◌, arith}
 use Rattle.tc_lists.specs.Firsts.{NoneOf, IsFirst}
 use Rattle.tc_term.specs.Tree.{Tree}
 use Rattle.tc_term.specs.Same.{same_tree, same_tree-Decides}

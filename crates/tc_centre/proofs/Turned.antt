@@ -1,10 +1,10 @@
 -- What a turn and a look have done, as their callers see it.
-use Rattle.std.proofs.Common.{◌≡◌, ◌+◌, ◌*◌, ◌<◌, ◌≤◌, ◌++◌, ℕ, false, true, List, [], ◌∷◌, length, refl, sym, ap, subst, ◌∙◌, ⊎_elim, Option, arith}
+use Rattle.std.proofs.Common.{◌≡◌, ◌+◌, ◌*◌, ◌<◌, ◌≤◌, ◌++◌, ℕ, false, true, List, [], ◌∷◌, length, refl, sym, ap, subst, ◌∙◌, ⊎_elim, Option}
 use Rattle.std.proofs.lemmas.Bool.{cases_lt, true≢false}
 use Rattle.tc_bag.specs.Stock.{Row}
 use Rattle.tc_model.specs.Entries.{weight}
 use Rattle.tc_model.specs.Replies.{reply_in}
-use Rattle.tc_model.specs.Run.{IsNext, IsFirstRun, IsTold, HasCall, earlier}
+use Rattle.tc_model.specs.Run.{IsNext, IsFirstRun, HasCall, earlier}
 use Rattle.tc_model.specs.State.{IsQuiescent}
 use Rattle.tc_model.specs.declared.calls.CallId.{CallId}
 use Rattle.tc_model.specs.declared.calls.Op.{Op}

@@ -1,6 +1,5 @@
 -- What a turn of a centre does.
 use Rattle.std.specs.Prelude.{◌≡◌, ℕ, Option, Some, None, List, [], ◌∷◌, ◌++◌, All}
-use Rattle.tc_model.specs.Calls.{same_id}
 use Rattle.tc_model.specs.Replies.{reply_in}
 use Rattle.tc_model.specs.Run.{IsFirstRun, HasCall, earlier}
 use Rattle.tc_model.specs.State.{IsQuiescent}

@@ -1,5 +1,3 @@
-use Rattle.tc_centre.specs.Places.{place_in}
-use Rattle.std.specs.HashMap.{spare}
 use Rattle.tc_centre.proofs.Noting.{call-is-first}
 use Rattle.tc_centre.proofs.places.note_turn.Goals as goal
 

@@ -1,4 +1,4 @@
-use Rattle.std.proofs.Common.{◌≡◌, ◌∙◌, sym}
+use Rattle.std.proofs.Common.{◌∙◌, sym}
 use Rattle.tc_centre.proofs.Growing.{new-reply}
 use Rattle.tc_centre.proofs.serving.serve.Goals as goal
 

@@ -1,7 +1,6 @@
 use Rattle.std.proofs.Common.{ap, length, refl, subst}
 use Rattle.tc_centre.proofs.Turned.{tells, look-settled, look-weight, look-places}
 use Rattle.tc_model.specs.Run.{HasCall, earlier}
-use Rattle.tc_centre.specs.Core.{IsSound}
 use Rattle.tc_centre.specs.Places.{place_in}
 use Rattle.tc_centre.proofs.centre.Core.poll.Goals as goal
 

@@ -1,4 +1,4 @@
-use Rattle.std.proofs.Common.{◌≡◌, ◌+◌, ◌∙◌, All, length, take, drop, sym, ap, subst}
+use Rattle.std.proofs.Common.{◌+◌, ◌∙◌, All, take, drop, sym, ap, subst}
 use Rattle.tc_bag.specs.Stock.{Stock}
 use Rattle.tc_pending.specs.Waiting.{Waiting}
 use Rattle.tc_model.specs.Entries.{weight}
