@@ -4,6 +4,7 @@ pub mod Meanings
 pub mod Unique
 pub mod Built
 pub mod Loop
+pub mod Framed
 pub mod Lexemes
 pub mod Quotes
 pub mod Blanks

@@ -1,39 +1,81 @@
 -- What stands open, and where the reader stands, as the code has it.
-use Rattle.std.specs.Prelude.{◌≡◌, List, map, reverse, Option, Some, None}
+use Rattle.std.specs.Prelude.{◌≡◌, ℕ, zero, suc, List, [], ◌∷◌, map, reverse, Option, Some, None}
 use Rattle.tc_term.specs.Grammar as grammar
 use Rattle.tc_read.specs.Machine as machine
-use Rattle.tc_read.specs.Kept.{Kept}
+use Rattle.tc_read.specs.Kept.{Kept, Large}
 use Rattle.tc_read.specs.Views.{operator_view, token_view}
-use Rattle.tc_read.specs.Items.{kept_item, done_of}
+use Rattle.tc_read.specs.Items.{done_of}
 use Rattle.tc_read.specs.declared.frames.Frame.{Frame}
 use Rattle.tc_read.specs.declared.frames.Frame.TheVariants.{Between, Negated, Group, Args, Elements, Tail}
+use Rattle.tc_read.specs.declared.frames.Stack.{Stack}
 use Rattle.tc_read.specs.declared.frames.Step.{Step}
 use Rattle.tc_read.specs.declared.frames.State.{State}
 use Rattle.tc_read.specs.declared.frames.State.TheVariants.{Awaits, Holds, Ends}
 
-abbrev pub frame_view : Frame → machine.Frame Kept
-frame_view (Between operator left) = machine.Between (operator_view operator) (kept_item left)
-frame_view Negated = machine.Negated
-frame_view Group = machine.Group
-frame_view (Args name done) = machine.Args name (done_of done.items)
-frame_view (Elements done) = machine.Elements (done_of done.items)
-frame_view (Tail done) = machine.Tail (done_of done.items)
+-- the last item, which comes first here
+abbrev pub top : List Kept → Kept
+top [] = Large
+top (k ∷ ks) = k
 
--- the stack, innermost first
-abbrev pub opened : List Frame → List (machine.Frame Kept)
-opened frames = reverse (map frame_view frames)
+-- the items before the last
+abbrev pub below : List Kept → List Kept
+below [] = []
+below (k ∷ ks) = ks
 
-abbrev pub standing : State → machine.Standing Kept
-standing Awaits = machine.Awaits
-standing (Holds item priority) = machine.Holds (kept_item item) priority
-standing (Ends item) = machine.Ends (kept_item item)
+-- so many of the last items
+abbrev pub tops : ℕ → List Kept → List Kept
+tops zero ks = []
+tops (suc n) ks = top ks ∷ tops n (below ks)
+
+-- the items before so many of the last
+abbrev pub under : ℕ → List Kept → List Kept
+under zero ks = ks
+under (suc n) ks = under n (below ks)
+
+-- the frames, innermost first, with their items
+abbrev pub framed : List Frame → List Kept → List (machine.Frame Kept)
+framed [] ks = []
+framed (Between operator ∷ frames) ks =
+    machine.Between (operator_view operator) (top ks) ∷ framed frames (below ks)
+framed (Negated ∷ frames) ks = machine.Negated ∷ framed frames ks
+framed (Group ∷ frames) ks = machine.Group ∷ framed frames ks
+framed (Args name count ∷ frames) ks = machine.Args name (tops count ks) ∷ framed frames (under count ks)
+framed (Elements count ∷ frames) ks = machine.Elements (tops count ks) ∷ framed frames (under count ks)
+framed (Tail count ∷ frames) ks = machine.Tail (tops count ks) ∷ framed frames (under count ks)
+
+-- the frames, innermost first
+abbrev pub frames_of : Stack → List Frame
+frames_of stack = reverse stack.frames.items
+
+-- the items, the last one first
+abbrev pub items_of : Stack → List Kept
+items_of stack = done_of stack.items.items
+
+-- the stack where a term is awaited
+abbrev pub opened : Stack → List (machine.Frame Kept)
+opened stack = framed (frames_of stack) (items_of stack)
+
+-- the stack where a term has been read
+abbrev pub opened_below : Stack → List (machine.Frame Kept)
+opened_below stack = framed (frames_of stack) (below (items_of stack))
+
+-- the stack in this state
+abbrev pub opened_in : State → Stack → List (machine.Frame Kept)
+opened_in Awaits stack = opened stack
+opened_in (Holds priority) stack = opened_below stack
+opened_in Ends stack = opened_below stack
+
+abbrev pub standing : State → Stack → machine.Standing Kept
+standing Awaits stack = machine.Awaits
+standing (Holds priority) stack = machine.Holds (top (items_of stack)) priority
+standing Ends stack = machine.Ends (top (items_of stack))
 
 -- the tokens that are left
 abbrev pub tokens_left : Step → List grammar.Token
 tokens_left step = map token_view step.rest.now
 
 -- the step that the machine makes: none, or the one that leads there
-abbrev pub IsMove : machine.Move Kept → List Frame → Option Step → Type 0
-IsMove move frames None = move ≡ machine.Refused
-IsMove move frames (Some step) = move
-    ≡ machine.Goes_to (opened frames) (standing step.state) (tokens_left step)
+abbrev pub IsMove : machine.Move Kept → Stack → Option Step → Type 0
+IsMove move stack None = move ≡ machine.Refused
+IsMove move stack (Some step) = move
+    ≡ machine.Goes_to (opened_in step.state stack) (standing step.state stack) (tokens_left step)

@@ -9,7 +9,7 @@ ghost use Rattle.tc_read.specs.Views.{meant, sign_view, token_view, unquoted};
 use crate::build::{atom, integer, variable};
 use crate::compound::nil;
 use crate::cursor::{called, closed_list, direct_integer};
-use crate::frames::{Frame, State, Step, open};
+use crate::frames::{Frame, Stack, Step, awaited, held};
 use crate::operators::symbol_name;
 use crate::tokens::{Sign, Token};
 use std::alloc::Global;
@@ -49,41 +49,29 @@ pub fn unquoted(alloc: Global, inside: &[u8]) -> Result<Vec<u8>, NoMemory>
 /// A step where this token and these stand.
 pub fn begin<'a>(
     alloc: Global,
-    stack: &mut Vec<Frame>,
+    stack: &mut Stack,
     token: Token<'a>,
     rest: &'a [Token<'a>],
 ) -> Result<Option<Step<'a>>, NoMemory>
     ensures { IfOk result
-        (λ r. IsMove (begin kept (opened stack.old.items) (token_view token.entry)
-        (map token_view rest.now)) stack.new.items r) }
+        (λ r. IsMove (begin kept (opened stack.old) (token_view token.entry)
+        (map token_view rest.now)) stack.new r) }
 {
     match token {
-        Token::Variable(number) => Ok(Some(Step {
-            state: State::Holds(variable(number), 0),
-            rest,
-        })),
+        Token::Variable(number) => held(stack, variable(number), 0, rest),
         Token::Integer {
             direct: _,
             value,
             place,
-        } => Ok(Some(Step {
-            state: State::Holds(integer(false, value, place), 0),
-            rest,
-        })),
-        Token::Word(name) => named(alloc, stack, Name::new(alloc, name)?, rest),
+        } => held(stack, integer(false, value, place), 0, rest),
+        Token::Word(name) => named(stack, Name::new(alloc, name)?, rest),
         Token::Quoted(inside) => {
             let name = Name::from_vec(unquoted(alloc, inside)?);
-            named(alloc, stack, name, rest)
+            named(stack, name, rest)
         }
         Token::Symbol(sign) => signed(alloc, stack, sign, rest),
         Token::OpenList => listed(alloc, stack, rest),
-        Token::Open(_) => {
-            open(stack, Frame::Group)?;
-            Ok(Some(Step {
-                state: State::Awaits,
-                rest,
-            }))
-        }
+        Token::Open(_) => awaited(stack, Frame::Group, rest),
         Token::Close => Ok(None),
         Token::CloseList => Ok(None),
         Token::Comma => Ok(None),
@@ -92,51 +80,37 @@ pub fn begin<'a>(
 }
 
 /// A step behind a name: its arguments come, or it is an atom.
-#[inline(always)]
+#[inline]
 fn named<'a>(
-    alloc: Global,
-    stack: &mut Vec<Frame>,
+    stack: &mut Stack,
     name: Name,
     rest: &'a [Token<'a>],
 ) -> Result<Option<Step<'a>>, NoMemory>
     ensures { IfOk result
-        (λ r. IsMove (named kept (opened stack.old.items) name (map token_view rest.now))
-        stack.new.items r) }
+        (λ r. IsMove (named kept (opened stack.old) name (map token_view rest.now))
+        stack.new r) }
 {
     match called(rest) {
-        Some(after) => {
-            open(stack, Frame::Args(name, Vec::new(alloc)))?;
-            Ok(Some(Step {
-                state: State::Awaits,
-                rest: after,
-            }))
-        }
-        None => Ok(Some(Step {
-            state: State::Holds(atom(name), 0),
-            rest,
-        })),
+        Some(after) => awaited(stack, Frame::Args(name, 0), after),
+        None => held(stack, atom(name), 0, rest),
     }
 }
 
 /// A step behind a symbol: its arguments come, or it is a minus before a term.
 fn signed<'a>(
     alloc: Global,
-    stack: &mut Vec<Frame>,
+    stack: &mut Stack,
     sign: Sign,
     rest: &'a [Token<'a>],
 ) -> Result<Option<Step<'a>>, NoMemory>
     ensures { IfOk result
-        (λ r. IsMove (signed kept (opened stack.old.items) (sign_view sign)
-        (map token_view rest.now)) stack.new.items r) }
+        (λ r. IsMove (signed kept (opened stack.old) (sign_view sign)
+        (map token_view rest.now)) stack.new r) }
 {
     match called(rest) {
         Some(after) => {
             let name = Name::new(alloc, symbol_name(sign))?;
-            open(stack, Frame::Args(name, Vec::new(alloc)))?;
-            Ok(Some(Step {
-                state: State::Awaits,
-                rest: after,
-            }))
+            awaited(stack, Frame::Args(name, 0), after)
         }
         None => match sign {
             Sign::Minus => minus(stack, rest),
@@ -146,47 +120,27 @@ fn signed<'a>(
 }
 
 /// A step behind a minus that no bracket follows: a negative number, or a term whose minus it is.
-fn minus<'a>(stack: &mut Vec<Frame>, rest: &'a [Token<'a>]) -> Result<Option<Step<'a>>, NoMemory>
+fn minus<'a>(stack: &mut Stack, rest: &'a [Token<'a>]) -> Result<Option<Step<'a>>, NoMemory>
     ensures { IfOk result
-        (λ r. IsMove (minus kept (opened stack.old.items) (map token_view rest.now))
-        stack.new.items r) }
+        (λ r. IsMove (minus kept (opened stack.old) (map token_view rest.now)) stack.new r) }
 {
     match direct_integer(rest) {
-        Some((size, place, after)) => Ok(Some(Step {
-            state: State::Holds(integer(true, size, place), 0),
-            rest: after,
-        })),
-        None => {
-            open(stack, Frame::Negated)?;
-            Ok(Some(Step {
-                state: State::Awaits,
-                rest,
-            }))
-        }
+        Some((size, place, after)) => held(stack, integer(true, size, place), 0, after),
+        None => awaited(stack, Frame::Negated, rest),
     }
 }
 
 /// A step behind an opening square bracket: an empty list, or elements come.
 fn listed<'a>(
     alloc: Global,
-    stack: &mut Vec<Frame>,
+    stack: &mut Stack,
     rest: &'a [Token<'a>],
 ) -> Result<Option<Step<'a>>, NoMemory>
     ensures { IfOk result
-        (λ r. IsMove (listed kept (opened stack.old.items) (map token_view rest.now))
-        stack.new.items r) }
+        (λ r. IsMove (listed kept (opened stack.old) (map token_view rest.now)) stack.new r) }
 {
     match closed_list(rest) {
-        Some(after) => Ok(Some(Step {
-            state: State::Holds(nil(alloc)?, 0),
-            rest: after,
-        })),
-        None => {
-            open(stack, Frame::Elements(Vec::new(alloc)))?;
-            Ok(Some(Step {
-                state: State::Awaits,
-                rest,
-            }))
-        }
+        Some(after) => held(stack, nil(alloc)?, 0, after),
+        None => awaited(stack, Frame::Elements(0), rest),
     }
 }

@@ -1,16 +1,15 @@
 //! The steps of the parser where a term has been read.
-ghost use Rattle.std.specs.Prelude.{◌≡◌, IfOk, List, [], MatchOption, None, Some, map};
+ghost use Rattle.std.specs.Prelude.{◌≡◌, ◌∷◌, IfOk, [], MatchOption, None, Some, map, suc};
 ghost use Rattle.tc_read.specs.declared.frames.Frame.{Frame};
-ghost use Rattle.tc_read.specs.Frames.{IsMove, opened};
-ghost use Rattle.tc_read.specs.Items.{done_of, kept_item};
+ghost use Rattle.tc_read.specs.declared.frames.Stack.{Stack};
+ghost use Rattle.tc_read.specs.Frames.{IsMove, below, framed, frames_of, items_of, opened_below, top};
 ghost use Rattle.tc_read.specs.Kept.{kept};
-ghost use Rattle.tc_read.specs.Machine.{close, close_all, close_argument, close_element, close_group, close_tail, fitting, go_on, rest_of};
+ghost use Rattle.tc_read.specs.Machine.{close, close_all, close_group, fitting, go_on, rest_of};
 ghost use Rattle.tc_read.specs.Views.{operator_view, token_view};
 
-use crate::compound::{between, compound, list, negated, nil};
+use crate::compound::{between, cell, compound, list, negated, nil};
 use crate::cursor::{Delimiter, delimited, next};
-use crate::frames::{Frame, State, Step, innermost, limit, open};
-use crate::measured::Item;
+use crate::frames::{Frame, Stack, State, Step, awaited, held, limit};
 use crate::operators::{Operator, infix};
 use crate::tokens::Token;
 use std::alloc::Global;
@@ -37,65 +36,52 @@ fn fitting<'a>(
     }
 }
 
-/// A step behind this term of this priority.
+/// A step behind the last item, of this priority.
 pub fn go_on<'a>(
     alloc: Global,
-    stack: &mut Vec<Frame>,
-    term: Item,
+    stack: &mut Stack,
     priority: u16,
     tokens: &'a [Token<'a>],
 ) -> Result<Option<Step<'a>>, NoMemory>
     ensures { IfOk result
-        (λ r. IsMove (go_on kept (opened stack.old.items) (kept_item term) priority
-        (map token_view tokens.now)) stack.new.items r) }
+        (λ r. IsMove (go_on kept (opened_below stack.old) (top (items_of stack.old)) priority
+        (map token_view tokens.now)) stack.new r) }
 {
     match fitting(limit(stack), priority, tokens) {
-        Some((operator, rest)) => {
-            open(stack, Frame::Between(operator, term))?;
-            Ok(Some(Step {
-                state: State::Awaits,
-                rest,
-            }))
-        }
-        None => close(alloc, stack, term, tokens),
+        Some((operator, rest)) => awaited(stack, Frame::Between(operator), rest),
+        None => close(alloc, stack, tokens),
     }
 }
 
-/// A step where the term is whole in the innermost open place.
+/// A step where the last item is whole in the innermost open place.
 fn close<'a>(
     alloc: Global,
-    stack: &mut Vec<Frame>,
-    term: Item,
+    stack: &mut Stack,
     tokens: &'a [Token<'a>],
 ) -> Result<Option<Step<'a>>, NoMemory>
     ensures { IfOk result
-        (λ r. IsMove (close kept (opened stack.old.items) (kept_item term)
-        (map token_view tokens.now)) stack.new.items r) }
+        (λ r. IsMove (close kept (opened_below stack.old) (top (items_of stack.old))
+        (map token_view tokens.now)) stack.new r) }
 {
-    match innermost(stack) {
-        None => Ok(close_all(term, tokens)),
-        Some(Frame::Between(operator, left)) => Ok(Some(Step {
-            state: State::Holds(between(alloc, operator, left, term)?, operator.priority),
-            rest: tokens,
-        })),
-        Some(Frame::Negated) => Ok(Some(Step {
-            state: State::Holds(negated(alloc, term)?, 200),
-            rest: tokens,
-        })),
-        Some(Frame::Group) => Ok(close_group(term, tokens)),
-        Some(Frame::Args(name, done)) => close_argument(alloc, stack, name, done, term, tokens),
-        Some(Frame::Elements(done)) => close_element(alloc, stack, done, term, tokens),
-        Some(Frame::Tail(done)) => close_tail(alloc, done, term, tokens),
+    match stack.innermost() {
+        None => Ok(close_all(tokens)),
+        Some(Frame::Between(operator)) => close_between(alloc, stack, operator, tokens),
+        Some(Frame::Negated) => close_negated(alloc, stack, tokens),
+        Some(Frame::Group) => Ok(close_group(tokens)),
+        Some(Frame::Args(name, count)) => close_argument(alloc, stack, name, count, tokens),
+        Some(Frame::Elements(count)) => close_element(alloc, stack, count, tokens),
+        Some(Frame::Tail(count)) => close_tail(alloc, stack, count, tokens),
     }
 }
 
 /// The end, where no tokens are left.
-fn close_all<'a>(term: Item, tokens: &'a [Token<'a>]) -> Option<Step<'a>>
-    ensures { IsMove (close_all kept (kept_item term) (map token_view tokens.now)) [] result }
+fn close_all<'a>(tokens: &'a [Token<'a>]) -> Option<Step<'a>>
+    ensures { (stack : Stack) → frames_of stack ≡ []
+        → IsMove (close_all kept (top (items_of stack)) (map token_view tokens.now)) stack result }
 {
     if tokens.is_empty() {
         Some(Step {
-            state: State::Ends(term),
+            state: State::Ends,
             rest: tokens,
         })
     } else {
@@ -103,15 +89,48 @@ fn close_all<'a>(term: Item, tokens: &'a [Token<'a>]) -> Option<Step<'a>>
     }
 }
 
+/// The end of an operator's right side.
+fn close_between<'a>(
+    alloc: Global,
+    stack: &mut Stack,
+    operator: Operator,
+    tokens: &'a [Token<'a>],
+) -> Result<Option<Step<'a>>, NoMemory>
+    ensures { IfOk result
+        (λ r. IsMove (close kept
+        (framed (Frame.Between operator ∷ frames_of stack.old) (below (items_of stack.old)))
+        (top (items_of stack.old)) (map token_view tokens.now)) stack.new r) }
+{
+    let right = stack.last();
+    let left = stack.last();
+    let item = between(alloc, operator, left, right)?;
+    held(stack, item, operator.priority, tokens)
+}
+
+/// The end of a term behind its minus.
+fn close_negated<'a>(
+    alloc: Global,
+    stack: &mut Stack,
+    tokens: &'a [Token<'a>],
+) -> Result<Option<Step<'a>>, NoMemory>
+    ensures { IfOk result
+        (λ r. IsMove (close kept
+        (framed (Frame.Negated ∷ frames_of stack.old) (below (items_of stack.old)))
+        (top (items_of stack.old)) (map token_view tokens.now)) stack.new r) }
+{
+    let of = stack.last();
+    let item = negated(alloc, of)?;
+    held(stack, item, 200, tokens)
+}
+
 /// The closing of a round bracket.
-fn close_group<'a>(term: Item, tokens: &'a [Token<'a>]) -> Option<Step<'a>>
-    ensures { (frames : List Frame) →
-        IsMove (close_group kept (opened frames) (kept_item term) (map token_view tokens.now))
-        frames result }
+fn close_group<'a>(tokens: &'a [Token<'a>]) -> Option<Step<'a>>
+    ensures { (stack : Stack) → IsMove (close_group kept (opened_below stack) (top (items_of stack))
+        (map token_view tokens.now)) stack result }
 {
     match delimited(tokens) {
         Some((Delimiter::Close, rest)) => Some(Step {
-            state: State::Holds(term, 0),
+            state: State::Holds(0),
             rest,
         }),
         _ => None,
@@ -121,28 +140,23 @@ fn close_group<'a>(term: Item, tokens: &'a [Token<'a>]) -> Option<Step<'a>>
 /// The closing of a compound, or its next argument.
 fn close_argument<'a>(
     alloc: Global,
-    stack: &mut Vec<Frame>,
+    stack: &mut Stack,
     name: Name,
-    mut done: Vec<Item>,
-    term: Item,
+    count: usize,
     tokens: &'a [Token<'a>],
 ) -> Result<Option<Step<'a>>, NoMemory>
     ensures { IfOk result
-        (λ r. IsMove (close_argument kept (opened stack.old.items) name (done_of done.items)
-        (kept_item term) (map token_view tokens.now)) stack.new.items r) }
+        (λ r. IsMove (close kept
+        (framed (Frame.Args name count ∷ frames_of stack.old) (below (items_of stack.old)))
+        (top (items_of stack.old)) (map token_view tokens.now)) stack.new r) }
 {
-    done.push(term)?;
     match delimited(tokens) {
-        Some((Delimiter::Close, rest)) => Ok(Some(Step {
-            state: State::Holds(compound(alloc, name, done)?, 0),
-            rest,
-        })),
+        Some((Delimiter::Close, rest)) => {
+            let item = compound(alloc, name, count, stack)?;
+            held(stack, item, 0, rest)
+        }
         Some((Delimiter::Comma, rest)) => {
-            open(stack, Frame::Args(name, done))?;
-            Ok(Some(Step {
-                state: State::Awaits,
-                rest,
-            }))
+            awaited(stack, Frame::Args(name, one_more(count)?), rest)
         }
         _ => Ok(None),
     }
@@ -151,38 +165,24 @@ fn close_argument<'a>(
 /// The closing of a list, its tail, or its next element.
 fn close_element<'a>(
     alloc: Global,
-    stack: &mut Vec<Frame>,
-    mut done: Vec<Item>,
-    term: Item,
+    stack: &mut Stack,
+    count: usize,
     tokens: &'a [Token<'a>],
 ) -> Result<Option<Step<'a>>, NoMemory>
     ensures { IfOk result
-        (λ r. IsMove (close_element kept (opened stack.old.items) (done_of done.items)
-        (kept_item term) (map token_view tokens.now)) stack.new.items r) }
+        (λ r. IsMove (close kept
+        (framed (Frame.Elements count ∷ frames_of stack.old) (below (items_of stack.old)))
+        (top (items_of stack.old)) (map token_view tokens.now)) stack.new r) }
 {
-    done.push(term)?;
     match delimited(tokens) {
         Some((Delimiter::CloseList, rest)) => {
-            let tail = nil(alloc)?;
-            Ok(Some(Step {
-                state: State::Holds(list(alloc, done, tail)?, 0),
-                rest,
-            }))
+            let last = stack.last();
+            let end = cell(alloc, last, nil(alloc)?)?;
+            let item = list(alloc, count, stack, end)?;
+            held(stack, item, 0, rest)
         }
-        Some((Delimiter::Bar, rest)) => {
-            open(stack, Frame::Tail(done))?;
-            Ok(Some(Step {
-                state: State::Awaits,
-                rest,
-            }))
-        }
-        Some((Delimiter::Comma, rest)) => {
-            open(stack, Frame::Elements(done))?;
-            Ok(Some(Step {
-                state: State::Awaits,
-                rest,
-            }))
-        }
+        Some((Delimiter::Bar, rest)) => awaited(stack, Frame::Tail(one_more(count)?), rest),
+        Some((Delimiter::Comma, rest)) => awaited(stack, Frame::Elements(one_more(count)?), rest),
         _ => Ok(None),
     }
 }
@@ -190,20 +190,32 @@ fn close_element<'a>(
 /// The closing of a list behind its tail.
 fn close_tail<'a>(
     alloc: Global,
-    done: Vec<Item>,
-    tail: Item,
+    stack: &mut Stack,
+    count: usize,
     tokens: &'a [Token<'a>],
 ) -> Result<Option<Step<'a>>, NoMemory>
     ensures { IfOk result
-        (λ r. (frames : List Frame) →
-        IsMove (close_tail kept (opened frames) (done_of done.items) (kept_item tail)
-        (map token_view tokens.now)) frames r) }
+        (λ r. IsMove (close kept
+        (framed (Frame.Tail count ∷ frames_of stack.old) (below (items_of stack.old)))
+        (top (items_of stack.old)) (map token_view tokens.now)) stack.new r) }
 {
     match delimited(tokens) {
-        Some((Delimiter::CloseList, rest)) => Ok(Some(Step {
-            state: State::Holds(list(alloc, done, tail)?, 0),
-            rest,
-        })),
+        Some((Delimiter::CloseList, rest)) => {
+            let tail = stack.last();
+            let item = list(alloc, count, stack, tail)?;
+            held(stack, item, 0, rest)
+        }
         _ => Ok(None),
+    }
+}
+
+/// One more than so many.
+#[inline]
+fn one_more(count: usize) -> Result<usize, NoMemory>
+    ensures { IfOk result (λ more. more ≡ suc count) }
+{
+    match count.checked_add(1) {
+        Some(more) => Ok(more),
+        None => Err(NoMemory),
     }
 }

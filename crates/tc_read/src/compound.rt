@@ -1,13 +1,15 @@
 //! Compounds and lists from kept parts.
-ghost use Rattle.std.specs.Prelude.{◌≡◌, ◌<◌, IfOk, [], ◌∷◌, length, map, reverse};
+ghost use Rattle.std.specs.Prelude.{◌≡◌, IfOk, OnOk, [], ◌∷◌, map, reverse};
 ghost use Rattle.tc_term.specs.TreeView.{tree_of};
-ghost use Rattle.tc_term.specs.Grammar.{between, negated, nil};
-ghost use Rattle.tc_read.specs.Items.{done_of, kept_item, parts_view};
+ghost use Rattle.tc_term.specs.Grammar.{between, cell, negated, nil};
+ghost use Rattle.tc_read.specs.Items.{kept_item, parts_view};
+ghost use Rattle.tc_read.specs.Frames.{below, frames_of, items_of, tops, top, under};
 ghost use Rattle.tc_read.specs.Kept.{Small, Whole, finished, joined, kept, whole};
 ghost use Rattle.tc_read.specs.Machine.{applied, cells, turned};
 ghost use Rattle.tc_read.specs.Views.{operator_view};
 
 use crate::build::{MAX_DEPTH, MAX_NAME_BYTES, MAX_NODES, atom, item};
+use crate::frames::Stack;
 use crate::measured::{Item, Measured, Parts, Several};
 use crate::operators::Operator;
 use std::alloc::Global;
@@ -139,27 +141,48 @@ pub fn nil(alloc: Global) -> Result<Item, NoMemory>
     Ok(atom(Name::new(alloc, b"[]")?))
 }
 
-/// A list of these elements, before a tail.
-pub fn list(alloc: Global, mut elements: Vec<Item>, tail: Item) -> Result<Item, NoMemory>
-    ensures { IfOk result
-        (λ r. kept_item r ≡ cells kept (done_of elements.items) (kept_item tail)) }
+/// A list of an element and a tail.
+pub fn cell(alloc: Global, element: Item, tail: Item) -> Result<Item, NoMemory>
+    ensures { IfOk result (λ r. kept_item r ≡ cell kept (kept_item element) (kept_item tail)) }
+{
+    pair(alloc, b".", element, tail)
+}
+
+/// A list of so many last items, which are taken off, before a tail.
+pub fn list(alloc: Global, count: usize, stack: &mut Stack, tail: Item) -> Result<Item, NoMemory>
+    ensures list { IfOk result
+        (λ r. kept_item r ≡ cells kept (tops count (items_of stack.old)) (kept_item tail)) }
+    ensures items { OnOk result (items_of stack.new ≡ under count (items_of stack.old)) }
+    ensures frames { frames_of stack.new ≡ frames_of stack.old }
 {
     let mut whole = tail;
-    while let Some(element) = elements.pop() {
-        whole = pair(alloc, b".", element, whole)?;
+    let mut left = count;
+    while left > 0 {
+        left -= 1;
+        whole = cell(alloc, stack.last(), whole)?;
     }
     Ok(whole)
 }
 
-/// The compound of this name with these arguments.
-pub fn compound(alloc: Global, name: Name, mut arguments: Vec<Item>) -> Result<Item, NoMemory>
-    requires { 0 < length arguments.items }
-    ensures { IfOk result
-        (λ r. kept_item r ≡ applied kept name (turned (done_of arguments.items) [])) }
+/// The compound of this name with the last item and so many before it, which are taken off.
+pub fn compound(
+    alloc: Global,
+    name: Name,
+    count: usize,
+    stack: &mut Stack,
+) -> Result<Item, NoMemory>
+    ensures compound { IfOk result
+        (λ r. kept_item r ≡ applied kept name
+        (turned (tops count (below (items_of stack.old))) (top (items_of stack.old) ∷ []))) }
+    ensures items { OnOk result
+        (items_of stack.new ≡ under count (below (items_of stack.old))) }
+    ensures frames { frames_of stack.new ≡ frames_of stack.old }
 {
-    let mut parts = none(alloc, arguments.len())?;
-    while let Some(argument) = arguments.pop() {
-        parts = join(argument, parts)?;
+    let mut parts = join(stack.last(), none(alloc, count.saturating_add(1))?)?;
+    let mut left = count;
+    while left > 0 {
+        left -= 1;
+        parts = join(stack.last(), parts)?;
     }
     Ok(finish(name, parts))
 }

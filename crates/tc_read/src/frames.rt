@@ -1,72 +1,159 @@
 //! What stands open while a term is read.
-ghost use Rattle.std.specs.Prelude.{◌≡◌, [], ◌∷◌, MatchOption, OnOk};
-ghost use Rattle.tc_read.specs.Frames.{frame_view, opened};
-ghost use Rattle.tc_read.specs.Machine.{limit};
+ghost use Rattle.std.specs.Prelude.{◌≡◌, [], ◌∷◌, IfOk, List, MatchOption, OnOk, map};
+ghost use Rattle.tc_read.specs.declared.frames.Frame.{Frame};
+ghost use Rattle.tc_read.specs.Frames.{IsMove, below, framed, frames_of, items_of, opened, top};
+ghost use Rattle.tc_read.specs.Items.{kept_item};
+ghost use Rattle.tc_read.specs.Kept.{Kept};
+ghost use Rattle.tc_read.specs.Machine.{Awaits, Goes_to, Holds, limit};
+ghost use Rattle.tc_read.specs.Views.{token_view};
 
 use crate::measured::Item;
 use crate::operators::Operator;
 use crate::tokens::Token;
+use std::alloc::Global;
 use tc_lists::NoMemory;
 use tc_term::Name;
 
-/// An operator behind its left side, a minus, a round bracket, a compound's arguments so far, a
-/// list's elements so far, or all of them before the list's tail.
+/// An operator behind its left side, a minus, a round bracket, a compound's name with so many
+/// arguments, a list's elements so far, or all of them before the list's tail.
 #[derive(Drop)]
 pub enum Frame {
-    Between(Operator, Item),
+    Between(Operator),
     Negated,
     Group,
-    Args(Name, Vec<Item>),
-    Elements(Vec<Item>),
-    Tail(Vec<Item>),
+    Args(Name, usize),
+    Elements(usize),
+    Tail(usize),
 }
 
 /// A term is awaited, or one of this priority has been read, or the whole has.
-#[derive(Drop)]
+#[derive(Clone, Copy)]
 pub enum State {
     Awaits,
-    Holds(Item, u16),
-    Ends(Item),
+    Holds(u16),
+    Ends,
 }
 
 /// Where a step leads: to this state, with these tokens left.
-#[derive(Drop)]
+#[derive(Clone, Copy)]
 pub struct Step<'a> {
     pub state: State,
     pub rest: &'a [Token<'a>],
 }
 
-/// Opens a place inside the innermost one.
-pub fn open(stack: &mut Vec<Frame>, frame: Frame) -> Result<(), NoMemory>
-    ensures { OnOk result (opened stack.new.items ≡ frame_view frame ∷ opened stack.old.items) }
-{
-    stack.push(frame)?;
-    Ok(())
+/// What stands open, and what was read in it, the innermost last. A term that has been read is the
+/// last item.
+#[derive(Drop)]
+pub struct Stack {
+    pub frames: Vec<Frame>,
+    pub items: Vec<Item>,
 }
 
-/// Takes the innermost open place off, if any is open.
-pub fn innermost(stack: &mut Vec<Frame>) -> Option<Frame>
-    ensures { MatchOption result ((opened stack.old.items ≡ []) × (opened stack.new.items ≡ []))
-        (λ frame. opened stack.old.items ≡ frame_view frame ∷ opened stack.new.items) }
+impl Stack {
+    /// Nothing is open, and nothing has been read.
+    pub fn new(alloc: Global) -> Result<Stack, NoMemory>
+        ensures { IfOk result (λ stack. (frames_of stack ≡ []) × (items_of stack ≡ [])) }
+    {
+        Ok(Stack {
+            frames: Vec::with_capacity(alloc, 8)?,
+            items: Vec::with_capacity(alloc, 8)?,
+        })
+    }
+
+    /// Opens a place inside the innermost one.
+    pub fn open(&mut self, frame: Frame) -> Result<(), NoMemory>
+        ensures frames { OnOk result (frames_of self.new ≡ frame ∷ frames_of self.old) }
+        ensures items { items_of self.new ≡ items_of self.old }
+    {
+        self.frames.push(frame)?;
+        Ok(())
+    }
+
+    /// Takes the innermost open place off, if any is open.
+    pub fn innermost(&mut self) -> Option<Frame>
+        ensures frames { MatchOption result
+            ((frames_of self.old ≡ []) × (frames_of self.new ≡ []))
+            (λ frame. frames_of self.old ≡ frame ∷ frames_of self.new) }
+        ensures items { items_of self.new ≡ items_of self.old }
+    {
+        self.frames.pop()
+    }
+
+    /// Adds what has been read.
+    pub fn hold(&mut self, item: Item) -> Result<(), NoMemory>
+        ensures items { OnOk result (items_of self.new ≡ kept_item item ∷ items_of self.old) }
+        ensures frames { frames_of self.new ≡ frames_of self.old }
+    {
+        self.items.push(item)?;
+        Ok(())
+    }
+
+    /// Takes the last item off. There is one wherever this is called.
+    pub fn last(&mut self) -> Item
+        ensures last { kept_item result ≡ top (items_of self.old) }
+        ensures items { items_of self.new ≡ below (items_of self.old) }
+        ensures frames { frames_of self.new ≡ frames_of self.old }
+    {
+        match self.items.pop() {
+            Some(item) => item,
+            None => Item::Large,
+        }
+    }
+}
+
+/// A step behind this item of this priority, which is the last one then.
+#[inline]
+pub fn held<'a>(
+    stack: &mut Stack,
+    item: Item,
+    priority: u16,
+    rest: &'a [Token<'a>],
+) -> Result<Option<Step<'a>>, NoMemory>
+    ensures { IfOk result
+        (λ r. IsMove (Goes_to (opened stack.old) (Holds (kept_item item) priority)
+        (map token_view rest.now)) stack.new r) }
 {
-    stack.pop()
+    stack.hold(item)?;
+    Ok(Some(Step {
+        state: State::Holds(priority),
+        rest,
+    }))
+}
+
+/// A step into the place that this frame opens.
+#[inline]
+pub fn awaited<'a>(
+    stack: &mut Stack,
+    frame: Frame,
+    rest: &'a [Token<'a>],
+) -> Result<Option<Step<'a>>, NoMemory>
+    ensures { IfOk result
+        (λ r. IsMove (Goes_to (framed (frame ∷ frames_of stack.old) (items_of stack.old)) Awaits
+        (map token_view rest.now)) stack.new r) }
+{
+    stack.open(frame)?;
+    Ok(Some(Step {
+        state: State::Awaits,
+        rest,
+    }))
 }
 
 /// The highest priority of a term in the innermost open place.
-pub fn limit(stack: &Vec<Frame>) -> u16
-    ensures { result ≡ limit (opened stack.now.items) }
+pub fn limit(stack: &Stack) -> u16
+    ensures { (ks : List Kept) → result ≡ limit (framed (frames_of stack.now) ks) }
 {
-    match stack.last() {
+    match stack.frames.last() {
         None => 1000,
         Some(frame) => frame_limit(frame),
     }
 }
 
 fn frame_limit(frame: &Frame) -> u16
-    ensures { result ≡ limit (frame_view frame.now ∷ []) }
+    ensures { (frames : List Frame) (ks : List Kept)
+        → result ≡ limit (framed (frame.now ∷ frames) ks) }
 {
     match frame {
-        Frame::Between(operator, _) => operator.right,
+        Frame::Between(operator) => operator.right,
         Frame::Negated => 200,
         Frame::Group => 1000,
         Frame::Args(_, _) => 999,

@@ -1,6 +1,6 @@
 //! The parser: one pass over the tokens, with a stack of what stands open.
 ghost use Rattle.std.specs.Prelude.{IfOk, map};
-ghost use Rattle.tc_read.specs.Frames.{IsMove, opened, standing};
+ghost use Rattle.tc_read.specs.Frames.{IsMove, opened_in, standing};
 ghost use Rattle.tc_read.specs.Kept.{kept};
 ghost use Rattle.tc_read.specs.Machine.{step};
 ghost use Rattle.tc_read.specs.Parsed.{IsParsed};
@@ -9,7 +9,7 @@ ghost use Rattle.tc_read.specs.Views.{token_view};
 use crate::begin::begin;
 use crate::close::go_on;
 use crate::cursor::next;
-use crate::frames::{Frame, State, Step};
+use crate::frames::{Stack, State, Step};
 use crate::measured::Item;
 use crate::tokens::Token;
 use std::alloc::Global;
@@ -17,21 +17,21 @@ use tc_lists::NoMemory;
 
 fn step<'a>(
     alloc: Global,
-    stack: &mut Vec<Frame>,
+    stack: &mut Stack,
     state: State,
     tokens: &'a [Token<'a>],
 ) -> Result<Option<Step<'a>>, NoMemory>
     ensures { IfOk result
-        (λ r. IsMove (step kept (opened stack.old.items) (standing state)
-        (map token_view tokens.now)) stack.new.items r) }
+        (λ r. IsMove (step kept (opened_in state stack.old) (standing state stack.old)
+        (map token_view tokens.now)) stack.new r) }
 {
     match state {
         State::Awaits => match next(tokens) {
             None => Ok(None),
             Some((first, after)) => begin(alloc, stack, first, after),
         },
-        State::Holds(term, priority) => go_on(alloc, stack, term, priority, tokens),
-        State::Ends(_) => Ok(None),
+        State::Holds(priority) => go_on(alloc, stack, priority, tokens),
+        State::Ends => Ok(None),
     }
 }
 
@@ -39,14 +39,14 @@ fn step<'a>(
 pub fn parse<'a>(alloc: Global, tokens: &'a [Token<'a>]) -> Result<Option<Item>, NoMemory>
     ensures { IfOk result (λ r. IsParsed (map token_view tokens.now) r) }
 {
-    let mut stack = Vec::with_capacity(alloc, 8)?;
+    let mut stack = Stack::new(alloc)?;
     let mut now = Step {
         state: State::Awaits,
         rest: tokens,
     };
     loop {
         now = match now.state {
-            State::Ends(item) => return Ok(Some(item)),
+            State::Ends => return Ok(Some(stack.last())),
             state => match step(alloc, &mut stack, state, now.rest)? {
                 None => return Ok(None),
                 Some(next) => next,

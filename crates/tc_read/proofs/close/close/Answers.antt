@@ -1,4 +1,5 @@
+use Rattle.std.proofs.Common.{sym}
 use Rattle.tc_read.proofs.close.close.Goals as goal
 
 pub returns-in-Some-Group : goal.returns-in-Some-Group
-returns-in-Some-Group c = rw (c.in-Some-Group.ensures, c.in-Some-Group.field-0-is) (c.close_group.ensures c.innermost.new.stack.items)
+returns-in-Some-Group c = rw (c.in-Some-Group.ensures.frames, c.in-Some-Group.field-0-is, sym c.in-Some-Group.ensures.items) (c.close_group.ensures c.innermost.new.self)

@@ -1,12 +1,18 @@
-use Rattle.std.proofs.Common.{◌≡◌, [], List}
-use Rattle.std.specs.Prelude.{vec_len}
-use Rattle.tc_read.specs.Items.{done_of, parts_view}
+use Rattle.std.proofs.Common.{◌≡◌, List}
+use Rattle.tc_read.specs.Frames.{frames_of, items_of, tops, under}
+use Rattle.tc_read.specs.Items.{parts_view}
 use Rattle.tc_read.specs.Kept.{Kept, parts}
 use Rattle.tc_read.specs.Machine.{turned}
 use Rattle.tc_read.proofs.compound.compound.Given as goal
 
-abbrev pub invariant-loop-argument : goal.invariant-loop-argument
-invariant-loop-argument l = (ks : List Kept) × (turned (done_of l.initial.arguments.items) [] ≡ turned (done_of l.arguments.items) ks) × (parts_view l.parts ≡ parts ks)
+abbrev pub invariant-loop-left : goal.invariant-loop-left
+invariant-loop-left l =
+    ((last : List Kept) → parts_view l.initial.parts ≡ parts last →
+        (ks : List Kept)
+        × (turned (tops l.fn.count (items_of l.initial.stack)) last ≡ turned (tops l.left (items_of l.stack)) ks)
+        × (parts_view l.parts ≡ parts ks))
+    × (under l.fn.count (items_of l.initial.stack) ≡ under l.left (items_of l.stack))
+    × (frames_of l.stack ≡ frames_of l.initial.stack)
 
-abbrev pub decreases-loop-argument : goal.decreases-loop-argument
-decreases-loop-argument l = vec_len l.arguments
+abbrev pub decreases-loop-left : goal.decreases-loop-left
+decreases-loop-left l = l.left

@@ -1,12 +1,15 @@
 use Rattle.std.proofs.Common.{◌≡◌}
-use Rattle.std.specs.Prelude.{vec_len}
-use Rattle.tc_read.specs.Items.{done_of, kept_item}
+use Rattle.tc_read.specs.Frames.{frames_of, items_of, tops, under}
+use Rattle.tc_read.specs.Items.{kept_item}
 use Rattle.tc_read.specs.Kept.{kept}
 use Rattle.tc_read.specs.Machine.{cells}
 use Rattle.tc_read.proofs.compound.list.Given as goal
 
-abbrev pub invariant-loop-element : goal.invariant-loop-element
-invariant-loop-element l = cells kept (done_of l.initial.elements.items) (kept_item l.fn.tail) ≡ cells kept (done_of l.elements.items) (kept_item l.whole)
+abbrev pub invariant-loop-left : goal.invariant-loop-left
+invariant-loop-left l =
+    (cells kept (tops l.fn.count (items_of l.initial.stack)) (kept_item l.fn.tail) ≡ cells kept (tops l.left (items_of l.stack)) (kept_item l.whole))
+    × (under l.fn.count (items_of l.initial.stack) ≡ under l.left (items_of l.stack))
+    × (frames_of l.stack ≡ frames_of l.initial.stack)
 
-abbrev pub decreases-loop-element : goal.decreases-loop-element
-decreases-loop-element l = vec_len l.elements
+abbrev pub decreases-loop-left : goal.decreases-loop-left
+decreases-loop-left l = l.left
