@@ -7,26 +7,26 @@ use std::alloc::Global;
 use tc_read::{ReadFault, read_clause};
 use tc_term::Term;
 
-/// How many clauses there are, and how many nodes their terms have together.
-#[derive(Clone, Copy)]
-pub struct Counts {
-    pub clauses: u64,
-    pub nodes: u64,
-}
-
-/// Reads a text to its end, or to its first fault.
-pub fn count(alloc: Global, text: &[u8]) -> Result<Counts, ReadFault> {
-    let mut counts = Counts {
-        clauses: 0,
-        nodes: 0,
-    };
+/// How many clauses a text has. It is read to its end, or to its first fault.
+pub fn count_clauses(alloc: Global, text: &[u8]) -> Result<u64, ReadFault> {
+    let mut clauses = 0;
     let mut from = 0;
-    while let Some((clause, behind)) = read_clause(alloc, text, from)? {
-        counts.clauses += 1;
-        counts.nodes = counts.nodes.saturating_add(nodes(clause.term()));
+    while let Some((_, behind)) = read_clause(alloc, text, from)? {
+        clauses += 1;
         from = behind;
     }
-    Ok(counts)
+    Ok(clauses)
+}
+
+/// How many nodes the clauses of a text have together. It is read to its end, or to its first fault.
+pub fn count_nodes(alloc: Global, text: &[u8]) -> Result<u64, ReadFault> {
+    let mut all: u64 = 0;
+    let mut from = 0;
+    while let Some((clause, behind)) = read_clause(alloc, text, from)? {
+        all = all.saturating_add(nodes(clause.term()));
+        from = behind;
+    }
+    Ok(all)
 }
 
 /// How many nodes a term has. Recurses as deep as the term is.

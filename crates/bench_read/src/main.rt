@@ -1,11 +1,13 @@
 //! Reads a text from standard input clause by clause, and prints how many clauses and nodes it has.
 //!
-//! With the argument `measure` it also prints the processor time of that, from the first byte on.
+//! With the argument `measure` it counts the clauses alone, and prints the processor time of that, from
+//! the first byte on.
 #![tactic(auto)]
 
 mod count;
 
 use anyhow::anyhow;
+use count::{count_clauses, count_nodes};
 use std::env;
 use std::time::{CpuClock, Duration};
 use tc_io::{StdSource, read_all};
@@ -14,18 +16,21 @@ use tc_io::{StdSource, read_all};
 const MOST_BYTES: usize = 128 << 20;
 
 fn main(rt: HostRuntime) -> anyhow::Result<()> {
+    let measured = env::args(&rt)?
+        .skip(1)
+        .any(|word| word.as_str() == "measure");
     let start = rt.process_cpu_time()?;
     let text = read_all(rt.alloc(), &mut StdSource::new(rt.stdin()), MOST_BYTES).map_err(
         |fault| anyhow!("no text was read: {fault:?}"),
     )?;
-    let counts = count::count(rt.alloc(), &text)?;
+    let clauses = count_clauses(rt.alloc(), &text)?;
     let time = rt.process_cpu_time()?.saturating_sub(start);
-    println!(rt; "{} clauses, {} nodes", counts.clauses, counts.nodes)?;
-    if env::args(&rt)?
-        .skip(1)
-        .any(|word| word.as_str() == "measure")
-    {
+    if measured {
+        println!(rt; "{clauses} clauses")?;
         println!(rt; "{} microseconds", micros(&time))?;
+    } else {
+        let nodes = count_nodes(rt.alloc(), &text)?;
+        println!(rt; "{clauses} clauses, {nodes} nodes")?;
     }
     Ok(())
 }

@@ -28,9 +28,9 @@ pub fn item(term: Term, nodes: usize, depth: usize, name_bytes: usize) -> Item
     if nodes <= MAX_NODES && depth <= MAX_DEPTH && name_bytes <= MAX_NAME_BYTES {
         Item::Small(Measured {
             term,
-            nodes,
-            depth,
-            name_bytes,
+            nodes: nodes as u16,
+            depth: depth as u16,
+            name_bytes: name_bytes as u16,
         })
     } else {
         Item::Large

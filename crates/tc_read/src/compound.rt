@@ -36,12 +36,9 @@ fn joined_term(term: Measured, several: Several) -> Result<Parts, NoMemory>
         (λ r. parts_view r ≡ joined (Small (tree_of term.term))
         (Whole (reverse (map tree_of several.terms.items)))) }
 {
-    let nodes = several.nodes + term.nodes;
-    let mut depth = several.depth;
-    if term.depth > depth {
-        depth = term.depth;
-    }
-    let name_bytes = several.name_bytes + term.name_bytes;
+    let nodes = several.nodes + usize::from(term.nodes);
+    let depth = several.depth.max(usize::from(term.depth));
+    let name_bytes = several.name_bytes + usize::from(term.name_bytes);
     if nodes >= MAX_NODES || depth >= MAX_DEPTH || name_bytes > MAX_NAME_BYTES {
         return Ok(Parts::Oversized);
     }

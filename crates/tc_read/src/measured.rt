@@ -10,9 +10,9 @@ use tc_term::Term;
 #[derive(Drop)]
 pub struct Measured {
     pub term: Term,
-    pub nodes: usize,
-    pub depth: usize,
-    pub name_bytes: usize,
+    pub nodes: u16,
+    pub depth: u16,
+    pub name_bytes: u16,
     ghost counted: { nodes ≡ tree.nodes (tree_of term) },
     ghost deep: { depth ≡ tree.depth (tree_of term) },
     ghost named: { name_bytes ≡ tree.name_bytes (tree_of term) },

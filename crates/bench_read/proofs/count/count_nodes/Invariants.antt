@@ -1,8 +1,8 @@
 use Rattle.std.proofs.Common.{◌-◌, ◌≤◌, length}
-use Rattle.bench_read.proofs.count.count.Given as goal
+use Rattle.bench_read.proofs.count.count_nodes.Given as goal
 
 abbrev pub invariant-loop-clause : goal.invariant-loop-clause
-invariant-loop-clause l = (l.from ≤ length l.text) × (l.counts.clauses ≤ l.from)
+invariant-loop-clause l = l.from ≤ length l.text
 
 abbrev pub decreases-loop-clause : goal.decreases-loop-clause
 decreases-loop-clause l = length l.text - l.from
