@@ -80,7 +80,7 @@ pub fn begin<'a>(
 }
 
 /// A step behind a name: its arguments come, or it is an atom.
-#[inline]
+#[inline(always)]
 fn named<'a>(
     stack: &mut Stack,
     name: Name,
