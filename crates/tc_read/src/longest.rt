@@ -28,6 +28,9 @@ fn begun<'a>(text: &'a [u8], first: u8, after: &'a [u8]) -> Option<(Lexeme<'a>, 
     ensures some { IfSome result (λ r. Begins text.now (lexeme_view r.0) r.1.now) }
     ensures none { IfNone result (BeginsNone text.now) }
 {
+    if let Some(mark) = punctuation(first) {
+        return Some((Lexeme::Punctuation(mark), after));
+    }
     if is_lower(first) {
         let (bytes, rest) = words(text, first, after);
         return Some((Lexeme::Word(bytes), rest));
@@ -43,12 +46,9 @@ fn begun<'a>(text: &'a [u8], first: u8, after: &'a [u8]) -> Option<(Lexeme<'a>, 
     if first == b'\'' {
         return quoted(after);
     }
-    match punctuation(first) {
-        Some(mark) => Some((Lexeme::Punctuation(mark), after)),
-        None => match symbol(first, after) {
-            Some((sign, rest)) => Some((Lexeme::Symbol(sign), rest)),
-            None => None,
-        },
+    match symbol(first, after) {
+        Some((sign, rest)) => Some((Lexeme::Symbol(sign), rest)),
+        None => None,
     }
 }
 

@@ -12,18 +12,16 @@ loop-left-init c = (λ last e. (last, refl, e), refl, refl)
 pub loop-left-preserved : goal.loop-left-preserved
 loop-left-preserved c =
     let n = c.loop-left.left in
-    let ks = items_of c.loop-left.stack in
-    (
+    let ks = items_of c.loop-left.stack in (
       λ last e.
-          let before = c.loop-left.invariant.0 last e in
-          (
+          let before = c.loop-left.invariant.0 last e in (
             top ks ∷ before.0,
             before.1
-            ∙ ap (λ xs. turned xs before.0) (tops-some n ks c.loop-left-test.true)
-            ∙ ap (λ xs. turned (tops (n - 1) xs) (top ks ∷ before.0)) (sym c.last-in-loop-left.ensures.items),
+                ∙ ap (λ xs. turned xs before.0) (tops-some n ks c.loop-left-test.true)
+                ∙ ap (λ xs. turned (tops (n - 1) xs) (top ks ∷ before.0)) (sym c.last-in-loop-left.ensures.items),
             c.in_ok-parts-2.ensures
-            ∙ ap (λ k. joined k (parts_view c.loop-left.parts)) c.last-in-loop-left.ensures.last
-            ∙ ap (joined (top ks)) before.2,
+                ∙ ap (λ k. joined k (parts_view c.loop-left.parts)) c.last-in-loop-left.ensures.last
+                ∙ ap (joined (top ks)) before.2,
           ),
       c.loop-left.invariant.1 ∙ under-some n ks c.loop-left-test.true ∙ ap (under (n - 1)) (sym c.last-in-loop-left.ensures.items),
       c.last-in-loop-left.ensures.frames ∙ c.loop-left.invariant.2,
@@ -35,12 +33,12 @@ returns-clause-compound c =
     let first = top (items_of c.args.stack.now) in
     let done = tops c.args.count (below (items_of c.args.stack.now)) in
     let begun : parts_view c.in_ok-parts.parts ≡ parts (first ∷ []) =
-        c.in_ok-parts.ensures ∙ ap (joined (kept_item c.last.result)) c.in_ok-none.ensures ∙ ap (λ k. joined k (parts [])) c.last.ensures.last in
+    c.in_ok-parts.ensures ∙ ap (joined (kept_item c.last.result)) c.in_ok-none.ensures ∙ ap (λ k. joined k (parts [])) c.last.ensures.last in
     let all = c.loop-left.invariant.0 (first ∷ []) begun in
     let zero : c.loop-left.left ≡ 0 = omega (arith, c.loop-left-test.false) in
     let whole : turned done (first ∷ []) ≡ all.0 =
-        ap (λ ks. turned (tops c.args.count ks) (first ∷ [])) (sym c.last.ensures.items)
-        ∙ all.1 ∙ ap (λ n. turned (tops n (items_of c.loop-left.stack)) all.0) zero in
+    ap (λ ks. turned (tops c.args.count ks) (first ∷ [])) (sym c.last.ensures.items)
+    ∙ all.1 ∙ ap (λ n. turned (tops n (items_of c.loop-left.stack)) all.0) zero in
     c.finish.ensures
     ∙ ap (finished name) (all.2 ∙ ap parts (sym whole))
     ∙ sym (applied-turned name done [] first)

@@ -8,9 +8,9 @@ use Rattle.tc_read.proofs.compound.compound.Given as goal
 abbrev pub invariant-loop-left : goal.invariant-loop-left
 invariant-loop-left l =
     ((last : List Kept) → parts_view l.initial.parts ≡ parts last →
-        (ks : List Kept)
-        × (turned (tops l.fn.count (items_of l.initial.stack)) last ≡ turned (tops l.left (items_of l.stack)) ks)
-        × (parts_view l.parts ≡ parts ks))
+    (ks : List Kept)
+    × (turned (tops l.fn.count (items_of l.initial.stack)) last ≡ turned (tops l.left (items_of l.stack)) ks)
+    × (parts_view l.parts ≡ parts ks))
     × (under l.fn.count (items_of l.initial.stack) ≡ under l.left (items_of l.stack))
     × (frames_of l.stack ≡ frames_of l.initial.stack)
 

@@ -9,10 +9,9 @@ use Rattle.tc_read.proofs.compound.list.Goals as goal
 pub loop-left-preserved : goal.loop-left-preserved
 loop-left-preserved c =
     let n = c.loop-left.left in
-    let ks = items_of c.loop-left.stack in
-    (
+    let ks = items_of c.loop-left.stack in (
       rw (c.in_ok-whole.ensures, c.last.ensures.last, c.last.ensures.items)
-      (c.loop-left.invariant.0 ∙ ap (λ xs. cells kept xs (kept_item c.loop-left.whole)) (tops-some n ks c.loop-left-test.true)),
+          (c.loop-left.invariant.0 ∙ ap (λ xs. cells kept xs (kept_item c.loop-left.whole)) (tops-some n ks c.loop-left-test.true)),
       c.loop-left.invariant.1 ∙ under-some n ks c.loop-left-test.true ∙ ap (under (n - 1)) (sym c.last.ensures.items),
       c.last.ensures.frames ∙ c.loop-left.invariant.2,
     )
