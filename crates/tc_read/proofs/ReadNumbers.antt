@@ -1,10 +1,10 @@
 -- A number that is read has 64 bits.
-use Rattle.std.proofs.Common.{◌≡◌, ◌∙◌, ◌⊎◌, ◌<◌, ◌≤◌, ◌^◌, ℕ, zero, suc, pos, negsuc, neg_ℤ, Bool, true, false, nat_lt, nat_le, if◌then◌else◌, List, [], ◌∷◌, length, FitsSigned, Option, Some, None, MatchOption, refl, sym, ap, inl, inr, subst, arith}
+use Rattle.std.proofs.Common.{◌≡◌, ◌⊎◌, ◌<◌, ◌≤◌, ◌^◌, ℕ, zero, suc, Bool, true, false, nat_lt, nat_le, if◌then◌else◌, List, [], ◌∷◌, length, FitsSigned, Option, Some, None, MatchOption, refl, inl, inr, subst, arith}
 use Rattle.std.proofs.lemmas.Bool.Decides.{nat_tests}
 use mir.Syntax.{w64}
 use Rattle.tc_term.specs.Faults as faults
 use Rattle.tc_term.specs.Faults.{Answer, Found, Parsed, Reading, Stopped, TooBig, TooMany, Unended, WideInt, When, all_known, first_place, first_wide, is_wide, most_open, numbered, or_else, place_behind, reading, signed, terms, trees, wide_of_all}
-use Rattle.tc_term.specs.Grammar.{Token, Derives, operand, prefix, infix_term, Operand, variable, integer, negative, atom, compound, no_items, items, group, Arguments, last_argument, more_arguments, Items, last_item, list_tail, more_items, IsTerm}
+use Rattle.tc_term.specs.Grammar.{Token, Derives, operand, prefix, infix_term, Operand, variable, integer, negative, atom, compound, no_items, items, group, Arguments, last_argument, more_arguments, Items, last_item, list_tail, more_items}
 use Rattle.tc_term.specs.Layouts.{At, Stop, TextEnd, ClauseEnd, NoToken}
 use Rattle.tc_term.specs.Tree.{Tree, Fits}
 use Rattle.tc_term.specs.Readable.{HasIntegers, HaveIntegers}

@@ -1,8 +1,8 @@
 use Rattle.std.proofs.Common.{◌≡◌, ◌-◌, [], ◌∷◌, refl, sym, ◌∙◌, ap, arith}
 use Rattle.tc_read.specs.Frames.{below, items_of, top, tops, under}
 use Rattle.tc_read.specs.Items.{kept_item, parts_view}
-use Rattle.tc_read.specs.Kept.{finished, joined, kept, parts}
-use Rattle.tc_read.specs.Machine.{applied, turned}
+use Rattle.tc_read.specs.Kept.{finished, joined, parts}
+use Rattle.tc_read.specs.Machine.{turned}
 use Rattle.tc_read.proofs.Framed.{applied-turned, tops-some, under-some}
 use Rattle.tc_read.proofs.compound.compound.Goals as goal
 
