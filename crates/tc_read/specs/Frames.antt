@@ -12,7 +12,7 @@ use Rattle.tc_read.specs.declared.frames.Step.{Step}
 use Rattle.tc_read.specs.declared.frames.State.{State}
 use Rattle.tc_read.specs.declared.frames.State.TheVariants.{Awaits, Holds, Ends}
 
--- the last item, which comes first here
+-- the last item, which comes first here; where there is none, one that doesn't fit
 abbrev pub top : List Kept → Kept
 top [] = Large
 top (k ∷ ks) = k
@@ -22,7 +22,7 @@ abbrev pub below : List Kept → List Kept
 below [] = []
 below (k ∷ ks) = ks
 
--- so many of the last items
+-- so many of the last items, the last one first
 abbrev pub tops : ℕ → List Kept → List Kept
 tops zero ks = []
 tops (suc n) ks = top ks ∷ tops n (below ks)
@@ -39,9 +39,12 @@ framed (Between operator ∷ frames) ks =
     machine.Between (operator_view operator) (top ks) ∷ framed frames (below ks)
 framed (Negated ∷ frames) ks = machine.Negated ∷ framed frames ks
 framed (Group ∷ frames) ks = machine.Group ∷ framed frames ks
-framed (Args name count ∷ frames) ks = machine.Args name (tops count ks) ∷ framed frames (under count ks)
-framed (Elements count ∷ frames) ks = machine.Elements (tops count ks) ∷ framed frames (under count ks)
-framed (Tail count ∷ frames) ks = machine.Tail (tops count ks) ∷ framed frames (under count ks)
+framed (Args name count ∷ frames) ks =
+    machine.Args name (tops count ks) ∷ framed frames (under count ks)
+framed (Elements count ∷ frames) ks =
+    machine.Elements (tops count ks) ∷ framed frames (under count ks)
+framed (Tail count ∷ frames) ks =
+    machine.Tail (tops count ks) ∷ framed frames (under count ks)
 
 -- the frames, innermost first
 abbrev pub frames_of : Stack → List Frame

@@ -88,7 +88,7 @@ impl Stack {
         Ok(())
     }
 
-    /// Takes the last item off. There is one wherever this is called.
+    /// Takes the last item off. Where there is none, the answer is one that doesn't fit.
     pub fn last(&mut self) -> Item
         ensures last { kept_item result ≡ top (items_of self.old) }
         ensures items { items_of self.new ≡ below (items_of self.old) }
