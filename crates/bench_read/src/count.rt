@@ -18,7 +18,8 @@ pub fn count_clauses(alloc: Global, text: &[u8]) -> Result<u64, ReadFault> {
     Ok(clauses)
 }
 
-/// How many nodes the clauses of a text have together. It is read to its end, or to its first fault.
+/// How many nodes the clauses of a text have together. It is read to its end, or to its first
+/// fault.
 pub fn count_nodes(alloc: Global, text: &[u8]) -> Result<u64, ReadFault> {
     let mut all: u64 = 0;
     let mut from = 0;

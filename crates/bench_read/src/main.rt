@@ -1,7 +1,7 @@
 //! Reads a text from standard input clause by clause, and prints how many clauses and nodes it has.
 //!
-//! With the argument `measure` it counts the clauses alone, and prints the processor time of that, from
-//! the first byte on.
+//! With the argument `measure` it counts the clauses alone, and prints the processor time of that,
+//! from the first byte on.
 #![tactic(auto)]
 
 mod count;
