@@ -3,6 +3,7 @@ pub mod Roots
 pub mod Finite
 pub mod Steps
 pub mod Walks
+pub mod Ends
 pub mod Solutions
 pub mod Arenas
 pub mod Tables

@@ -6,6 +6,7 @@ use Rattle.std.proofs.lemmas.Bool.{cases_eq, cases_lt}
 use Rattle.std.proofs.lemmas.List.{get_or-set_same, get_or-set_other, get_or_default, take_more, reverse-append}
 use Rattle.std.proofs.lemmas.List.Elements.{All-nil, All-cons, All-append, All-push, All-weaker, All-get_or, All-from_get_or, All-pop}
 use Rattle.std.proofs.Math.ListN.{get_or-eq_default}
+use Rattle.tc_unify.specs.declared.nodes.TheConstants.{FIRST_VARIABLE}
 use Rattle.tc_unify.specs.declared.nodes.Arena.{Arena}
 use Rattle.tc_unify.specs.declared.links.Links.{Links}
 use Rattle.tc_unify.specs.declared.walk.Step.{Step}
@@ -21,7 +22,8 @@ use Rattle.tc_unify.specs.Meeting.{IsLinked}
 use Rattle.tc_unify.specs.Walks.{Awaits, Descends, IsOpenIn}
 use Rattle.tc_unify.specs.Marks.{mark_of, steps_of, IsListed, IsUnmarked, IsMarked, IsStep, Knows, Keeps, IsEndless, unseen, walk_work}
 use Rattle.tc_unify.proofs.Roots.{root-ends, root-fixed}
-use Rattle.tc_unify.proofs.Walks.{IsFinite-same, Awaits-more, Awaits-passed, Awaits-entered, Descends-entered, Descends-open}
+use Rattle.tc_unify.proofs.Arenas.{variable_above}
+use Rattle.tc_unify.proofs.Walks.{IsFinite-same, Awaits-more, Awaits-skipped, Awaits-passed, Awaits-entered, Descends-entered, Descends-open}
 
 pub reverse-push : {X : Type 0} (xs : List X) (x : X) → reverse (xs ++ x ∷ []) ≡ x ∷ reverse xs
 reverse-push xs x = reverse-append xs (x ∷ [])
@@ -304,6 +306,16 @@ module _ (a : Arena) (l : Links) (w new : Walk) (n : ℕ)
       (subst (λ ns. Awaits (shape_of a) (link_of l) ns (λ j. IsFinite (shape_of a) (link_of l) j ⊎ (j ≡ n)) (steps_of w))
       (sym (take_more nodes i n h ∙ ap (λ x. take i nodes ++ x ∷ []) (sym read)))
       (Awaits-more (shape_of a) (link_of l) (take i nodes) n (IsFinite (shape_of a) (link_of l)) (steps_of w) awaits))
+
+-- a node that is no variable is not entered
+pub Awaits-passed_over : (a : Arena) (l : Links) (w : Walk) (n : ℕ) (nodes : List ℕ) (i : ℕ) → n < FIRST_VARIABLE → i < length nodes → n ≡ get_or nodes i n
+    → Awaits (shape_of a) (link_of l) (take i nodes) (IsFinite (shape_of a) (link_of l)) (steps_of w)
+    → Awaits (shape_of a) (link_of l) (take (i + 1) nodes) (IsFinite (shape_of a) (link_of l)) (steps_of w)
+Awaits-passed_over a l w n nodes i below h read awaits =
+    subst (λ ns. Awaits (shape_of a) (link_of l) ns (IsFinite (shape_of a) (link_of l)) (steps_of w))
+    (sym (take_more nodes i n h ∙ ap (λ x. take i nodes ++ x ∷ []) (sym read)))
+    (Awaits-skipped (shape_of a) (link_of l) (take i nodes) n (IsFinite (shape_of a) (link_of l))
+    (λ free. let above = variable_above a.nodes.items a.text.items n free in omega arith) (steps_of w) awaits)
 
 -- the last step, as the walk takes it
 pub step_taken : (a : Arena) (l : Links) (seen : List ℕ) (steps rest : List Step) (s t : Step) → steps ≡ rest ++ s ∷ [] → s ≡ t → All (IsStep a l seen) steps → IsStep a l seen t × (reverse steps ≡ t ∷ reverse rest)

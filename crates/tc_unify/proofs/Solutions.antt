@@ -4,12 +4,11 @@ use Rattle.std.proofs.lemmas.List.Elements.{All-nil, All-cons, All-tail, All-hea
 use Rattle.tc_term.specs.Tree.{Tree, Variable, Atomic}
 use Rattle.tc_term.specs.Equations.{at, under, Solves, Solvable}
 use Rattle.tc_unify.specs.Nodes.{Shape, InOrder, label}
-use Rattle.tc_unify.specs.Links.{Falls, root, Respects, Holds, IsFinite}
+use Rattle.tc_unify.specs.Links.{Respects, Holds, IsFinite}
 use Rattle.tc_unify.specs.Solutions.{AreLinked, AreVariables, IsValuation, IsSolution, Means, Meets, NeverMeets, equations_of}
 use Rattle.tc_unify.proofs.Labels.{instance-label}
-use Rattle.tc_unify.proofs.Roots.{root-tree, root-fixed, root-ends}
+use Rattle.tc_unify.proofs.Roots.{root-tree}
 use Rattle.tc_unify.proofs.Finite.{choice_trees, choice_trees-solve, finite-from_solution}
-use Rattle.tc_unify.proofs.Walks.{IsFinite-same}
 
 -- the choice of the atom without a name
 abbrev no_name : ℕ → Tree
@@ -79,17 +78,3 @@ module _ (count : ℕ) (shape : ℕ → Shape) (order : InOrder shape) (pairs : 
 pub finite_nodes : (count : ℕ) (shape : ℕ → Shape) (link : ℕ → ℕ) (trees : List Tree) → AreLinked shape link → IsSolution count shape link trees → (k : ℕ) → IsFinite shape link k
 finite_nodes count shape link trees linked solution =
     finite-from_solution shape link (at trees) linked (λ k. inr (root-tree link (label shape (at trees)) solution.respects k))
-
--- a node whose root is new is finite, and the others keep their root
-pub finite_after : (shape : ℕ → Shape) (old link : ℕ → ℕ) (v : ℕ → Tree) → AreLinked shape link → Falls old → Respects (label shape v) old
-    → ((k : ℕ) → root link (root old k) ≡ root link k)
-    → ((k : ℕ) → old k ≡ k → (link k ≡ k) ⊎ IsFinite shape link k)
-    → (k : ℕ) → IsFinite shape link k
-finite_after shape old link v linked falls respects roots known =
-    finite-from_solution shape link v linked
-    (λ k. elim (known (root old k) (root-ends old falls k)) [
-      | inl same ↦
-          inr (root-tree old (label shape v) respects k
-          ∙ ap (label shape v) (sym (root-fixed link (root old k) same) ∙ roots k))
-      | inr finite ↦ inl (IsFinite-same (roots k) finite)
-    ])

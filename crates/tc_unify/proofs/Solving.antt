@@ -1,13 +1,14 @@
 -- An equation of two nodes is added, or found never to hold.
-use Rattle.std.proofs.Common.{◌≡◌, ℕ, ◌+◌, ◌-◌, List, [], ◌∷◌, length, drop, sym, ap, ◌∙◌, subst, arith, All, Ok, Err, Result, IfOk, Bool}
+use Rattle.std.proofs.Common.{◌≡◌, ℕ, ◌+◌, ◌-◌, List, [], ◌∷◌, length, drop, sym, ap, inl, inr, ◌∙◌, subst, arith, All, Ok, Err, Result, IfOk, Bool}
 use Rattle.std.proofs.Math.ListN.{get_or-eq_default}
 use Rattle.std.proofs.Math.Seq.{drop-append_seam}
+use Rattle.std.proofs.lemmas.List.Elements.{All-nil}
 use Rattle.tc_term.specs.Equations.{at}
 use Rattle.tc_unify.specs.declared.nodes.TheConstants.{FIRST_VARIABLE}
 use Rattle.tc_unify.specs.declared.nodes.Arena.{Arena}
 use Rattle.tc_unify.specs.declared.links.Links.{Links}
 use Rattle.tc_unify.specs.Nodes.{VariableNode, IsVariable}
-use Rattle.tc_unify.specs.Links.{IsFinite}
+use Rattle.tc_unify.specs.Links.{IsFiniteVariable}
 use Rattle.tc_unify.specs.Solutions.{AreVariables, Means, Meets, NeverMeets}
 use Rattle.tc_unify.specs.Arena.{shape_of}
 use Rattle.tc_unify.specs.Tables.{link_of, Extends}
@@ -16,7 +17,8 @@ use Rattle.tc_unify.specs.Walks.{HasNoTrees}
 use Rattle.tc_unify.proofs.Steps.{meets_begin}
 use Rattle.tc_unify.proofs.Tables.{Extends-root, Extends-known, link_in-variable}
 use Rattle.tc_unify.proofs.Arenas.{shape_in-variable, variable_above}
-use Rattle.tc_unify.proofs.Solutions.{Means-push, finite_after}
+use Rattle.tc_unify.proofs.Solutions.{Means-push}
+use Rattle.tc_unify.proofs.Ends.{finite_from_variables}
 
 -- the node of a variable
 abbrev pub variable_at : ℕ → ℕ
@@ -43,14 +45,19 @@ module _ (a : Arena) (l new : Links) (pair : ℕ × ℕ) (pairs : List (ℕ × �
   met : Leads a l (pair ∷ []) new [] → Meets (shape_of a) (link_of l) pair (link_of new) []
   met leads = leads (link_of l) pair (meets_begin (shape_of a) (link_of l) pair.0 pair.1 means.alike)
 
-  pub solved_means : Leads a l (pair ∷ []) new [] → All (IsFinite (shape_of a) (link_of new)) (drop (length l.trail.items) new.trail.items) → Means a.variables (shape_of a) (link_of new) (pair ∷ pairs)
+  pub solved_means : Leads a l (pair ∷ []) new [] → All (IsFiniteVariable (shape_of a) (link_of new)) (drop (length l.trail.items) new.trail.items) → Means a.variables (shape_of a) (link_of new) (pair ∷ pairs)
   solved_means leads all =
-      let finite_more : All (IsFinite (shape_of a) (link_of new)) x.more =
-      subst (All (IsFinite (shape_of a) (link_of new))) (ap (drop (length l.trail.items)) x.trail ∙ drop-append_seam l.trail.items x.more) all in
+      let finite_more : All (IsFiniteVariable (shape_of a) (link_of new)) x.more =
+      subst (All (IsFiniteVariable (shape_of a) (link_of new))) (ap (drop (length l.trail.items)) x.trail ∙ drop-append_seam l.trail.items x.more) all in
       Means-push a.variables (shape_of a) (link_of l) (link_of new) variable_at pairs pair.0 pair.1 means linked.linked (are_variables a new linked) (met leads)
-      (finite_after (shape_of a) (link_of l) (link_of new) (at means.solution) linked.linked old.linked.falls means.solves.respects
+      (finite_from_variables (shape_of a) (link_of l) (link_of new) (at means.solution) linked.linked old.linked.falls means.solves.respects
+      (λ F r. (met leads).alike F r (All-nil (λ p. F p.0 ≡ F p.1)))
       (Extends-root l new x linked.linked.falls)
-      (λ k fixed. Extends-known l new (IsFinite (shape_of a) (link_of new)) x finite_more k fixed))
+      (λ k fixed free.
+      elim (Extends-known l new (IsFiniteVariable (shape_of a) (link_of new)) x finite_more k fixed) [
+        | inl same ↦ inl same
+        | inr finite ↦ inr (finite free)
+      ]))
 
   pub never_failed : Fails a l (pair ∷ []) → NeverMeets (shape_of a) (link_of l) pair
   never_failed fails = fails (link_of l) pair (meets_begin (shape_of a) (link_of l) pair.0 pair.1 means.alike)

@@ -2,7 +2,7 @@
 use Rattle.std.proofs.Common.{◌≡◌, ℕ, ◌+◌, ◌<◌, ◌≤◌, ◌⊎◌, inl, inr, List, [], ◌∷◌, ◌++◌, refl, sym, ap, ◌∙◌, subst, arith}
 use Rattle.std.proofs.lemmas.List.Elements.{All-weaker, All-push}
 use Rattle.tc_term.specs.Tree.{Tree, nodes}
-use Rattle.tc_unify.specs.Nodes.{Shape, VariableNode, AtomNode, NumberNode, ApplyNode, tree_of_node, IsPlain, IsInOrder, InOrder, label}
+use Rattle.tc_unify.specs.Nodes.{Shape, VariableNode, AtomNode, NumberNode, ApplyNode, tree_of_node, IsVariable, IsPlain, IsInOrder, InOrder, label}
 use Rattle.tc_unify.specs.Links.{root, Respects, IsFinite, plain, made}
 use Rattle.tc_unify.specs.declared.walk.Step.{Step}
 use Rattle.tc_unify.specs.declared.walk.Step.TheVariants.{Enter, Leave}
@@ -17,7 +17,8 @@ NamesAll-weaker P Q w (AtomNode name) h = tt
 NamesAll-weaker P Q w (NumberNode n) h = tt
 
 pub Awaits-weaker : (shape : ℕ → Shape) (link : ℕ → ℕ) (for : List ℕ) (P Q : ℕ → Type 0) → ((k : ℕ) → P k → Q k) → (steps : List Step) → Awaits shape link for P steps → Awaits shape link for Q steps
-Awaits-weaker shape link for P Q w [] h = All-weaker P Q w for h
+Awaits-weaker shape link for P Q w [] h =
+    All-weaker (λ j. IsVariable (shape j) → P j) (λ j. IsVariable (shape j) → Q j) (λ j p free. w j (p free)) for h
 Awaits-weaker shape link for P Q w (Enter k ∷ steps) h =
     Awaits-weaker shape link for (λ j. P j ⊎ (j ≡ k)) (λ j. Q j ⊎ (j ≡ k)) (λ j. λ c. elim c [ inl p ↦ inl (w j p) | inr e ↦ inr e ]) steps h
 Awaits-weaker shape link for P Q w (Leave r ∷ steps) h = (
@@ -28,7 +29,8 @@ Awaits-weaker shape link for P Q w (Leave r ∷ steps) h = (
 -- one node more is to be entered, for itself
 pub Awaits-more : (shape : ℕ → Shape) (link : ℕ → ℕ) (for : List ℕ) (x : ℕ) (P : ℕ → Type 0) (steps : List Step) → Awaits shape link for P steps → Awaits shape link (for ++ x ∷ []) (λ j. P j ⊎ (j ≡ x)) steps
 Awaits-more shape link for x P [] h =
-    All-push (λ j. P j ⊎ (j ≡ x)) for x (All-weaker P (λ j. P j ⊎ (j ≡ x)) (λ j p. inl p) for h) (inr refl)
+    All-push (λ j. IsVariable (shape j) → P j ⊎ (j ≡ x)) for x
+    (All-weaker (λ j. IsVariable (shape j) → P j) (λ j. IsVariable (shape j) → P j ⊎ (j ≡ x)) (λ j p free. inl (p free)) for h) (λ free. inr refl)
 Awaits-more shape link for x P (Enter k ∷ steps) h =
     Awaits-weaker shape link (for ++ x ∷ []) (λ j. (P j ⊎ (j ≡ k)) ⊎ (j ≡ x)) (λ j. (P j ⊎ (j ≡ x)) ⊎ (j ≡ k))
     (λ j. λ c. elim c [ inl d ↦ elim d [ inl p ↦ inl (inl p) | inr e ↦ inr e ] | inr e ↦ inl (inr e) ]) steps
@@ -39,6 +41,12 @@ Awaits-more shape link for x P (Leave r ∷ steps) h = (
       (λ j. λ c. elim c [ inl d ↦ elim d [ inl p ↦ inl (inl p) | inr e ↦ inr e ] | inr e ↦ inl (inr e) ]) steps
       (Awaits-more shape link for x (λ j. P j ⊎ (root link j ≡ r)) steps h.1),
 )
+
+-- the walk is also for a node that is no variable
+pub Awaits-skipped : (shape : ℕ → Shape) (link : ℕ → ℕ) (for : List ℕ) (x : ℕ) (P : ℕ → Type 0) → (IsVariable (shape x) → ⊥) → (steps : List Step) → Awaits shape link for P steps → Awaits shape link (for ++ x ∷ []) P steps
+Awaits-skipped shape link for x P never [] h = All-push (λ j. IsVariable (shape j) → P j) for x h (λ free. absurd (never free))
+Awaits-skipped shape link for x P never (Enter k ∷ steps) h = Awaits-skipped shape link for x (λ j. P j ⊎ (j ≡ k)) never steps h
+Awaits-skipped shape link for x P never (Leave r ∷ steps) h = (h.0, Awaits-skipped shape link for x (λ j. P j ⊎ (root link j ≡ r)) never steps h.1)
 
 -- nodes with one root are finite together
 pub IsFinite-same : {shape : ℕ → Shape} {link : ℕ → ℕ} {j k : ℕ} → root link j ≡ root link k → IsFinite shape link j → IsFinite shape link k

@@ -1,7 +1,7 @@
 -- Links from a node to another that stands for the same tree, or to itself.
 use Rattle.std.specs.Prelude.{◌≡◌, ℕ, zero, suc, ◌<◌, ◌⊎◌, List, ◌==◌, if◌then◌else◌, All}
 use Rattle.tc_term.specs.Tree.{Tree}
-use Rattle.tc_unify.specs.Nodes.{Shape, ApplyNode, tree_of_node, IsPlain, IsTerm}
+use Rattle.tc_unify.specs.Nodes.{Shape, ApplyNode, tree_of_node, IsPlain, IsTerm, IsVariable}
 
 -- each link goes to the node itself or to a lower one
 abbrev pub Falls : (ℕ → ℕ) → Type 0
@@ -41,3 +41,7 @@ pub data IsFinite (shape : ℕ → Shape) (link : ℕ → ℕ) : ℕ → Type 0 
       → IsFinite shape link head
       → IsFinite shape link argument
       → IsFinite shape link k
+
+-- the node stands for a finite tree, if it is a variable
+abbrev pub IsFiniteVariable : (ℕ → Shape) → (ℕ → ℕ) → ℕ → Type 0
+IsFiniteVariable shape link k = IsVariable (shape k) → IsFinite shape link k

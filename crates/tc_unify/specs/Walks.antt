@@ -1,7 +1,7 @@
 -- A walk over the nodes below some node, which shows that they are finite or finds a node below itself.
 use Rattle.std.specs.Prelude.{◌≡◌, ℕ, ◌<◌, ◌⊎◌, List, [], ◌∷◌, All}
 use Rattle.tc_term.specs.Tree.{Tree, nodes}
-use Rattle.tc_unify.specs.Nodes.{Shape, VariableNode, AtomNode, NumberNode, ApplyNode, label}
+use Rattle.tc_unify.specs.Nodes.{Shape, VariableNode, AtomNode, NumberNode, ApplyNode, IsVariable, label}
 use Rattle.tc_unify.specs.Links.{root, Respects}
 use Rattle.tc_unify.specs.declared.walk.Step.{Step}
 use Rattle.tc_unify.specs.declared.walk.Step.TheVariants.{Enter, Leave}
@@ -14,9 +14,9 @@ NamesAll P (AtomNode name) = Unit {0}
 NamesAll P (NumberNode n) = Unit {0}
 
 -- where a node is left, the nodes that it names have the property once all that is above is done,
--- and at the end the nodes that the walk is for have it
+-- and at the end the variables that the walk is for have it
 abbrev pub Awaits : (ℕ → Shape) → (ℕ → ℕ) → List ℕ → (ℕ → Type 0) → List Step → Type 0
-Awaits shape link for P [] = All P for
+Awaits shape link for P [] = All (λ k. IsVariable (shape k) → P k) for
 Awaits shape link for P (Enter k ∷ steps) = Awaits shape link for (λ j. P j ⊎ (j ≡ k)) steps
 Awaits shape link for P (Leave r ∷ steps) =
     NamesAll P (shape r) × Awaits shape link for (λ j. P j ⊎ (root link j ≡ r)) steps

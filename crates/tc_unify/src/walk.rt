@@ -2,7 +2,7 @@
 ghost use Rattle.std.specs.Prelude.{◌≡◌, ℕ, ◌<◌, ◌≤◌, ◌⊎◌, ◌∷◌, ◌++◌, [], false, drop, length, get_or, set, IfOk, OnOk, IsTrue, All};
 ghost use Rattle.tc_unify.specs.declared.nodes.Arena.{Arena};
 ghost use Rattle.tc_unify.specs.Arena.{shape_of, IsNodeOf};
-ghost use Rattle.tc_unify.specs.Links.{IsFinite};
+ghost use Rattle.tc_unify.specs.Links.{IsFiniteVariable};
 ghost use Rattle.tc_unify.specs.Tables.{link_of};
 ghost use Rattle.tc_unify.specs.Meeting.{IsLinked};
 ghost use Rattle.tc_unify.specs.Walks.{HasNoTrees};
@@ -35,7 +35,7 @@ pub(crate) struct Walk {
     pub(crate) seen: Vec<usize>,
 }
 
-/// Whether the nodes that were linked from this place of the trail on stand for finite trees.
+/// Whether the variables that were linked from this place of the trail on stand for finite trees.
 ///
 /// Takes the time of the nodes below them, each counted once, and of the links that are followed.
 pub(crate) fn are_finite(
@@ -49,7 +49,7 @@ pub(crate) fn are_finite(
     requires place { from ≤ length links.now.trail.items }
     ensures finite { IfOk result
         (λ finite. IsTrue finite
-        → All (IsFinite (shape_of arena.now) (link_of links.now)) (drop from links.now.trail.items)) }
+        → All (IsFiniteVariable (shape_of arena.now) (link_of links.now)) (drop from links.now.trail.items)) }
     ensures endless { IfOk result (λ finite. finite ≡ false → HasNoTrees (shape_of arena.now) (link_of links.now)) }
     ensures unmarked { IsUnmarked arena.now walk.new }
 {
@@ -94,7 +94,7 @@ fn take_back(marks: &mut Vec<Mark>, seen: &[usize])
     }
 }
 
-// Walks over the nodes below some nodes. The marks and scratch lists are left as they are.
+// Walks over the nodes below the variables among some nodes. The marks and scratch lists are left as they are.
 fn walk_below(
     arena: &Arena,
     links: &Links,
@@ -105,12 +105,14 @@ fn walk_below(
     requires unmarked { IsUnmarked arena.now walk.old }
     requires nodes { All (IsNodeOf arena.now) nodes.now }
     ensures finite { IfOk result
-        (λ finite. IsTrue finite → All (IsFinite (shape_of arena.now) (link_of links.now)) nodes.now) }
+        (λ finite. IsTrue finite → All (IsFiniteVariable (shape_of arena.now) (link_of links.now)) nodes.now) }
     ensures endless { IfOk result (λ finite. finite ≡ false → HasNoTrees (shape_of arena.now) (link_of links.now)) }
     ensures marked { IsMarked arena.now walk.new }
 {
     for node in nodes {
-        walk.steps.push(Step::Enter(*node))?;
+        if *node >= FIRST_VARIABLE {
+            walk.steps.push(Step::Enter(*node))?;
+        }
     }
     while let Some(step) = walk.steps.pop() {
         match step {

@@ -1,6 +1,6 @@
 use Rattle.std.proofs.Common.{◌≡◌, ◌++◌, ◌∷◌, [], List, ℕ, subst, ap, ◌∙◌, All, drop, IsTrue, false}
 use Rattle.tc_unify.specs.Arena.{shape_of}
-use Rattle.tc_unify.specs.Links.{IsFinite}
+use Rattle.tc_unify.specs.Links.{IsFiniteVariable}
 use Rattle.tc_unify.specs.Tables.{link_of}
 use Rattle.tc_unify.specs.Solutions.{Means, NeverMeets}
 use Rattle.tc_unify.specs.Meeting.{Leads, Fails}
@@ -18,11 +18,11 @@ returns-clause-solved c =
     let a = c.args.arena.now in
     let leads = subst (λ ws. Leads a c.args.links.now ws c.unify.new.links []) (c.in_ok-push.ensures.items ∙ ap (λ ws. ws ++ c.args.pair ∷ []) c.clear.ensures.items) (c.in_ok-unify.ensures.met c.if-not-branch.false) in
     weaker_ok c.are_finite.result
-    (λ finite. IsTrue finite → All (IsFinite (shape_of a) (link_of c.unify.new.links)) (drop c.len-from.result c.unify.new.links.trail.items))
+    (λ finite. IsTrue finite → All (IsFiniteVariable (shape_of a) (link_of c.unify.new.links)) (drop c.len-from.result c.unify.new.links.trail.items))
     (λ solved. IsTrue solved → (pairs : List (ℕ × ℕ)) → Means a.variables (shape_of a) (link_of c.args.links.now) pairs → Means a.variables (shape_of a) (link_of c.unify.new.links) (c.args.pair ∷ pairs))
     (λ b finite true pairs means.
     solved_means a c.args.links.now c.unify.new.links c.args.pair pairs c.requires.linked c.unify.ensures.linked c.unify.ensures.extends means leads
-    (subst (λ n. All (IsFinite (shape_of a) (link_of c.unify.new.links)) (drop n c.unify.new.links.trail.items)) (c.len-from.ensures ∙ c.args.links.now.trail.ok.0) (finite true)))
+    (subst (λ n. All (IsFiniteVariable (shape_of a) (link_of c.unify.new.links)) (drop n c.unify.new.links.trail.items)) (c.len-from.ensures ∙ c.args.links.now.trail.ok.0) (finite true)))
     c.are_finite.ensures.finite
 
 pub returns-clause-never : goal.returns-clause-never

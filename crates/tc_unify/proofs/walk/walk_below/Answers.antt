@@ -1,5 +1,7 @@
-use Rattle.std.proofs.Common.{ℕ, ◌<◌, ◌++◌, ◌∷◌, [], sym, ap, ◌∙◌, subst, refl, arith, length, length-append, List, reverse, get_or, All}
+use Rattle.std.proofs.Common.{ℕ, ◌+◌, ◌<◌, take, ◌++◌, ◌∷◌, [], sym, ap, ◌∙◌, subst, refl, arith, length, length-append, List, reverse, get_or, All}
+use Rattle.tc_term.specs.Tree.{Tree}
 use Rattle.tc_unify.specs.declared.nodes.Arena.{Arena}
+use Rattle.tc_unify.specs.declared.links.Links.{Links}
 use Rattle.std.proofs.lemmas.List.{take_all, get_or_default}
 use Rattle.std.proofs.lemmas.List.Elements.{All-get_or}
 use Rattle.tc_unify.specs.declared.walk.Step.TheVariants.{Enter, Leave}
@@ -9,26 +11,55 @@ use Rattle.tc_unify.specs.Links.{IsFinite}
 use Rattle.tc_unify.specs.Arena.{IsNodeOf, shape_of}
 use Rattle.tc_unify.specs.Tables.{link_of}
 use Rattle.tc_unify.specs.Walks.{Awaits, Descends, IsBelowAll}
-use Rattle.tc_unify.specs.Marks.{steps_of}
+use Rattle.tc_unify.specs.Marks.{IsMarked, Knows, steps_of}
 use Rattle.tc_unify.proofs.Roots.{root-fixed}
 use Rattle.tc_unify.proofs.Walks.{Awaits-left}
-use Rattle.tc_unify.proofs.Marks.{steps_started, Knows-started, Awaits-started, step_taken, Knows-left, IsMarked-left, unseen-finite}
+use Rattle.tc_unify.proofs.Marks.{steps_started, Knows-started, Awaits-started, Awaits-passed_over, step_taken, Knows-left, IsMarked-left, unseen-finite}
+use Rattle.tc_unify.proofs.walk.walk_below.Goals.{then-node-ge-FIRST_VARIABLE+in_ok-push, else-node-ge-FIRST_VARIABLE}
 use Rattle.tc_unify.proofs.walk.walk_below.Goals as goal
 
 start_inside : (a : Arena) (nodes : List ℕ) (i : ℕ) → i < length nodes → All (IsNodeOf a) nodes → IsNodeOf a (get_or nodes i 0)
 start_inside a nodes i h all = All-get_or (IsNodeOf a) nodes i 0 h all
 
+abbrev IsStarted : Arena → Links → List ℕ → ℕ → Walk → Type 0
+IsStarted a l nodes i w = record {
+  awaits : Awaits (shape_of a) (link_of l) (take i nodes) (IsFinite (shape_of a) (link_of l)) (steps_of w);
+  descends : (F : ℕ → Tree) → Descends F (steps_of w);
+  below : (F : ℕ → Tree) (t : Tree) → IsBelowAll F t (steps_of w);
+  known : Knows a l w;
+  marked : IsMarked a w;
+}
+
 pub loop-node-preserved : goal.loop-node-preserved
 loop-node-preserved c =
-    let new : Walk = record (c.loop-node.walk) { steps = c.push.new.self } in
-    record {
-      awaits = Awaits-started c.args.arena.now c.args.links.now c.loop-node.walk new (get_or c.args.nodes.now c.loop-node.node-index 0) c.loop-node.invariant.known (start_inside c.args.arena.now c.args.nodes.now c.loop-node.node-index c.loop-node-test.true c.requires.nodes) c.in_ok-push.ensures.items refl refl c.args.nodes.now c.loop-node.node-index c.loop-node-test.true
-          (get_or_default c.args.nodes.now c.loop-node.node-index 0 _ c.loop-node-test.true) c.loop-node.invariant.awaits;
-      descends = λ F. subst (Descends F) (sym (steps_started c.args.arena.now c.args.links.now c.loop-node.walk new (get_or c.args.nodes.now c.loop-node.node-index 0) c.loop-node.invariant.known (start_inside c.args.arena.now c.args.nodes.now c.loop-node.node-index c.loop-node-test.true c.requires.nodes) c.in_ok-push.ensures.items refl refl)) (c.loop-node.invariant.below F (F (get_or c.args.nodes.now c.loop-node.node-index 0)), c.loop-node.invariant.descends F);
-      below = λ F t. subst (IsBelowAll F t) (sym (steps_started c.args.arena.now c.args.links.now c.loop-node.walk new (get_or c.args.nodes.now c.loop-node.node-index 0) c.loop-node.invariant.known (start_inside c.args.arena.now c.args.nodes.now c.loop-node.node-index c.loop-node-test.true c.requires.nodes) c.in_ok-push.ensures.items refl refl)) (c.loop-node.invariant.below F t);
-      known = Knows-started c.args.arena.now c.args.links.now c.loop-node.walk new (get_or c.args.nodes.now c.loop-node.node-index 0) c.loop-node.invariant.known (start_inside c.args.arena.now c.args.nodes.now c.loop-node.node-index c.loop-node-test.true c.requires.nodes) c.in_ok-push.ensures.items refl refl;
-      marked = record { listed = c.loop-node.invariant.marked.listed; size = c.loop-node.invariant.marked.size; seen = c.loop-node.invariant.marked.seen };
-    }
+    let a = c.args.arena.now in
+    let l = c.args.links.now in
+    let nodes = c.args.nodes.now in
+    let i = c.loop-node.node-index in
+    let n = get_or nodes i 0 in
+    let read = get_or_default nodes i 0 n c.loop-node-test.true in
+    let before = c.loop-node.invariant in
+    elim c.if-node-ge-FIRST_VARIABLE.branch [
+      | then-node-ge-FIRST_VARIABLE+in_ok-push w ↦
+          let new : Walk = record (c.loop-node.walk) { steps = w.push.new.self } in
+          let inside = start_inside a nodes i c.loop-node-test.true c.requires.nodes in
+          let started = steps_started a l c.loop-node.walk new n before.known inside w.in_ok-push.ensures.items refl refl in
+          subst (IsStarted a l nodes (i + 1)) (sym w.walk-is) (record {
+            awaits = Awaits-started a l c.loop-node.walk new n before.known inside w.in_ok-push.ensures.items refl refl nodes i c.loop-node-test.true read before.awaits;
+            descends = λ F. subst (Descends F) (sym started) (before.below F (F n), before.descends F);
+            below = λ F t. subst (IsBelowAll F t) (sym started) (before.below F t);
+            known = Knows-started a l c.loop-node.walk new n before.known inside w.in_ok-push.ensures.items refl refl;
+            marked = record { listed = before.marked.listed; size = before.marked.size; seen = before.marked.seen };
+          })
+      | else-node-ge-FIRST_VARIABLE w ↦
+          subst (IsStarted a l nodes (i + 1)) (sym w.walk-is) (record {
+            awaits = Awaits-passed_over a l c.loop-node.walk n nodes i w.if-node-ge-FIRST_VARIABLE.false c.loop-node-test.true read before.awaits;
+            descends = before.descends;
+            below = before.below;
+            known = before.known;
+            marked = before.marked;
+          })
+    ]
 
 pub loop-step-init : goal.loop-step-init
 loop-step-init c = record {
