@@ -5,7 +5,7 @@ use Rattle.std.proofs.Math.Path.{fun_ext}
 use Rattle.std.proofs.Math.ListN.{get_or-eq_default}
 use Rattle.std.proofs.Math.Seq.{drop-append_seam, take-append_seam}
 use Rattle.std.proofs.lemmas.List.{map-append, reverse-append, take-append-drop}
-use Rattle.std.proofs.lemmas.List.Elements.{All-nil, All-cons, All-pop, All-weaker, All-take, All-drop}
+use Rattle.std.proofs.lemmas.List.Elements.{All-nil, All-cons, All-pop, All-weaker, All-drop}
 use Rattle.tc_term.specs.Tree.{Tree, Variable}
 use Rattle.tc_term.specs.Variables.{raised}
 use Rattle.tc_term.proofs.Instances.{instance-instance}
@@ -16,16 +16,13 @@ use Rattle.tc_unify.specs.declared.nodes.Arena.{Arena}
 use Rattle.tc_unify.specs.declared.links.Links.{Links}
 use Rattle.tc_unify.specs.declared.sizes.Sizes.{Sizes}
 use Rattle.tc_unify.specs.declared.sizes.Added.{Added}
-use Rattle.tc_unify.specs.declared.walk.Walk.{Walk}
-use Rattle.tc_unify.specs.declared.walk.Mark.TheVariants.{Unseen}
 use Rattle.tc_unify.specs.Nodes.{label}
 use Rattle.tc_unify.specs.Solutions.{Means, NeverMeets, IsSolution, equations_of}
 use Rattle.tc_unify.specs.Values.{AreSolved}
 use Rattle.tc_unify.specs.Arena.{IsArena, IsNodeOf, IsNodeFor, Grows, Begins, shape_in, shape_of, node_tree}
 use Rattle.tc_unify.specs.Tables.{link_of, rewound, HasNode, Extends}
-use Rattle.tc_unify.specs.Cuts.{IsCut, IsWalkCut}
+use Rattle.tc_unify.specs.Cuts.{IsCut}
 use Rattle.tc_unify.specs.Meeting.{IsLinked}
-use Rattle.tc_unify.specs.Marks.{IsUnmarked}
 use Rattle.tc_unify.specs.Stores.{pairs_of, IsLevel, AreLevels, equations_in, IsStore, IsGrown, IsAdded, NeverAdds}
 use Rattle.tc_unify.proofs.Labels.{instance-label}
 use Rattle.tc_unify.proofs.Arenas.{Begins-append, inside_grows}
@@ -34,7 +31,7 @@ use Rattle.tc_unify.proofs.Meetings.{place_of}
 use Rattle.tc_unify.proofs.Solutions.{Solves-holds, Solves-from_holds}
 use Rattle.tc_unify.proofs.Growing.{level_of, Means-grows, equations-grow, IsLinked-grown, past_tables, AreLevels-same, pairs_backward, pairs_forward}
 
-module _ (a : Arena) (l : Links) (w : Walk) (added : List Added) (store : IsStore a l w added) where
+module _ (a : Arena) (l : Links) (added : List Added) (store : IsStore a l added) where
   pub newest : IsLevel a.variables a.nodes.items a.text.items (link_of l) l.trail.items (reverse added)
   newest = level_of a.variables a.nodes.items a.text.items (link_of l) l.trail.items (reverse added) store.levels
 
@@ -104,7 +101,7 @@ module _ (a : Arena) (l : Links) (w : Walk) (added : List Added) (store : IsStor
           ∙ sym (ap (under v) right.tree) ∙ instance-label (shape_of b) (at v) grown.order pair.1)
 
   -- what an addition left can be taken back
-  module _ (b : Arena) (m : Links) (v : Walk) (g : IsGrown a l b m v) (to : Sizes)
+  module _ (b : Arena) (m : Links) (g : IsGrown a l b m) (to : Sizes)
       (nodes_to : to.nodes ≡ length a.nodes.items) (text_to : to.text ≡ length a.text.items) (trail_to : to.trail ≡ length l.trail.items) where
     more_is : drop to.trail m.trail.items ≡ g.more
     more_is = ap₂ (λ n ns. drop n ns) trail_to g.trail ∙ drop-append_seam l.trail.items g.more
@@ -120,10 +117,10 @@ module _ (a : Arena) (l : Links) (w : Walk) (added : List Added) (store : IsStor
         let size = store.terms in
         back_link k ∙ link_in-term l.terms.items l.variables.items k term ∙ get_or-eq_default l.terms.items k (omega arith)
 
-    module _ (c : Arena) (n : Links) (u : Walk)
+    module _ (c : Arena) (n : Links)
         (nodes : c.nodes.items ≡ take to.nodes b.nodes.items) (text : c.text.items ≡ take to.text b.text.items) (variables : c.variables ≡ b.variables)
         (link : (k : ℕ) → link_of n k ≡ rewound (link_of m) (drop to.trail m.trail.items) k)
-        (cut : IsCut m n to) (walk : IsWalkCut v u to.nodes) where
+        (cut : IsCut m n to) where
       same_nodes : c.nodes.items ≡ a.nodes.items
       same_nodes = nodes ∙ ap (λ i. take i b.nodes.items) nodes_to ∙ g.grows.nodes
 
@@ -133,7 +130,7 @@ module _ (a : Arena) (l : Links) (w : Walk) (added : List Added) (store : IsStor
       same_variables : c.variables ≡ a.variables
       same_variables = variables ∙ g.grows.variables
 
-      pub restored : IsStore c n u added
+      pub restored : IsStore c n added
       restored = record {
         levels = AreLevels-same a.variables c.variables a.nodes.items c.nodes.items a.text.items c.text.items (link_of l) (link_of n) l.trail.items n.trail.items (reverse added)
             same_variables same_nodes same_text (λ k. link k ∙ back_link k)
@@ -147,28 +144,16 @@ module _ (a : Arena) (l : Links) (w : Walk) (added : List Added) (store : IsStor
             omega arith;
         variables = cut.variables ∙ g.variables ∙ store.variables ∙ sym same_variables;
         few = subst (λ x. x < 4294967296) (sym same_variables) store.few;
-        walk = record {
-          marks = subst (All (λ mark. mark ≡ Unseen)) (sym walk.marks) (All-take (λ mark. mark ≡ Unseen) to.nodes v.marks.items g.marks);
-          size =
-              let size = store.terms in
-              let longer = g.marks_long in
-              let one = length-take to.nodes v.marks.items in
-              let two = ap length walk.marks in
-              let three = ap length same_nodes in
-              omega arith;
-          steps = walk.steps ∙ g.steps;
-          seen = walk.seen ∙ g.seen;
-        };
       }
 
       pub restored_equations : equations_in c added ≡ equations_in a added
       restored_equations = ap₂ (λ ns bytes. equations_of (shape_in ns bytes) (pairs_of added)) same_nodes same_text
 
   -- an addition that is kept
-  module _ (b : Arena) (m : Links) (v : Walk) (g : IsGrown a l b m v) (pair : ℕ × ℕ) (s t : Tree) (is : IsAdded a b m v added pair s t) (e : Added)
+  module _ (b : Arena) (m : Links) (g : IsGrown a l b m) (pair : ℕ × ℕ) (s t : Tree) (is : IsAdded a b m added pair s t) (e : Added)
       (pair_is : (e.left, e.right) ≡ pair)
       (nodes_to : e.before.nodes ≡ length a.nodes.items) (text_to : e.before.text ≡ length a.text.items) (trail_to : e.before.trail ≡ length l.trail.items) where
-    pub kept : IsStore b m v (added ++ e ∷ [])
+    pub kept : IsStore b m (added ++ e ∷ [])
     kept = record {
       levels = subst (AreLevels b.variables b.nodes.items b.text.items (link_of m) m.trail.items) (sym (reverse-append added (e ∷ []))) (
         record {
@@ -192,7 +177,6 @@ module _ (a : Arena) (l : Links) (w : Walk) (added : List Added) (store : IsStor
       terms = is.linked.terms;
       variables = is.linked.variables;
       few = subst (λ x. x < 4294967296) (sym g.grows.variables) store.few;
-      walk = record { marks = g.marks; size = is.marks; steps = g.steps; seen = g.seen };
     }
 
     pub kept_equations : equations_in b (added ++ e ∷ []) ≡ equations_in a added ++ (s, t) ∷ []
@@ -203,10 +187,10 @@ module _ (a : Arena) (l : Links) (w : Walk) (added : List Added) (store : IsStor
         (ap (λ p. (node_tree b p.0, node_tree b p.1)) pair_is ∙ ap₂ (λ (x : Tree) (y : Tree). (x, y)) is.left.tree is.right.tree)
 
 -- links that were extended can be taken back
-pub IsGrown-solved : (a b : Arena) (l m n : Links) (w : Walk) → Grows a b → ((k : ℕ) → link_of m k ≡ link_of l k) → m.trail.items ≡ l.trail.items
+pub IsGrown-solved : (a b : Arena) (l m n : Links) → Grows a b → ((k : ℕ) → link_of m k ≡ link_of l k) → m.trail.items ≡ l.trail.items
     → length l.terms.items ≤ length m.terms.items → length m.variables.items ≡ length l.variables.items
-    → Extends m n → IsLinked b n → IsUnmarked b w → IsGrown a l b n w
-IsGrown-solved a b l m n w grows link trail terms variables x linked unmarked = record {
+    → Extends m n → IsLinked b n → IsGrown a l b n
+IsGrown-solved a b l m n grows link trail terms variables x linked = record {
   grows = grows;
   more = x.more;
   trail = x.trail ∙ ap (λ ns. ns ++ x.more) trail;
@@ -215,18 +199,13 @@ IsGrown-solved a b l m n w grows link trail terms variables x linked unmarked = 
       (All-drop (HasNode n) (length m.trail.items) n.trail.items (All-weaker (IsNodeOf b) (HasNode n) (place_of b n linked) n.trail.items linked.trail));
   terms = (let same = x.terms in omega arith);
   variables = x.variables ∙ variables;
-  marks = unmarked.marks;
-  marks_long = (let one = x.terms in let two = linked.terms in let three = unmarked.size in omega arith);
-  steps = unmarked.steps;
-  seen = unmarked.seen;
 }
 
 -- so can tables that have only become longer
-pub IsGrown-prepared : (a b : Arena) (l m : Links) (w : Walk) → Grows a b → ((k : ℕ) → link_of m k ≡ link_of l k) → m.trail.items ≡ l.trail.items
+pub IsGrown-prepared : (a b : Arena) (l m : Links) → Grows a b → ((k : ℕ) → link_of m k ≡ link_of l k) → m.trail.items ≡ l.trail.items
     → length l.terms.items ≤ length m.terms.items → length m.variables.items ≡ length l.variables.items
-    → All (λ mark. mark ≡ Unseen) w.marks.items → length l.terms.items ≤ length w.marks.items → w.steps.items ≡ [] → w.seen.items ≡ []
-    → IsGrown a l b m w
-IsGrown-prepared a b l m w grows link trail terms variables marks long steps seen = record {
+    → IsGrown a l b m
+IsGrown-prepared a b l m grows link trail terms variables = record {
   grows = grows;
   more = [];
   trail = trail ∙ sym (append-nil l.trail.items);
@@ -234,10 +213,6 @@ IsGrown-prepared a b l m w grows link trail terms variables marks long steps see
   places = All-nil (HasNode m);
   terms = terms;
   variables = variables;
-  marks = marks;
-  marks_long = long;
-  steps = steps;
-  seen = seen;
 }
 
 pub equations-length : (a : Arena) (added : List Added) → length (equations_in a added) ≡ length added
@@ -248,7 +223,7 @@ begins_take : {X : Type 0} (n : ℕ) (xs : List X) → Begins (take n xs) xs
 begins_take n xs = subst (Begins (take n xs)) (take-append-drop n xs) (Begins-append (take n xs) (drop n xs))
 
 -- the newest equation is taken back
-module _ (a : Arena) (l : Links) (w : Walk) (added rest : List Added) (e : Added) (store : IsStore a l w added) (split : added ≡ rest ++ e ∷ []) where
+module _ (a : Arena) (l : Links) (added rest : List Added) (e : Added) (store : IsStore a l added) (split : added ≡ rest ++ e ∷ []) where
   before : AreLevels a.variables (take e.before.nodes a.nodes.items) (take e.before.text a.text.items) (rewound (link_of l) (drop e.before.trail l.trail.items)) (take e.before.trail l.trail.items) (reverse rest)
   before =
       let turned : reverse added ≡ e ∷ reverse rest = ap reverse split ∙ reverse-append rest (e ∷ []) in
@@ -260,7 +235,7 @@ module _ (a : Arena) (l : Links) (w : Walk) (added rest : List Added) (e : Added
   pub newest_places : All (HasNode l) (drop e.before.trail l.trail.items)
   newest_places =
       All-drop (HasNode l) e.before.trail l.trail.items
-      (All-weaker (IsNodeOf a) (HasNode l) (place_of a l (store_linked a l w added store)) l.trail.items (newest a l w added store).trail_nodes)
+      (All-weaker (IsNodeOf a) (HasNode l) (place_of a l (store_linked a l added store)) l.trail.items (newest a l added store).trail_nodes)
 
   pub newest_past : (k : ℕ) → e.before.nodes ≤ k → k < FIRST_VARIABLE → rewound (link_of l) (drop e.before.trail l.trail.items) k ≡ k
   newest_past k h term =
@@ -273,11 +248,11 @@ module _ (a : Arena) (l : Links) (w : Walk) (added rest : List Added) (e : Added
         | inr same ↦ same
       ]
 
-  module _ (c : Arena) (n : Links) (u : Walk)
+  module _ (c : Arena) (n : Links)
       (nodes : c.nodes.items ≡ take e.before.nodes a.nodes.items) (text : c.text.items ≡ take e.before.text a.text.items) (variables : c.variables ≡ a.variables)
       (link : (k : ℕ) → link_of n k ≡ rewound (link_of l) (drop e.before.trail l.trail.items) k)
-      (cut : IsCut l n e.before) (walk : IsWalkCut w u e.before.nodes) where
-    pub newest_store : IsStore c n u rest
+      (cut : IsCut l n e.before) where
+    pub newest_store : IsStore c n rest
     newest_store = record {
       levels = AreLevels-same a.variables c.variables (take e.before.nodes a.nodes.items) c.nodes.items (take e.before.text a.text.items) c.text.items
           (rewound (link_of l) (drop e.before.trail l.trail.items)) (link_of n) (take e.before.trail l.trail.items) n.trail.items (reverse rest)
@@ -291,18 +266,6 @@ module _ (a : Arena) (l : Links) (w : Walk) (added rest : List Added) (e : Added
           omega arith;
       variables = cut.variables ∙ store.variables ∙ sym variables;
       few = subst (λ x. x < 4294967296) (sym variables) store.few;
-      walk = record {
-        marks = subst (All (λ mark. mark ≡ Unseen)) (sym walk.marks) (All-take (λ mark. mark ≡ Unseen) e.before.nodes w.marks.items store.walk.marks);
-        size =
-            let size = store.walk.size in
-            let one = length-take e.before.nodes w.marks.items in
-            let two = ap length walk.marks in
-            let three = ap length nodes in
-            let four = length-take e.before.nodes a.nodes.items in
-            omega arith;
-        steps = walk.steps ∙ store.walk.steps;
-        seen = walk.seen ∙ store.walk.seen;
-      };
     }
 
     pub newest_equations : equations_in c rest ≡ take (length added - 1) (equations_in a added)
@@ -320,7 +283,7 @@ module _ (a : Arena) (l : Links) (w : Walk) (added rest : List Added) (e : Added
         let whole : equations_in a added ≡ equations_in a rest ++ (node_tree a e.left, node_tree a e.right) ∷ [] =
         ap (equations_in a) split ∙ ap (equations_of (shape_of a)) (map-append (λ x. (x.left, x.right)) rest (e ∷ []))
         ∙ map-append (λ p. (node_tree a p.0, node_tree a p.1)) (pairs_of rest) ((e.left, e.right) ∷ []) in
-        sym (equations_kept c n u rest newest_store a (newest a l w added store).arena grows)
+        sym (equations_kept c n rest newest_store a (newest a l added store).arena grows)
         ∙ sym (take-append_seam (equations_in a rest) ((node_tree a e.left, node_tree a e.right) ∷ []))
         ∙ ap₂ (λ i es. take i es) (sym count) (sym whole)
 

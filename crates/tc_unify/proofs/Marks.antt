@@ -6,7 +6,6 @@ use Rattle.std.proofs.lemmas.Bool.{cases_eq, cases_lt}
 use Rattle.std.proofs.lemmas.List.{get_or-set_same, get_or-set_other, get_or_default, take_more, reverse-append}
 use Rattle.std.proofs.lemmas.List.Elements.{All-nil, All-cons, All-append, All-push, All-weaker, All-get_or, All-from_get_or, All-pop}
 use Rattle.std.proofs.Math.ListN.{get_or-eq_default}
-use Rattle.tc_unify.specs.declared.nodes.TheConstants.{FIRST_VARIABLE}
 use Rattle.tc_unify.specs.declared.nodes.Arena.{Arena}
 use Rattle.tc_unify.specs.declared.links.Links.{Links}
 use Rattle.tc_unify.specs.declared.walk.Step.{Step}
@@ -14,15 +13,14 @@ use Rattle.tc_unify.specs.declared.walk.Step.TheVariants.{Enter, Leave}
 use Rattle.tc_unify.specs.declared.walk.Mark.{Mark}
 use Rattle.tc_unify.specs.declared.walk.Mark.TheVariants.{Unseen, Open, Finite}
 use Rattle.tc_unify.specs.declared.walk.Walk.{Walk}
-use Rattle.tc_unify.specs.Nodes.{ApplyNode, IsPlain, label}
-use Rattle.tc_unify.specs.Links.{root, IsFinite, plain}
+use Rattle.tc_unify.specs.Nodes.{ApplyNode, IsVariable, IsPlain, label}
+use Rattle.tc_unify.specs.Links.{root, IsFinite, IsFiniteVariable, plain}
 use Rattle.tc_unify.specs.Arena.{IsNodeOf, shape_of}
 use Rattle.tc_unify.specs.Tables.{link_of}
 use Rattle.tc_unify.specs.Meeting.{IsLinked}
-use Rattle.tc_unify.specs.Walks.{Awaits, Descends, IsOpenIn}
-use Rattle.tc_unify.specs.Marks.{mark_of, steps_of, IsListed, IsUnmarked, IsMarked, IsStep, Knows, Keeps, IsEndless, unseen, walk_work}
+use Rattle.tc_unify.specs.Walks.{Awaits, Descends, IsBelowAll, IsOpenIn}
+use Rattle.tc_unify.specs.Marks.{mark_of, steps_of, IsListed, IsMarked, IsStarted, IsStep, Knows, Keeps, IsEndless, unseen, walk_work}
 use Rattle.tc_unify.proofs.Roots.{root-ends, root-fixed}
-use Rattle.tc_unify.proofs.Arenas.{variable_above}
 use Rattle.tc_unify.proofs.Walks.{IsFinite-same, Awaits-more, Awaits-skipped, Awaits-passed, Awaits-entered, Descends-entered, Descends-open}
 
 pub reverse-push : {X : Type 0} (xs : List X) (x : X) → reverse (xs ++ x ∷ []) ≡ x ∷ reverse xs
@@ -63,29 +61,33 @@ unseen-finite (Open ∷ marks) (suc n) = omega (arith, unseen-finite marks n)
 unseen-finite (Finite ∷ marks) (suc n) = omega (arith, unseen-finite marks n)
 
 -- what a read of the marks says
-pub mark_read : (w : Walk) (a : Arena) (k : ℕ) (m : Mark) → IsMarked a w → k < length a.nodes.items → m ≡ get_or w.marks.items k m → mark_of w k ≡ m
-mark_read w a k m marked h read =
-    let size = marked.size in
-    get_or_default w.marks.items k Unseen m (omega arith) ∙ sym read
+pub mark_read : (w : Walk) (a : Arena) (k : ℕ) (m : Mark) → length a.nodes.items ≤ length w.marks.items → k < length a.nodes.items → m ≡ get_or w.marks.items k m → mark_of w k ≡ m
+mark_read w a k m room h read = get_or_default w.marks.items k Unseen m (omega arith) ∙ sym read
 
 IsStep-push : (a : Arena) (l : Links) (seen : List ℕ) (n : ℕ) (s : Step) → IsStep a l seen s → IsStep a l (seen ++ n ∷ []) s
 IsStep-push a l seen n (Enter k) h = h
 IsStep-push a l seen n (Leave r) h = (h.0, h.1, IsListed-push seen n r h.2)
 
--- an unmarked walk is marked rightly, and knows nothing
-pub IsMarked-unmarked : (a : Arena) (w : Walk) → IsUnmarked a w → IsMarked a w
-IsMarked-unmarked a w h = record {
-  listed = λ k. inl (unseen_at k);
-  size = h.size;
-  seen = subst (All (λ k. k < length w.marks.items)) (sym h.seen) (All-nil (λ k. k < length w.marks.items));
+-- where no node is marked, the marks say nothing
+unseen_at : (marks : List Mark) (k : ℕ) → All (λ m. m ≡ Unseen) marks → get_or marks k Unseen ≡ Unseen
+unseen_at marks k all =
+    elim (cases_lt k (length marks)) [
+      | inl below ↦ All-get_or (λ m. m ≡ Unseen) marks k Unseen below all
+      | inr above ↦ get_or-eq_default marks Unseen above
+    ]
+
+pub IsMarked-unseen : (w : Walk) → All (λ m. m ≡ Unseen) w.marks.items → w.seen.items ≡ [] → IsMarked w
+IsMarked-unseen w all none = record {
+  listed = λ k. inl (unseen_at w.marks.items k all);
+  seen = subst (All (λ k. k < length w.marks.items)) (sym none) (All-nil (λ k. k < length w.marks.items));
 }
-  where
-    unseen_at : (k : ℕ) → mark_of w k ≡ Unseen
-    unseen_at k =
-        elim (cases_lt k (length w.marks.items)) [
-          | inl below ↦ All-get_or (λ m. m ≡ Unseen) w.marks.items k Unseen below h.marks
-          | inr above ↦ get_or-eq_default w.marks.items Unseen above
-        ]
+
+pub Knows-unseen : (a : Arena) (l : Links) (w : Walk) → All (λ m. m ≡ Unseen) w.marks.items → w.seen.items ≡ [] → All (IsStep a l []) w.steps.items → Knows a l w
+Knows-unseen a l w all none steps = record {
+  finite = λ k e. let never : Unseen ≡ Finite = sym (unseen_at w.marks.items k all) ∙ e in absurd cc;
+  opened = λ k e. let never : Unseen ≡ Open = sym (unseen_at w.marks.items k all) ∙ e in absurd cc;
+  steps = subst (λ ns. All (IsStep a l ns) w.steps.items) (sym none) steps;
+}
 
 module _ (a : Arena) (l : Links) (w : Walk) (linked : IsLinked a l) (known : Knows a l w) where
   -- a node with a finite root is passed
@@ -111,7 +113,7 @@ module _ (a : Arena) (l : Links) (w : Walk) (linked : IsLinked a l) (known : Kno
 
   module _ (node r head argument : ℕ) (new : Walk) (is_root : r ≡ root (link_of l) node)
       (inside : r < length a.nodes.items)
-      (size : length w.marks.items ≡ length a.nodes.items)
+      (room : length a.nodes.items ≤ length w.marks.items)
       (unseen_root : mark_of w r ≡ Unseen)
       (applied : shape_of a r ≡ ApplyNode head argument)
       (named : IsNodeOf a head × IsNodeOf a argument)
@@ -170,7 +172,8 @@ module _ (a : Arena) (l : Links) (w : Walk) (linked : IsLinked a l) (known : Kno
 -- what a step that is done leaves
 module _ (a : Arena) (l : Links) (linked : IsLinked a l) (w new : Walk) (r : ℕ) (rest : List Step)
     (known : Knows a l w)
-    (marked : IsMarked a w)
+    (marked : IsMarked w)
+    (room : length a.nodes.items ≤ length w.marks.items)
     (inside : r < length a.nodes.items)
     (fixed : link_of l r ≡ r)
     (listed : IsListed w.seen.items r)
@@ -180,7 +183,6 @@ module _ (a : Arena) (l : Links) (linked : IsLinked a l) (w new : Walk) (r : ℕ
     (seen : new.seen.items ≡ w.seen.items) where
   left_mark : (k : ℕ) → ((k ≡ r) × (mark_of new k ≡ Finite)) ⊎ ((k ≢ r) × (mark_of new k ≡ mark_of w k))
   left_mark k =
-      let size = marked.size in
       subst (λ ms. ((k ≡ r) × (get_or ms k Unseen ≡ Finite)) ⊎ ((k ≢ r) × (get_or ms k Unseen ≡ mark_of w k))) (sym marks)
       (mark-set w.marks.items r k Finite (omega arith))
 
@@ -208,7 +210,7 @@ module _ (a : Arena) (l : Links) (linked : IsLinked a l) (w new : Walk) (r : ℕ
         (All-pop (IsStep a l w.seen.items) w.steps.items new.steps.items (Some (Leave r)) before known.steps).0;
   }
 
-  pub IsMarked-left : IsMarked a new
+  pub IsMarked-left : IsMarked new
   IsMarked-left = record {
     listed = λ k.
         subst (λ ns. (mark_of new k ≡ Unseen) ⊎ IsListed ns k) (sym seen)
@@ -216,22 +218,20 @@ module _ (a : Arena) (l : Links) (linked : IsLinked a l) (w new : Walk) (r : ℕ
           | inl at ↦ inr (subst (IsListed w.seen.items) (sym at.0) listed)
           | inr off ↦ elim (marked.listed k) [ inl e ↦ inl (off.1 ∙ e) | inr i ↦ inr i ]
         ]);
-    size = ap length marks ∙ length-set w.marks.items r Finite ∙ marked.size;
     seen =
         subst (λ n. All (λ k. k < n) new.seen.items) (sym (ap length marks ∙ length-set w.marks.items r Finite))
         (subst (All (λ k. k < length w.marks.items)) (sym seen) marked.seen);
   }
 
 -- a node more is seen
-pub IsMarked-seen : (a : Arena) (w new : Walk) (n : ℕ) → IsMarked a w → n < length w.marks.items → new.marks.items ≡ w.marks.items → new.seen.items ≡ w.seen.items ++ n ∷ [] → IsMarked a new
-IsMarked-seen a w new n marked h marks seen = record {
+pub IsMarked-seen : (w new : Walk) (n : ℕ) → IsMarked w → n < length w.marks.items → new.marks.items ≡ w.marks.items → new.seen.items ≡ w.seen.items ++ n ∷ [] → IsMarked new
+IsMarked-seen w new n marked h marks seen = record {
   listed = λ k.
       subst (IsListedOr k) (sym seen)
       (elim (marked.listed k) [
         | inl e ↦ inl (ap (λ ms. get_or ms k Unseen) marks ∙ e)
         | inr i ↦ inr (IsListed-push w.seen.items n k i)
       ]);
-  size = ap length marks ∙ marked.size;
   seen =
       subst (λ ms. All (λ k. k < length ms) new.seen.items) (sym marks)
       (subst (All (λ k. k < length w.marks.items)) (sym seen) (All-push (λ k. k < length w.marks.items) w.seen.items n marked.seen h));
@@ -241,8 +241,8 @@ IsMarked-seen a w new n marked h marks seen = record {
     IsListedOr k ns = (mark_of new k ≡ Unseen) ⊎ IsListed ns k
 
 -- and marked
-pub IsMarked-opened : (a : Arena) (w new : Walk) (n : ℕ) (m : Mark) → IsMarked a w → n < length w.marks.items → new.marks.items ≡ set w.marks.items n m → new.seen.items ≡ w.seen.items ++ n ∷ [] → IsMarked a new
-IsMarked-opened a w new n m marked h marks seen = record {
+pub IsMarked-opened : (w new : Walk) (n : ℕ) (m : Mark) → IsMarked w → n < length w.marks.items → new.marks.items ≡ set w.marks.items n m → new.seen.items ≡ w.seen.items ++ n ∷ [] → IsMarked new
+IsMarked-opened w new n m marked h marks seen = record {
   listed = λ k.
       subst (λ ns. (mark_of new k ≡ Unseen) ⊎ IsListed ns k) (sym seen)
       (subst (λ ms. (get_or ms k Unseen ≡ Unseen) ⊎ IsListed (w.seen.items ++ n ∷ []) k) (sym marks)
@@ -250,7 +250,6 @@ IsMarked-opened a w new n m marked h marks seen = record {
         | inl at ↦ inr (subst (IsListed (w.seen.items ++ n ∷ [])) (sym at.0) (IsListed-pushed w.seen.items n))
         | inr off ↦ elim (marked.listed k) [ inl e ↦ inl (off.1 ∙ e) | inr i ↦ inr (IsListed-push w.seen.items n k i) ]
       ]));
-  size = ap length marks ∙ length-set w.marks.items n m ∙ marked.size;
   seen =
       subst (λ j. All (λ k. k < j) new.seen.items) (sym (ap length marks ∙ length-set w.marks.items n m))
       (subst (All (λ k. k < length w.marks.items)) (sym seen) (All-push (λ k. k < length w.marks.items) w.seen.items n marked.seen h));
@@ -279,43 +278,43 @@ unmark_end marks seen i h listed =
     All-from_get_or (λ m. m ≡ Unseen) marks Unseen
     (λ k below. elim (listed k) [ inl e ↦ e | inr found ↦ absurd (subst (λ ns. IsListed ns k) (drop_of_length-le seen h) found) ])
 
--- a node more is to be entered
-module _ (a : Arena) (l : Links) (w new : Walk) (n : ℕ)
-    (known : Knows a l w)
-    (inside : IsNodeOf a n)
-    (steps : new.steps.items ≡ w.steps.items ++ Enter n ∷ [])
-    (marks : new.marks.items ≡ w.marks.items)
-    (seen : new.seen.items ≡ w.seen.items) where
-  pub steps_started : steps_of new ≡ Enter n ∷ steps_of w
-  steps_started = ap reverse steps ∙ reverse-push w.steps.items (Enter n)
+-- nothing is to be entered yet
+pub IsStarted-none : (a : Arena) (l : Links) (steps : List Step) → steps ≡ [] → IsStarted a l [] steps
+IsStarted-none a l steps e =
+    subst (IsStarted a l []) (sym e) (record {
+      awaits = All-nil (λ k. IsVariable (shape_of a k) → IsFinite (shape_of a) (link_of l) k);
+      descends = λ F. tt;
+      below = λ F t. tt;
+      enters = All-nil (IsStep a l []);
+    })
 
-  pub Knows-started : Knows a l new
-  Knows-started = record {
-    finite = λ k e. known.finite k (ap (λ ms. get_or ms k Unseen) (sym marks) ∙ e);
-    opened = λ k e. subst (λ ss. IsOpenIn ss k) (sym steps_started) (known.opened k (ap (λ ms. get_or ms k Unseen) (sym marks) ∙ e));
-    steps =
-        subst (λ ns. All (IsStep a l ns) new.steps.items) (sym seen)
-        (subst (All (IsStep a l w.seen.items)) (sym steps) (All-push (IsStep a l w.seen.items) w.steps.items (Enter n) known.steps inside));
+module _ (a : Arena) (l : Links) (nodes : List ℕ) (steps : List Step) (i n : ℕ) (below : i < length nodes) (read : n ≡ get_or nodes i n) (started : IsStarted a l (take i nodes) steps) where
+  one_more : take (i + 1) nodes ≡ take i nodes ++ n ∷ []
+  one_more = take_more nodes i n below ∙ ap (λ x. take i nodes ++ x ∷ []) (sym read)
+
+  -- a node more is to be entered
+  pub IsStarted-push : (new : List Step) → IsNodeOf a n → new ≡ steps ++ Enter n ∷ [] → IsStarted a l (take (i + 1) nodes) new
+  IsStarted-push new inside pushed =
+      let turned : reverse new ≡ Enter n ∷ reverse steps = ap reverse pushed ∙ reverse-push steps (Enter n) in
+      record {
+        awaits =
+            subst (Awaits (shape_of a) (link_of l) (take (i + 1) nodes) (IsFinite (shape_of a) (link_of l))) (sym turned)
+            (subst (λ ns. Awaits (shape_of a) (link_of l) ns (λ j. IsFinite (shape_of a) (link_of l) j ⊎ (j ≡ n)) (reverse steps)) (sym one_more)
+            (Awaits-more (shape_of a) (link_of l) (take i nodes) n (IsFinite (shape_of a) (link_of l)) (reverse steps) started.awaits));
+        descends = λ F. subst (Descends F) (sym turned) (started.below F (F n), started.descends F);
+        below = λ F t. subst (IsBelowAll F t) (sym turned) (started.below F t);
+        enters = subst (All (IsStep a l [])) (sym pushed) (All-push (IsStep a l []) steps (Enter n) started.enters inside);
+      }
+
+  -- or need not be
+  pub IsStarted-pass : IsFiniteVariable (shape_of a) (link_of l) n → IsStarted a l (take (i + 1) nodes) steps
+  IsStarted-pass finite = record {
+    awaits = subst (λ ns. Awaits (shape_of a) (link_of l) ns (IsFinite (shape_of a) (link_of l)) (reverse steps)) (sym one_more)
+        (Awaits-skipped (shape_of a) (link_of l) (take i nodes) n (IsFinite (shape_of a) (link_of l)) finite (reverse steps) started.awaits);
+    descends = started.descends;
+    below = started.below;
+    enters = started.enters;
   }
-
-  pub Awaits-started : (nodes : List ℕ) (i : ℕ) → i < length nodes → n ≡ get_or nodes i n
-      → Awaits (shape_of a) (link_of l) (take i nodes) (IsFinite (shape_of a) (link_of l)) (steps_of w)
-      → Awaits (shape_of a) (link_of l) (take (i + 1) nodes) (IsFinite (shape_of a) (link_of l)) (steps_of new)
-  Awaits-started nodes i h read awaits =
-      subst (Awaits (shape_of a) (link_of l) (take (i + 1) nodes) (IsFinite (shape_of a) (link_of l))) (sym steps_started)
-      (subst (λ ns. Awaits (shape_of a) (link_of l) ns (λ j. IsFinite (shape_of a) (link_of l) j ⊎ (j ≡ n)) (steps_of w))
-      (sym (take_more nodes i n h ∙ ap (λ x. take i nodes ++ x ∷ []) (sym read)))
-      (Awaits-more (shape_of a) (link_of l) (take i nodes) n (IsFinite (shape_of a) (link_of l)) (steps_of w) awaits))
-
--- a node that is no variable is not entered
-pub Awaits-passed_over : (a : Arena) (l : Links) (w : Walk) (n : ℕ) (nodes : List ℕ) (i : ℕ) → n < FIRST_VARIABLE → i < length nodes → n ≡ get_or nodes i n
-    → Awaits (shape_of a) (link_of l) (take i nodes) (IsFinite (shape_of a) (link_of l)) (steps_of w)
-    → Awaits (shape_of a) (link_of l) (take (i + 1) nodes) (IsFinite (shape_of a) (link_of l)) (steps_of w)
-Awaits-passed_over a l w n nodes i below h read awaits =
-    subst (λ ns. Awaits (shape_of a) (link_of l) ns (IsFinite (shape_of a) (link_of l)) (steps_of w))
-    (sym (take_more nodes i n h ∙ ap (λ x. take i nodes ++ x ∷ []) (sym read)))
-    (Awaits-skipped (shape_of a) (link_of l) (take i nodes) n (IsFinite (shape_of a) (link_of l))
-    (λ free. let above = variable_above a.nodes.items a.text.items n free in omega arith) (steps_of w) awaits)
 
 -- the last step, as the walk takes it
 pub step_taken : (a : Arena) (l : Links) (seen : List ℕ) (steps rest : List Step) (s t : Step) → steps ≡ rest ++ s ∷ [] → s ≡ t → All (IsStep a l seen) steps → IsStep a l seen t × (reverse steps ≡ t ∷ reverse rest)

@@ -1,10 +1,10 @@
 -- What the links of a store say of its equations.
-use Rattle.std.proofs.Common.{◌≡◌, ℕ, ◌⊎◌, inl, inr, List, [], ◌∷◌, map, refl, sym, ap, ◌∙◌, All}
+use Rattle.std.proofs.Common.{◌≡◌, ℕ, inr, List, [], ◌∷◌, map, refl, sym, ◌∙◌, All}
 use Rattle.std.proofs.lemmas.List.Elements.{All-nil, All-cons, All-tail, All-head, All-map, All-weaker}
 use Rattle.tc_term.specs.Tree.{Tree, Variable, Atomic}
 use Rattle.tc_term.specs.Equations.{at, under, Solves, Solvable}
 use Rattle.tc_unify.specs.Nodes.{Shape, InOrder, label}
-use Rattle.tc_unify.specs.Links.{Respects, Holds, IsFinite}
+use Rattle.tc_unify.specs.Links.{Holds, IsFinite}
 use Rattle.tc_unify.specs.Solutions.{AreLinked, AreVariables, IsValuation, IsSolution, Means, Meets, NeverMeets, equations_of}
 use Rattle.tc_unify.proofs.Labels.{instance-label}
 use Rattle.tc_unify.proofs.Roots.{root-tree}

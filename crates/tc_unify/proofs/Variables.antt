@@ -19,6 +19,7 @@ use Rattle.tc_unify.specs.Nodes.{IsTerm, IsInOrder, InOrder, tree_of_node, label
 use Rattle.tc_unify.specs.Links.{Respects}
 use Rattle.tc_unify.specs.Arena.{IsInside, IsNodeWithin, shape_in}
 use Rattle.tc_unify.specs.Tables.{link_in, link_of, rewound}
+use Rattle.tc_unify.specs.Marks.{IsUnmarked}
 use Rattle.tc_unify.specs.Stores.{pairs_of, IsLevel, AreLevels, IsStore}
 use Rattle.tc_unify.proofs.Arenas.{shape_in-term, shape_in-variable}
 use Rattle.tc_unify.proofs.Tables.{link_in-term, link_in-variable}
@@ -102,25 +103,18 @@ AreLevels-wider count more nodes text link trail (e ∷ added) h = (
 )
 
 -- a store with more variables
-pub store_grown : (a b : Arena) (l m : Links) (w u : Walk) (added : List Added) (more : ℕ) → IsStore a l w added
+pub store_grown : (a b : Arena) (l m : Links) (added : List Added) (more : ℕ) → IsStore a l added
     → b.nodes.items ≡ a.nodes.items → b.text.items ≡ a.text.items → b.variables ≡ a.variables + more
     → ((k : ℕ) → link_of m k ≡ link_of l k) → m.trail.items ≡ l.trail.items → length m.terms.items ≡ length l.terms.items → length m.variables.items ≡ a.variables + more
     → a.variables + more < 2 ^ 32
-    → u.marks.items ≡ w.marks.items → u.steps.items ≡ w.steps.items → u.seen.items ≡ w.seen.items
-    → IsStore b m u added
-store_grown a b l m w u added more store nodes text variables link trail terms all few marks steps seen = record {
+    → IsStore b m added
+store_grown a b l m added more store nodes text variables link trail terms all few = record {
   levels = AreLevels-same (a.variables + more) b.variables a.nodes.items b.nodes.items a.text.items b.text.items (link_of l) (link_of m) l.trail.items m.trail.items (reverse added)
       variables nodes text link trail
       (AreLevels-wider a.variables more a.nodes.items a.text.items (link_of l) l.trail.items (reverse added) store.levels);
   terms = terms ∙ store.terms ∙ sym (ap length nodes);
   variables = all ∙ sym variables;
   few = subst (λ x. x < 4294967296) (sym variables) few;
-  walk = record {
-    marks = subst (All (λ mark. mark ≡ Unseen)) (sym marks) store.walk.marks;
-    size = ap length marks ∙ store.walk.size ∙ sym (ap length nodes);
-    steps = steps ∙ store.walk.steps;
-    seen = seen ∙ store.walk.seen;
-  };
 }
 
 no_links : (k : ℕ) → link_in [] [] k ≡ k
@@ -159,21 +153,22 @@ no_level = record {
 }
 
 -- a store without variables and equations
-pub store_new : (a : Arena) (l : Links) (w : Walk) (added : List Added)
-    → a.nodes.items ≡ [] → a.text.items ≡ [] → a.variables ≡ 0 → l.terms.items ≡ [] → l.variables.items ≡ [] → l.trail.items ≡ []
-    → w.marks.items ≡ [] → w.steps.items ≡ [] → w.seen.items ≡ [] → added ≡ []
-    → IsStore a l w added
-store_new a l w added nodes text count terms variables trail marks steps seen none = record {
+pub store_new : (a : Arena) (l : Links) (added : List Added)
+    → a.nodes.items ≡ [] → a.text.items ≡ [] → a.variables ≡ 0 → l.terms.items ≡ [] → l.variables.items ≡ [] → l.trail.items ≡ [] → added ≡ []
+    → IsStore a l added
+store_new a l added nodes text count terms variables trail none = record {
   levels = subst (λ es. AreLevels a.variables a.nodes.items a.text.items (link_of l) l.trail.items (reverse es)) (sym none)
       (AreLevels-same 0 a.variables [] a.nodes.items [] a.text.items (link_in [] []) (link_of l) [] l.trail.items [] count nodes text
       (λ k. ap (λ ns. link_in ns l.variables.items k) terms ∙ ap (λ ns. link_in [] ns k) variables) trail no_level);
   terms = ap length terms ∙ sym (ap length nodes);
   variables = ap length variables ∙ sym count;
   few = subst (λ x. x < 4294967296) (sym count) (omega arith);
-  walk = record {
-    marks = subst (All (λ mark. mark ≡ Unseen)) (sym marks) (All-nil (λ mark. mark ≡ Unseen));
-    size = ap length marks ∙ sym (ap length nodes);
-    steps = steps;
-    seen = seen;
-  };
+}
+
+-- marks and scratch lists before the first walk
+pub unmarked_new : (w : Walk) → w.marks.items ≡ [] → w.steps.items ≡ [] → w.seen.items ≡ [] → IsUnmarked w
+unmarked_new w marks steps seen = record {
+  marks = subst (All (λ mark. mark ≡ Unseen)) (sym marks) (All-nil (λ mark. mark ≡ Unseen));
+  steps = steps;
+  seen = seen;
 }

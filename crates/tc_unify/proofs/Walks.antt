@@ -42,11 +42,11 @@ Awaits-more shape link for x P (Leave r ∷ steps) h = (
       (Awaits-more shape link for x (λ j. P j ⊎ (root link j ≡ r)) steps h.1),
 )
 
--- the walk is also for a node that is no variable
-pub Awaits-skipped : (shape : ℕ → Shape) (link : ℕ → ℕ) (for : List ℕ) (x : ℕ) (P : ℕ → Type 0) → (IsVariable (shape x) → ⊥) → (steps : List Step) → Awaits shape link for P steps → Awaits shape link (for ++ x ∷ []) P steps
-Awaits-skipped shape link for x P never [] h = All-push (λ j. IsVariable (shape j) → P j) for x h (λ free. absurd (never free))
-Awaits-skipped shape link for x P never (Enter k ∷ steps) h = Awaits-skipped shape link for x (λ j. P j ⊎ (j ≡ k)) never steps h
-Awaits-skipped shape link for x P never (Leave r ∷ steps) h = (h.0, Awaits-skipped shape link for x (λ j. P j ⊎ (root link j ≡ r)) never steps h.1)
+-- the walk is also for a node that has the property, if it is a variable
+pub Awaits-skipped : (shape : ℕ → Shape) (link : ℕ → ℕ) (for : List ℕ) (x : ℕ) (P : ℕ → Type 0) → (IsVariable (shape x) → P x) → (steps : List Step) → Awaits shape link for P steps → Awaits shape link (for ++ x ∷ []) P steps
+Awaits-skipped shape link for x P has [] h = All-push (λ j. IsVariable (shape j) → P j) for x h has
+Awaits-skipped shape link for x P has (Enter k ∷ steps) h = Awaits-skipped shape link for x (λ j. P j ⊎ (j ≡ k)) (λ free. inl (has free)) steps h
+Awaits-skipped shape link for x P has (Leave r ∷ steps) h = (h.0, Awaits-skipped shape link for x (λ j. P j ⊎ (root link j ≡ r)) (λ free. inl (has free)) steps h.1)
 
 -- nodes with one root are finite together
 pub IsFinite-same : {shape : ℕ → Shape} {link : ℕ → ℕ} {j k : ℕ} → root link j ≡ root link k → IsFinite shape link j → IsFinite shape link k

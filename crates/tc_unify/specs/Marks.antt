@@ -12,7 +12,7 @@ use Rattle.tc_unify.specs.Nodes.{label}
 use Rattle.tc_unify.specs.Links.{Respects, IsFinite}
 use Rattle.tc_unify.specs.Arena.{IsNodeOf, shape_of}
 use Rattle.tc_unify.specs.Tables.{link_of}
-use Rattle.tc_unify.specs.Walks.{Awaits, Descends, IsOpenIn}
+use Rattle.tc_unify.specs.Walks.{Awaits, Descends, IsBelowAll, IsOpenIn}
 
 -- the mark of a node
 abbrev pub mark_of : Walk → ℕ → Mark
@@ -28,22 +28,27 @@ IsListed [] k = ⊥
 IsListed (n ∷ nodes) k = (k ≡ n) ⊎ IsListed nodes k
 
 -- no node is marked, and nothing is to be done
-pub record IsUnmarked (a : Arena) (w : Walk) : Type 0 where
+pub record IsUnmarked (w : Walk) : Type 0 where
   pub marks : All (λ m. m ≡ Unseen) w.marks.items
-  pub size : length w.marks.items ≡ length a.nodes.items
   pub steps : w.steps.items ≡ []
   pub seen : w.seen.items ≡ []
 
 -- each node that is marked was seen
-pub record IsMarked (a : Arena) (w : Walk) : Type 0 where
+pub record IsMarked (w : Walk) : Type 0 where
   pub listed : (k : ℕ) → (mark_of w k ≡ Unseen) ⊎ IsListed w.seen.items k
-  pub size : length w.marks.items ≡ length a.nodes.items
   pub seen : All (λ k. k < length w.marks.items) w.seen.items
 
 -- a node is to be entered, or a term's node that has no link and was seen is to be left
 abbrev pub IsStep : Arena → Links → List ℕ → Step → Type 0
 IsStep a l seen (Enter k) = IsNodeOf a k
 IsStep a l seen (Leave r) = (r < length a.nodes.items) × (link_of l r ≡ r) × IsListed seen r
+
+-- the steps enter what is to be walked for these nodes
+pub record IsStarted (a : Arena) (l : Links) (nodes : List ℕ) (steps : List Step) : Type 0 where
+  pub awaits : Awaits (shape_of a) (link_of l) nodes (IsFinite (shape_of a) (link_of l)) (reverse steps)
+  pub descends : (F : ℕ → Tree) → Descends F (reverse steps)
+  pub below : (F : ℕ → Tree) (t : Tree) → IsBelowAll F t (reverse steps)
+  pub enters : All (IsStep a l []) steps
 
 -- what the marks say is so
 pub record Knows (a : Arena) (l : Links) (w : Walk) : Type 0 where

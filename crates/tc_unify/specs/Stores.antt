@@ -5,14 +5,11 @@ use Rattle.tc_term.specs.Equations.{Equation, Solvable}
 use Rattle.tc_unify.specs.declared.nodes.Node.{Node}
 use Rattle.tc_unify.specs.declared.nodes.Arena.{Arena}
 use Rattle.tc_unify.specs.declared.links.Links.{Links}
-use Rattle.tc_unify.specs.declared.walk.Walk.{Walk}
 use Rattle.tc_unify.specs.declared.sizes.Added.{Added}
 use Rattle.tc_unify.specs.Solutions.{AreLinked, Means, equations_of}
 use Rattle.tc_unify.specs.Arena.{IsInside, IsArenaOf, IsNodeFor, Grows, shape_in, shape_of}
 use Rattle.tc_unify.specs.Tables.{link_of, rewound, HasNode}
 use Rattle.tc_unify.specs.Meeting.{IsLinked}
-use Rattle.tc_unify.specs.declared.walk.Mark.TheVariants.{Unseen}
-use Rattle.tc_unify.specs.Marks.{IsUnmarked}
 
 -- the two nodes of each equation
 abbrev pub pairs_of : List Added → List (ℕ × ℕ)
@@ -39,15 +36,14 @@ AreLevels count nodes text link trail (e ∷ added) =
 abbrev pub equations_in : Arena → List Added → List Equation
 equations_in a added = equations_of (shape_of a) (pairs_of added)
 
-pub record IsStore (a : Arena) (l : Links) (w : Walk) (added : List Added) : Type 0 where
+pub record IsStore (a : Arena) (l : Links) (added : List Added) : Type 0 where
   pub levels : AreLevels a.variables a.nodes.items a.text.items (link_of l) l.trail.items (reverse added)
   pub terms : length l.terms.items ≡ length a.nodes.items
   pub variables : length l.variables.items ≡ a.variables
   pub few : a.variables < 2 ^ 32
-  pub walk : IsUnmarked a w
 
--- an arena, its links and its marks after an addition that can be taken back
-pub record IsGrown (a : Arena) (l : Links) (b : Arena) (m : Links) (w : Walk) : Type 0 where
+-- an arena and its links after an addition that can be taken back
+pub record IsGrown (a : Arena) (l : Links) (b : Arena) (m : Links) : Type 0 where
   pub grows : Grows a b
   pub more : List ℕ
   pub trail : m.trail.items ≡ l.trail.items ++ more
@@ -55,36 +51,26 @@ pub record IsGrown (a : Arena) (l : Links) (b : Arena) (m : Links) (w : Walk) : 
   pub places : All (HasNode m) more
   pub terms : length l.terms.items ≤ length m.terms.items
   pub variables : length m.variables.items ≡ length l.variables.items
-  pub marks : All (λ mark. mark ≡ Unseen) w.marks.items
-  pub marks_long : length l.terms.items ≤ length w.marks.items
-  pub steps : w.steps.items ≡ []
-  pub seen : w.seen.items ≡ []
 
--- the pair of nodes stands for the two terms, and the tables have room for all nodes
-pub record IsPrepared (b : Arena) (m : Links) (w : Walk) (pair : ℕ × ℕ) (s t : Tree) : Type 0 where
+-- the pair of nodes stands for the two terms, and the links have room for all nodes
+pub record IsPrepared (b : Arena) (m : Links) (pair : ℕ × ℕ) (s t : Tree) : Type 0 where
   pub left : IsNodeFor b pair.0 s
   pub right : IsNodeFor b pair.1 t
   pub terms : length m.terms.items ≡ length b.nodes.items
-  pub marks : length w.marks.items ≡ length b.nodes.items
 
 -- the pair of nodes stands for the two terms, and the links mean it beside the equations before
-pub record IsAdded (a : Arena) (b : Arena) (m : Links) (w : Walk) (added : List Added) (pair : ℕ × ℕ) (s t : Tree) : Type 0 where
+pub record IsAdded (a : Arena) (b : Arena) (m : Links) (added : List Added) (pair : ℕ × ℕ) (s t : Tree) : Type 0 where
   pub left : IsNodeFor b pair.0 s
   pub right : IsNodeFor b pair.1 t
   pub linked : IsLinked b m
-  pub marks : length w.marks.items ≡ length b.nodes.items
   pub means : Means b.variables (shape_of b) (link_of m) (pair ∷ pairs_of (reverse added))
 
 -- no valuation makes the two terms equal beside the equations
 abbrev pub NeverAdds : Arena → List Added → Tree → Tree → Type 0
 NeverAdds a added s t = Solvable a.variables (equations_in a added ++ (s, t) ∷ []) → ⊥
 
--- the tables are as long or longer, and nothing else has changed
-pub record IsLonger (l m : Links) (v w : Walk) : Type 0 where
+-- the terms' links are as many or more, and nothing else has changed
+pub record IsLonger (l m : Links) : Type 0 where
   pub trail : m.trail.items ≡ l.trail.items
   pub terms : length l.terms.items ≤ length m.terms.items
   pub variables : length m.variables.items ≡ length l.variables.items
-  pub marks : All (λ mark. mark ≡ Unseen) w.marks.items
-  pub marks_long : length v.marks.items ≤ length w.marks.items
-  pub steps : w.steps.items ≡ v.steps.items
-  pub seen : w.seen.items ≡ v.seen.items

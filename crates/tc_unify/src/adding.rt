@@ -16,7 +16,7 @@ use crate::links::{Links, push_own};
 use crate::nodes::Arena;
 use crate::sizes::{Added, Sizes, go_back};
 use crate::solve::solve;
-use crate::walk::{Mark, Walk, push_unseen};
+use crate::walk::Walk;
 use tc_lists::NoMemory;
 use tc_term::Term;
 
@@ -40,7 +40,8 @@ pub(crate) fn add_to(
     s: Part,
     t: Part,
 ) -> Result<bool, NoMemory>
-    requires store { IsStore arena.old links.old walk.old added.old.items }
+    requires store { IsStore arena.old links.old added.old.items }
+    requires unmarked { IsUnmarked walk.old }
     requires left { var_bound (raised s.shift (tree_of s.term.now)) ≤ arena.old.variables }
     requires right { var_bound (raised t.shift (tree_of t.term.now)) ≤ arena.old.variables }
     ensures added { IfOk result
@@ -58,7 +59,8 @@ pub(crate) fn add_to(
     ensures same_refused { IfOk result
         (λ b. b ≡ false → equations_in arena.new added.new.items ≡ equations_in arena.old added.old.items) }
     ensures same { OnErr result (equations_in arena.new added.new.items ≡ equations_in arena.old added.old.items) }
-    ensures store { IsStore arena.new links.new walk.new added.new.items }
+    ensures store { IsStore arena.new links.new added.new.items }
+    ensures unmarked { IsUnmarked walk.new }
     ensures variables { arena.new.variables ≡ arena.old.variables }
 {
     if heads_differ(s.term, t.term) {
@@ -78,11 +80,11 @@ pub(crate) fn add_to(
             Ok(true)
         }
         Ok(None) => {
-            go_back(arena, links, walk, before);
+            go_back(arena, links, before);
             Ok(false)
         }
         Err(fault) => {
-            go_back(arena, links, walk, before);
+            go_back(arena, links, before);
             Err(fault)
         }
     }
@@ -98,24 +100,25 @@ fn attempt(
     t: Part,
 ) -> Result<Option<(usize, usize)>, NoMemory>
     requires linked { IsLinked arena.old links.old }
-    requires unmarked { IsUnmarked arena.old walk.old }
+    requires unmarked { IsUnmarked walk.old }
     requires left { var_bound (raised s.shift (tree_of s.term.now)) ≤ arena.old.variables }
     requires right { var_bound (raised t.shift (tree_of t.term.now)) ≤ arena.old.variables }
     ensures added { IfOk result
         (λ pair. IfSome pair
-        (λ p. (before : List Added) → IsStore arena.old links.old walk.old before
-        → IsAdded arena.old arena.new links.new walk.new before p
+        (λ p. (before : List Added) → IsStore arena.old links.old before
+        → IsAdded arena.old arena.new links.new before p
         (raised s.entry.shift (tree_of s.entry.term.now))
         (raised t.entry.shift (tree_of t.entry.term.now)))) }
     ensures never { IfOk result
         (λ pair. IfNone pair
-        ((before : List Added) → IsStore arena.old links.old walk.old before
+        ((before : List Added) → IsStore arena.old links.old before
         → NeverAdds arena.old before
         (raised s.entry.shift (tree_of s.entry.term.now))
         (raised t.entry.shift (tree_of t.entry.term.now)))) }
-    ensures grown { IsGrown arena.old links.old arena.new links.new walk.new }
+    ensures grown { IsGrown arena.old links.old arena.new links.new }
+    ensures unmarked { IsUnmarked walk.new }
 {
-    let pair = prepare(arena, links, walk, s, t)?;
+    let pair = prepare(arena, links, s, t)?;
     if solve(arena, links, walk, waiting, pair)? {
         Ok(Some(pair))
     } else {
@@ -123,11 +126,10 @@ fn attempt(
     }
 }
 
-// Copies both terms, and makes room for the links and marks of their nodes.
+// Copies both terms, and makes room for the links of their nodes.
 fn prepare(
     arena: &mut Arena,
     links: &mut Links,
-    walk: &mut Walk,
     s: Part,
     t: Part,
 ) -> Result<(usize, usize), NoMemory>
@@ -135,71 +137,55 @@ fn prepare(
     requires left { var_bound (raised s.shift (tree_of s.term.now)) ≤ arena.old.variables }
     requires right { var_bound (raised t.shift (tree_of t.term.now)) ≤ arena.old.variables }
     requires terms { length links.old.terms.items ≡ length arena.old.nodes.items }
-    requires unmarked { IsUnmarked arena.old walk.old }
     ensures prepared { IfOk result
-        (λ pair. IsPrepared arena.new links.new walk.new pair
+        (λ pair. IsPrepared arena.new links.new pair
         (raised s.entry.shift (tree_of s.entry.term.now))
         (raised t.entry.shift (tree_of t.entry.term.now))) }
     ensures arena { IsArena arena.new }
     ensures link { (k : ℕ) → link_of links.new k ≡ link_of links.old k }
     ensures trail { links.new.trail.items ≡ links.old.trail.items }
-    ensures grown { IsGrown arena.old links.old arena.new links.new walk.new }
+    ensures grown { IsGrown arena.old links.old arena.new links.new }
 {
     let left = copy(arena, s.term, s.shift)?;
     let right = copy(arena, t.term, t.shift)?;
-    make_room(links, walk, arena.nodes.len())?;
+    make_room(links, arena.nodes.len())?;
     Ok((left, right))
 }
 
-// Makes room for the links and marks of so many nodes.
-fn make_room(links: &mut Links, walk: &mut Walk, nodes: usize) -> Result<(), NoMemory>
+// Makes room for the links of so many nodes.
+fn make_room(links: &mut Links, nodes: usize) -> Result<(), NoMemory>
     requires nodes { nodes < FIRST_VARIABLE }
     requires terms { length links.old.terms.items ≤ nodes }
-    requires marks { length walk.old.marks.items ≤ nodes }
-    requires unseen { All (λ m. m ≡ Mark.Unseen) walk.old.marks.items }
     ensures terms { OnOk result (length links.new.terms.items ≡ nodes) }
-    ensures marks { OnOk result (length walk.new.marks.items ≡ nodes) }
     ensures link { (k : ℕ) → link_of links.new k ≡ link_of links.old k }
-    ensures longer { IsLonger links.old links.new walk.old walk.new }
+    ensures longer { IsLonger links.old links.new }
 {
-    push_own(&mut links.terms, 0, nodes)?;
-    push_unseen(&mut walk.marks, nodes)
+    push_own(&mut links.terms, 0, nodes)
 }
 
 /// Takes the newest equation back. Takes the time of the links that came with it.
-pub(crate) fn take_newest(
-    arena: &mut Arena,
-    links: &mut Links,
-    walk: &mut Walk,
-    added: &mut Vec<Added>,
-)
-    requires store { IsStore arena.old links.old walk.old added.old.items }
+pub(crate) fn take_newest(arena: &mut Arena, links: &mut Links, added: &mut Vec<Added>)
+    requires store { IsStore arena.old links.old added.old.items }
     requires some { 0 < length added.old.items }
-    ensures store { IsStore arena.new links.new walk.new added.new.items }
+    ensures store { IsStore arena.new links.new added.new.items }
     ensures equations { equations_in arena.new added.new.items
         ≡ take (length added.old.items - 1) (equations_in arena.old added.old.items) }
     ensures fewer { length added.new.items + 1 ≡ length added.old.items }
     ensures variables { arena.new.variables ≡ arena.old.variables }
 {
     if let Some(newest) = added.pop() {
-        go_back(arena, links, walk, newest.before);
+        go_back(arena, links, newest.before);
     }
 }
 
 /// Takes the newest equations back, so that so many are left.
-pub(crate) fn take_newer(
-    arena: &mut Arena,
-    links: &mut Links,
-    walk: &mut Walk,
-    added: &mut Vec<Added>,
-    left: usize,
-)
-    requires { IsStore arena.old links.old walk.old added.old.items }
-    ensures store { IsStore arena.new links.new walk.new added.new.items }
+pub(crate) fn take_newer(arena: &mut Arena, links: &mut Links, added: &mut Vec<Added>, left: usize)
+    requires { IsStore arena.old links.old added.old.items }
+    ensures store { IsStore arena.new links.new added.new.items }
     ensures equations { equations_in arena.new added.new.items ≡ take left (equations_in arena.old added.old.items) }
     ensures variables { arena.new.variables ≡ arena.old.variables }
 {
     while added.len() > left {
-        take_newest(arena, links, walk, added);
+        take_newest(arena, links, added);
     }
 }

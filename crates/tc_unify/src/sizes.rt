@@ -2,11 +2,10 @@
 ghost use Rattle.std.specs.Prelude.{◌≡◌, ℕ, ◌<◌, ◌≤◌, length, take, drop, All};
 ghost use Rattle.tc_unify.specs.declared.nodes.TheConstants.{FIRST_VARIABLE};
 ghost use Rattle.tc_unify.specs.Tables.{link_of, rewound, HasNode};
-ghost use Rattle.tc_unify.specs.Cuts.{IsCut, IsWalkCut};
+ghost use Rattle.tc_unify.specs.Cuts.{IsCut};
 
 use crate::links::Links;
 use crate::nodes::Arena;
-use crate::walk::Walk;
 
 /// How many nodes, bytes of names and links there are.
 #[derive(Clone, Copy)]
@@ -39,7 +38,7 @@ impl Sizes {
 }
 
 /// Takes back the links and the nodes that came after these sizes. Takes the time of the links.
-pub(crate) fn go_back(arena: &mut Arena, links: &mut Links, walk: &mut Walk, to: Sizes)
+pub(crate) fn go_back(arena: &mut Arena, links: &mut Links, to: Sizes)
     requires trail { All (HasNode links.old) (drop to.trail links.old.trail.items) }
     requires past { (k : ℕ) → to.nodes ≤ k → k < FIRST_VARIABLE
         → rewound (link_of links.old) (drop to.trail links.old.trail.items) k ≡ k }
@@ -49,11 +48,9 @@ pub(crate) fn go_back(arena: &mut Arena, links: &mut Links, walk: &mut Walk, to:
     ensures link { (k : ℕ) → link_of links.new k
         ≡ rewound (link_of links.old) (drop to.trail links.old.trail.items) k }
     ensures tables { IsCut links.old links.new to }
-    ensures walk { IsWalkCut walk.old walk.new to.nodes }
 {
     links.rewind(to.trail);
     links.terms.truncate(to.nodes);
-    walk.marks.truncate(to.nodes);
     arena.nodes.truncate(to.nodes);
     arena.text.truncate(to.text);
 }

@@ -23,7 +23,7 @@ pub(crate) fn solve(
     pair: (usize, usize),
 ) -> Result<bool, NoMemory>
     requires linked { IsLinked arena.now links.old }
-    requires unmarked { IsUnmarked arena.now walk.old }
+    requires unmarked { IsUnmarked walk.old }
     requires left { IsNodeOf arena.now pair.0 }
     requires right { IsNodeOf arena.now pair.1 }
     ensures solved { IfOk result
@@ -36,7 +36,7 @@ pub(crate) fn solve(
         → NeverMeets (shape_of arena.now) (link_of links.old) pair) }
     ensures linked { IsLinked arena.now links.new }
     ensures extends { Extends links.old links.new }
-    ensures unmarked { IsUnmarked arena.now walk.new }
+    ensures unmarked { IsUnmarked walk.new }
 {
     let from = links.trail.len();
     waiting.clear();

@@ -26,6 +26,7 @@ impl Model for Store {
     ghost use Rattle.tc_term.specs.TreeCode.{coded_tree};
     ghost use Rattle.tc_term.specs.Equations.{Equations};
     ghost use Rattle.tc_unify.specs.Stores.{IsStore, equations_in};
+    ghost use Rattle.tc_unify.specs.Marks.{IsUnmarked};
     ghost use Rattle.std.specs.Coded.{codes};
 
     ghost Value = { Equations };
@@ -34,7 +35,7 @@ impl Model for Store {
 
     ghost view = { λ s. record { vars = s.arena.variables; pairs = equations_in s.arena s.added.items } };
 
-    ghost invariant = { λ s. IsStore s.arena s.links s.walk s.added.items };
+    ghost invariant = { λ s. IsStore s.arena s.links s.added.items × IsUnmarked s.walk };
 }
 
 impl Store {
@@ -60,9 +61,9 @@ impl Store {
                 trail: Vec::with_capacity(alloc, 16)?,
             },
             walk: Walk {
-                marks: Vec::with_capacity(alloc, 32)?,
-                steps: Vec::with_capacity(alloc, 32)?,
-                seen: Vec::with_capacity(alloc, 16)?,
+                marks: Vec::new(alloc),
+                steps: Vec::new(alloc),
+                seen: Vec::new(alloc),
             },
             waiting: Vec::with_capacity(alloc, 16)?,
             added: Vec::with_capacity(alloc, 4)?,
@@ -177,7 +178,6 @@ impl Store {
         take_newer(
             &mut self.arena,
             &mut self.links,
-            &mut self.walk,
             &mut self.added,
             mark.equations,
         );

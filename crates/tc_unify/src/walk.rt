@@ -1,12 +1,11 @@
 //! The occurs check: a walk over the nodes below those that were linked, with a list of its own.
 ghost use Rattle.std.specs.Prelude.{◌≡◌, ℕ, ◌<◌, ◌≤◌, ◌⊎◌, ◌∷◌, ◌++◌, [], false, drop, length, get_or, set, IfOk, OnOk, IsTrue, All};
-ghost use Rattle.tc_unify.specs.declared.nodes.Arena.{Arena};
 ghost use Rattle.tc_unify.specs.Arena.{shape_of, IsNodeOf};
 ghost use Rattle.tc_unify.specs.Links.{IsFiniteVariable};
 ghost use Rattle.tc_unify.specs.Tables.{link_of};
 ghost use Rattle.tc_unify.specs.Meeting.{IsLinked};
 ghost use Rattle.tc_unify.specs.Walks.{HasNoTrees};
-ghost use Rattle.tc_unify.specs.Marks.{IsUnmarked, IsMarked, IsEndless, IsListed, Knows, Keeps, steps_of, walk_work};
+ghost use Rattle.tc_unify.specs.Marks.{IsUnmarked, IsMarked, IsStarted, IsEndless, IsListed, Knows, Keeps, steps_of, walk_work};
 
 use crate::links::Links;
 use crate::nodes::{Arena, FIRST_VARIABLE, Node};
@@ -27,7 +26,7 @@ pub(crate) enum Step {
     Leave(usize),
 }
 
-/// The marks of all nodes, which are `Unseen` between walks, and the scratch lists of a walk.
+/// The marks of nodes, which are `Unseen` between walks, and the scratch lists of a walk.
 #[derive(Drop)]
 pub(crate) struct Walk {
     pub(crate) marks: Vec<Mark>,
@@ -45,41 +44,27 @@ pub(crate) fn are_finite(
     from: usize,
 ) -> Result<bool, NoMemory>
     requires linked { IsLinked arena.now links.now }
-    requires unmarked { IsUnmarked arena.now walk.old }
+    requires unmarked { IsUnmarked walk.old }
     requires place { from ≤ length links.now.trail.items }
     ensures finite { IfOk result
         (λ finite. IsTrue finite
         → All (IsFiniteVariable (shape_of arena.now) (link_of links.now)) (drop from links.now.trail.items)) }
     ensures endless { IfOk result (λ finite. finite ≡ false → HasNoTrees (shape_of arena.now) (link_of links.now)) }
-    ensures unmarked { IsUnmarked arena.now walk.new }
+    ensures unmarked { IsUnmarked walk.new }
 {
     let finite = walk_below(arena, links, walk, &links.trail[from..]);
-    unmark(arena, walk);
+    unmark(walk);
     finite
 }
 
 // Takes back the marks of the nodes that were seen.
-fn unmark(arena: &Arena, walk: &mut Walk)
-    requires { IsMarked arena.now walk.old }
-    ensures { IsUnmarked arena.now walk.new }
+fn unmark(walk: &mut Walk)
+    requires { IsMarked walk.old }
+    ensures { IsUnmarked walk.new }
 {
     take_back(&mut walk.marks, &walk.seen);
     walk.seen.clear();
     walk.steps.clear();
-}
-
-/// Fills the marks of nodes that were not seen, up to this length.
-pub(crate) fn push_unseen(marks: &mut Vec<Mark>, len: usize) -> Result<(), NoMemory>
-    requires unseen { All (λ m. m ≡ Mark.Unseen) marks.old.items }
-    requires shorter { length marks.old.items ≤ len }
-    ensures full { OnOk result (length marks.new.items ≡ len) }
-    ensures longer { length marks.old.items ≤ length marks.new.items }
-    ensures unseen { All (λ m. m ≡ Mark.Unseen) marks.new.items }
-{
-    while marks.len() < len {
-        marks.push(Mark::Unseen)?;
-    }
-    Ok(())
 }
 
 // Takes back the marks of these nodes.
@@ -94,7 +79,9 @@ fn take_back(marks: &mut Vec<Mark>, seen: &[usize])
     }
 }
 
-// Walks over the nodes below the variables among some nodes. The marks and scratch lists are left as they are.
+// Walks over the nodes below the variables among some nodes.
+//
+// Marks are filled only where there is something to walk over.
 fn walk_below(
     arena: &Arena,
     links: &Links,
@@ -102,18 +89,18 @@ fn walk_below(
     nodes: &[usize],
 ) -> Result<bool, NoMemory>
     requires linked { IsLinked arena.now links.now }
-    requires unmarked { IsUnmarked arena.now walk.old }
+    requires unmarked { IsUnmarked walk.old }
     requires nodes { All (IsNodeOf arena.now) nodes.now }
     ensures finite { IfOk result
         (λ finite. IsTrue finite → All (IsFiniteVariable (shape_of arena.now) (link_of links.now)) nodes.now) }
     ensures endless { IfOk result (λ finite. finite ≡ false → HasNoTrees (shape_of arena.now) (link_of links.now)) }
-    ensures marked { IsMarked arena.now walk.new }
+    ensures marked { IsMarked walk.new }
 {
-    for node in nodes {
-        if *node >= FIRST_VARIABLE {
-            walk.steps.push(Step::Enter(*node))?;
-        }
+    push_bound(arena, links, &mut walk.steps, nodes)?;
+    if walk.steps.is_empty() {
+        return Ok(true);
     }
+    push_unseen(&mut walk.marks, arena.nodes.len())?;
     while let Some(step) = walk.steps.pop() {
         match step {
             Step::Enter(node) => {
@@ -129,11 +116,63 @@ fn walk_below(
     Ok(true)
 }
 
+// Puts what is to be entered: the variables among some nodes that stand for a term with arguments.
+fn push_bound(
+    arena: &Arena,
+    links: &Links,
+    steps: &mut Vec<Step>,
+    nodes: &[usize],
+) -> Result<(), NoMemory>
+    requires linked { IsLinked arena.now links.now }
+    requires none { steps.old.items ≡ [] }
+    requires nodes { All (IsNodeOf arena.now) nodes.now }
+    ensures { OnOk result (IsStarted arena.now links.now nodes.now steps.new.items) }
+{
+    for node in nodes {
+        if is_bound(arena, links, *node) {
+            steps.push(Step::Enter(*node))?;
+        }
+    }
+    Ok(())
+}
+
+// Whether a node is a variable that stands for a term with arguments.
+fn is_bound(arena: &Arena, links: &Links, node: usize) -> bool
+    requires linked { IsLinked arena.now links.now }
+    requires node { IsNodeOf arena.now node }
+    ensures { result ≡ false → IsFiniteVariable (shape_of arena.now) (link_of links.now) node }
+{
+    if node < FIRST_VARIABLE {
+        return false;
+    }
+    let end = links.end(node);
+    if end >= FIRST_VARIABLE {
+        return false;
+    }
+    match arena.nodes[end] {
+        Node::Apply { .. } => true,
+        _ => false,
+    }
+}
+
+// Fills the marks of nodes that were not seen, up to this length.
+fn push_unseen(marks: &mut Vec<Mark>, len: usize) -> Result<(), NoMemory>
+    requires { All (λ m. m ≡ Mark.Unseen) marks.old.items }
+    ensures full { OnOk result (len ≤ length marks.new.items) }
+    ensures unseen { All (λ m. m ≡ Mark.Unseen) marks.new.items }
+{
+    while marks.len() < len {
+        marks.push(Mark::Unseen)?;
+    }
+    Ok(())
+}
+
 // Enters a node, unless it is known to be finite. False where it stands below itself.
 fn enter(arena: &Arena, links: &Links, walk: &mut Walk, node: usize) -> Result<bool, NoMemory>
     requires linked { IsLinked arena.now links.now }
-    requires marked { IsMarked arena.now walk.old }
+    requires marked { IsMarked walk.old }
     requires known { Knows arena.now links.now walk.old }
+    requires room { length arena.now.nodes.items ≤ length walk.old.marks.items }
     requires node { IsNodeOf arena.now node }
     ensures keeps { IfOk result
         (λ entered. IsTrue entered
@@ -143,7 +182,8 @@ fn enter(arena: &Arena, links: &Links, walk: &mut Walk, node: usize) -> Result<b
         → IsEndless arena.now links.now (Step.Enter node ∷ steps_of walk.old)) }
     ensures known { OnOk result (Knows arena.now links.now walk.new) }
     ensures work { OnOk result (walk_work walk.new ≤ walk_work walk.old) }
-    ensures marked { IsMarked arena.now walk.new }
+    ensures room { length walk.new.marks.items ≡ length walk.old.marks.items }
+    ensures marked { IsMarked walk.new }
 {
     let root = links.end(node);
     if root >= FIRST_VARIABLE {
@@ -171,7 +211,8 @@ fn push_below(walk: &mut Walk, node: usize, head: usize, argument: usize) -> Res
         ≡ walk.old.steps.items
         ++ (Step.Leave node ∷ Step.Enter argument ∷ Step.Enter head ∷ [])) }
     ensures seen { OnOk result (walk.new.seen.items ≡ walk.old.seen.items ++ node ∷ []) }
-    ensures marked { (a : Arena) → IsMarked a walk.old → IsMarked a walk.new }
+    ensures room { length walk.new.marks.items ≡ length walk.old.marks.items }
+    ensures marked { IsMarked walk.old → IsMarked walk.new }
 {
     walk.seen.push(node)?;
     walk.steps.push(Step::Leave(node))?;

@@ -17,37 +17,36 @@ solve-requires-clause-linked c =
 pub returns-in_err-solve-clause-grown : goal.returns-in_err-solve-clause-grown
 returns-in_err-solve-clause-grown c =
     let grown = c.prepare.ensures.grown in
-    IsGrown-solved c.args.arena.now c.prepare.new.arena c.args.links.now c.prepare.new.links c.solve.new.links c.solve.new.walk grown.grows c.prepare.ensures.link c.prepare.ensures.trail grown.terms grown.variables
-    c.solve.ensures.extends c.solve.ensures.linked c.solve.ensures.unmarked
+    IsGrown-solved c.args.arena.now c.prepare.new.arena c.args.links.now c.prepare.new.links c.solve.new.links grown.grows c.prepare.ensures.link c.prepare.ensures.trail grown.terms grown.variables
+    c.solve.ensures.extends c.solve.ensures.linked
 
 pub returns-then-branch-clause-grown : goal.returns-then-branch-clause-grown
 returns-then-branch-clause-grown c =
     let grown = c.prepare.ensures.grown in
-    IsGrown-solved c.args.arena.now c.prepare.new.arena c.args.links.now c.prepare.new.links c.solve.new.links c.solve.new.walk grown.grows c.prepare.ensures.link c.prepare.ensures.trail grown.terms grown.variables
-    c.solve.ensures.extends c.solve.ensures.linked c.solve.ensures.unmarked
+    IsGrown-solved c.args.arena.now c.prepare.new.arena c.args.links.now c.prepare.new.links c.solve.new.links grown.grows c.prepare.ensures.link c.prepare.ensures.trail grown.terms grown.variables
+    c.solve.ensures.extends c.solve.ensures.linked
 
 pub returns-else-branch-clause-grown : goal.returns-else-branch-clause-grown
 returns-else-branch-clause-grown c =
     let grown = c.prepare.ensures.grown in
-    IsGrown-solved c.args.arena.now c.prepare.new.arena c.args.links.now c.prepare.new.links c.solve.new.links c.solve.new.walk grown.grows c.prepare.ensures.link c.prepare.ensures.trail grown.terms grown.variables
-    c.solve.ensures.extends c.solve.ensures.linked c.solve.ensures.unmarked
+    IsGrown-solved c.args.arena.now c.prepare.new.arena c.args.links.now c.prepare.new.links c.solve.new.links grown.grows c.prepare.ensures.link c.prepare.ensures.trail grown.terms grown.variables
+    c.solve.ensures.extends c.solve.ensures.linked
 
 pub returns-then-branch-clause-added : goal.returns-then-branch-clause-added
 returns-then-branch-clause-added c = λ before store.
     let grown = c.prepare.ensures.grown in
-    let means = means_prepared c.args.arena.now c.args.links.now c.args.walk.now before store c.prepare.new.arena c.prepare.ensures.arena grown.grows c.prepare.new.links c.prepare.ensures.link in
+    let means = means_prepared c.args.arena.now c.args.links.now before store c.prepare.new.arena c.prepare.ensures.arena grown.grows c.prepare.new.links c.prepare.ensures.link in
     record {
       left = c.in_ok-pair.ensures.prepared.left;
       right = c.in_ok-pair.ensures.prepared.right;
       linked = c.solve.ensures.linked;
-      marks = c.solve.ensures.unmarked.size;
       means = c.in_ok-solve.ensures.solved c.if-branch.true (pairs_of (reverse before)) means;
     }
 
 pub returns-else-branch-clause-never : goal.returns-else-branch-clause-never
 returns-else-branch-clause-never c = λ before store.
     let grown = c.prepare.ensures.grown in
-    let means = means_prepared c.args.arena.now c.args.links.now c.args.walk.now before store c.prepare.new.arena c.prepare.ensures.arena grown.grows c.prepare.new.links c.prepare.ensures.link in
-    never_adds c.args.arena.now c.args.links.now c.args.walk.now before store c.prepare.new.arena c.prepare.ensures.arena grown.grows c.prepare.new.links c.prepare.ensures.link c.in_ok-pair.pair _ _
+    let means = means_prepared c.args.arena.now c.args.links.now before store c.prepare.new.arena c.prepare.ensures.arena grown.grows c.prepare.new.links c.prepare.ensures.link in
+    never_adds c.args.arena.now c.args.links.now before store c.prepare.new.arena c.prepare.ensures.arena grown.grows c.prepare.new.links c.prepare.ensures.link c.in_ok-pair.pair _ _
     c.in_ok-pair.ensures.prepared.left c.in_ok-pair.ensures.prepared.right
     (c.in_ok-solve.ensures.never c.if-branch.false (pairs_of (reverse before)) means)

@@ -15,5 +15,4 @@ returns-clause-prepared c =
       };
       right = record { inside = right.inside; tree = right.tree };
       terms = c.in_ok-make_room.ensures.terms ∙ c.len.ensures ∙ new.nodes.ok.0;
-      marks = c.in_ok-make_room.ensures.marks ∙ c.len.ensures ∙ new.nodes.ok.0;
     }

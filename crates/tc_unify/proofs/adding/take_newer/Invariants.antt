@@ -4,7 +4,7 @@ use Rattle.tc_unify.proofs.adding.take_newer.Given as goal
 
 abbrev pub invariant-loop-arena : goal.invariant-loop-arena
 invariant-loop-arena l = record {
-  store : IsStore l.arena l.links l.walk l.added.items;
+  store : IsStore l.arena l.links l.added.items;
   equations : take l.left (equations_in l.arena l.added.items) ≡ take l.left (equations_in l.fn.arena l.fn.added.items);
   variables : l.arena.variables ≡ l.fn.arena.variables;
 }

@@ -1,4 +1,4 @@
-use Rattle.std.proofs.Common.{sym, ◌∙◌, subst, arith, true≢false}
+use Rattle.std.proofs.Common.{refl, sym, ◌∙◌, subst, arith, true≢false}
 use Rattle.tc_unify.specs.declared.nodes.Node.TheVariants.{Apply}
 use Rattle.tc_unify.specs.Nodes.{IsPlain}
 use Rattle.tc_unify.proofs.Arenas.{shape_in-variable, shape_of-read, plain_read, named_node}
@@ -16,10 +16,10 @@ pub index-requires : goal.index-requires
 index-requires c = let below = root_term c.args.arena.now c.args.links.now c.requires.linked c.args.node c.end-root.result c.requires.node c.end-root.ensures c.if-root-ge-FIRST_VARIABLE.false in omega arith
 
 pub index-requires-2 : goal.index-requires-2
-index-requires-2 c = let below = root_term c.args.arena.now c.args.links.now c.requires.linked c.args.node c.end-root.result c.requires.node c.end-root.ensures c.if-root-ge-FIRST_VARIABLE.false in let size = c.requires.marked.size in omega arith
+index-requires-2 c = let below = root_term c.args.arena.now c.args.links.now c.requires.linked c.args.node c.end-root.result c.requires.node c.end-root.ensures c.if-root-ge-FIRST_VARIABLE.false in let size = c.requires.room in omega arith
 
 pub push_below-requires : goal.push_below-requires
-push_below-requires c = let below = root_term c.args.arena.now c.args.links.now c.requires.linked c.args.node c.end-root.result c.requires.node c.end-root.ensures c.if-root-ge-FIRST_VARIABLE.false in let size = c.requires.marked.size in omega arith
+push_below-requires c = let below = root_term c.args.arena.now c.args.links.now c.requires.linked c.args.node c.end-root.result c.requires.node c.end-root.ensures c.if-root-ge-FIRST_VARIABLE.false in let size = c.requires.room in omega arith
 
 pub returns-in_default : goal.returns-in_default
 returns-in_default c = record {
@@ -30,22 +30,23 @@ returns-in_default c = record {
   endless = λ never. absurd (true≢false never);
   known = c.requires.known;
   work = omega arith;
+  room = refl;
   marked = c.requires.marked;
 }
 
 pub returns-in-Finite-clause-keeps : goal.returns-in-Finite-clause-keeps
 returns-in-Finite-clause-keeps c = λ entered.
-    Keeps-passed c.args.arena.now c.args.links.now c.args.walk.now c.requires.linked c.requires.known c.args.node (finite_marked c.args.arena.now c.args.links.now c.args.walk.now c.requires.linked c.requires.known c.args.node c.end-root.result c.end-root.ensures ((mark_read c.args.walk.now c.args.arena.now c.end-root.result c.index-2.result.now c.requires.marked (root_term c.args.arena.now c.args.links.now c.requires.linked c.args.node c.end-root.result c.requires.node c.end-root.ensures c.if-root-ge-FIRST_VARIABLE.false) c.index-2.ensures) ∙ c.in-Finite.is))
+    Keeps-passed c.args.arena.now c.args.links.now c.args.walk.now c.requires.linked c.requires.known c.args.node (finite_marked c.args.arena.now c.args.links.now c.args.walk.now c.requires.linked c.requires.known c.args.node c.end-root.result c.end-root.ensures ((mark_read c.args.walk.now c.args.arena.now c.end-root.result c.index-2.result.now c.requires.room (root_term c.args.arena.now c.args.links.now c.requires.linked c.args.node c.end-root.result c.requires.node c.end-root.ensures c.if-root-ge-FIRST_VARIABLE.false) c.index-2.ensures) ∙ c.in-Finite.is))
 
 pub returns-in-Open-clause-endless : goal.returns-in-Open-clause-endless
 returns-in-Open-clause-endless c = λ entered.
-    endless_open c.args.arena.now c.args.links.now c.args.walk.now c.requires.linked c.requires.known c.args.node c.end-root.result c.end-root.ensures ((mark_read c.args.walk.now c.args.arena.now c.end-root.result c.index-2.result.now c.requires.marked (root_term c.args.arena.now c.args.links.now c.requires.linked c.args.node c.end-root.result c.requires.node c.end-root.ensures c.if-root-ge-FIRST_VARIABLE.false) c.index-2.ensures) ∙ c.in-Open.is)
+    endless_open c.args.arena.now c.args.links.now c.args.walk.now c.requires.linked c.requires.known c.args.node c.end-root.result c.end-root.ensures ((mark_read c.args.walk.now c.args.arena.now c.end-root.result c.index-2.result.now c.requires.room (root_term c.args.arena.now c.args.links.now c.requires.linked c.args.node c.end-root.result c.requires.node c.end-root.ensures c.if-root-ge-FIRST_VARIABLE.false) c.index-2.ensures) ∙ c.in-Open.is)
 
 pub returns-in_ok-push_below-in-Unseen-clause-keeps : goal.returns-in_ok-push_below-in-Unseen-clause-keeps
 returns-in_ok-push_below-in-Unseen-clause-keeps c = λ entered.
     Keeps-entered c.args.arena.now c.args.links.now c.args.walk.now c.requires.linked c.requires.known c.args.node c.end-root.result c.in-Apply.head c.in-Apply.argument c.push_below.new.walk c.end-root.ensures
-    (root_term c.args.arena.now c.args.links.now c.requires.linked c.args.node c.end-root.result c.requires.node c.end-root.ensures c.if-root-ge-FIRST_VARIABLE.false) c.requires.marked.size
-    ((mark_read c.args.walk.now c.args.arena.now c.end-root.result c.index-2.result.now c.requires.marked (root_term c.args.arena.now c.args.links.now c.requires.linked c.args.node c.end-root.result c.requires.node c.end-root.ensures c.if-root-ge-FIRST_VARIABLE.false) c.index-2.ensures) ∙ c.in-Unseen.is)
+    (root_term c.args.arena.now c.args.links.now c.requires.linked c.args.node c.end-root.result c.requires.node c.end-root.ensures c.if-root-ge-FIRST_VARIABLE.false) c.requires.room
+    ((mark_read c.args.walk.now c.args.arena.now c.end-root.result c.index-2.result.now c.requires.room (root_term c.args.arena.now c.args.links.now c.requires.linked c.args.node c.end-root.result c.requires.node c.end-root.ensures c.if-root-ge-FIRST_VARIABLE.false) c.index-2.ensures) ∙ c.in-Unseen.is)
     (shape_of-read c.args.arena.now c.end-root.result _ (Apply c.in-Apply.head c.in-Apply.argument) c.requires.linked.arena (root_term c.args.arena.now c.args.links.now c.requires.linked c.args.node c.end-root.result c.requires.node c.end-root.ensures c.if-root-ge-FIRST_VARIABLE.false) c.index.ensures c.in-Apply.is)
     (named_node c.args.arena.now c.end-root.result c.in-Apply.head c.in-Apply.argument c.requires.linked.arena (root_term c.args.arena.now c.args.links.now c.requires.linked c.args.node c.end-root.result c.requires.node c.end-root.ensures c.if-root-ge-FIRST_VARIABLE.false) (shape_of-read c.args.arena.now c.end-root.result _ (Apply c.in-Apply.head c.in-Apply.argument) c.requires.linked.arena (root_term c.args.arena.now c.args.links.now c.requires.linked c.args.node c.end-root.result c.requires.node c.end-root.ensures c.if-root-ge-FIRST_VARIABLE.false) c.index.ensures c.in-Apply.is))
     c.in_ok-push_below-in-Unseen.ensures.marks c.in_ok-push_below-in-Unseen.ensures.steps c.in_ok-push_below-in-Unseen.ensures.seen
@@ -53,8 +54,8 @@ returns-in_ok-push_below-in-Unseen-clause-keeps c = λ entered.
 pub returns-in_ok-push_below-in-Unseen-clause-known : goal.returns-in_ok-push_below-in-Unseen-clause-known
 returns-in_ok-push_below-in-Unseen-clause-known c =
     Knows-entered c.args.arena.now c.args.links.now c.args.walk.now c.requires.linked c.requires.known c.args.node c.end-root.result c.in-Apply.head c.in-Apply.argument c.push_below.new.walk c.end-root.ensures
-    (root_term c.args.arena.now c.args.links.now c.requires.linked c.args.node c.end-root.result c.requires.node c.end-root.ensures c.if-root-ge-FIRST_VARIABLE.false) c.requires.marked.size
-    ((mark_read c.args.walk.now c.args.arena.now c.end-root.result c.index-2.result.now c.requires.marked (root_term c.args.arena.now c.args.links.now c.requires.linked c.args.node c.end-root.result c.requires.node c.end-root.ensures c.if-root-ge-FIRST_VARIABLE.false) c.index-2.ensures) ∙ c.in-Unseen.is)
+    (root_term c.args.arena.now c.args.links.now c.requires.linked c.args.node c.end-root.result c.requires.node c.end-root.ensures c.if-root-ge-FIRST_VARIABLE.false) c.requires.room
+    ((mark_read c.args.walk.now c.args.arena.now c.end-root.result c.index-2.result.now c.requires.room (root_term c.args.arena.now c.args.links.now c.requires.linked c.args.node c.end-root.result c.requires.node c.end-root.ensures c.if-root-ge-FIRST_VARIABLE.false) c.index-2.ensures) ∙ c.in-Unseen.is)
     (shape_of-read c.args.arena.now c.end-root.result _ (Apply c.in-Apply.head c.in-Apply.argument) c.requires.linked.arena (root_term c.args.arena.now c.args.links.now c.requires.linked c.args.node c.end-root.result c.requires.node c.end-root.ensures c.if-root-ge-FIRST_VARIABLE.false) c.index.ensures c.in-Apply.is)
     (named_node c.args.arena.now c.end-root.result c.in-Apply.head c.in-Apply.argument c.requires.linked.arena (root_term c.args.arena.now c.args.links.now c.requires.linked c.args.node c.end-root.result c.requires.node c.end-root.ensures c.if-root-ge-FIRST_VARIABLE.false) (shape_of-read c.args.arena.now c.end-root.result _ (Apply c.in-Apply.head c.in-Apply.argument) c.requires.linked.arena (root_term c.args.arena.now c.args.links.now c.requires.linked c.args.node c.end-root.result c.requires.node c.end-root.ensures c.if-root-ge-FIRST_VARIABLE.false) c.index.ensures c.in-Apply.is))
     c.in_ok-push_below-in-Unseen.ensures.marks c.in_ok-push_below-in-Unseen.ensures.steps c.in_ok-push_below-in-Unseen.ensures.seen
@@ -62,8 +63,8 @@ returns-in_ok-push_below-in-Unseen-clause-known c =
 pub returns-in_ok-push_below-in-Unseen-clause-work : goal.returns-in_ok-push_below-in-Unseen-clause-work
 returns-in_ok-push_below-in-Unseen-clause-work c =
     work_entered c.args.arena.now c.args.links.now c.args.walk.now c.requires.linked c.requires.known c.args.node c.end-root.result c.in-Apply.head c.in-Apply.argument c.push_below.new.walk c.end-root.ensures
-    (root_term c.args.arena.now c.args.links.now c.requires.linked c.args.node c.end-root.result c.requires.node c.end-root.ensures c.if-root-ge-FIRST_VARIABLE.false) c.requires.marked.size
-    ((mark_read c.args.walk.now c.args.arena.now c.end-root.result c.index-2.result.now c.requires.marked (root_term c.args.arena.now c.args.links.now c.requires.linked c.args.node c.end-root.result c.requires.node c.end-root.ensures c.if-root-ge-FIRST_VARIABLE.false) c.index-2.ensures) ∙ c.in-Unseen.is)
+    (root_term c.args.arena.now c.args.links.now c.requires.linked c.args.node c.end-root.result c.requires.node c.end-root.ensures c.if-root-ge-FIRST_VARIABLE.false) c.requires.room
+    ((mark_read c.args.walk.now c.args.arena.now c.end-root.result c.index-2.result.now c.requires.room (root_term c.args.arena.now c.args.links.now c.requires.linked c.args.node c.end-root.result c.requires.node c.end-root.ensures c.if-root-ge-FIRST_VARIABLE.false) c.index-2.ensures) ∙ c.in-Unseen.is)
     (shape_of-read c.args.arena.now c.end-root.result _ (Apply c.in-Apply.head c.in-Apply.argument) c.requires.linked.arena (root_term c.args.arena.now c.args.links.now c.requires.linked c.args.node c.end-root.result c.requires.node c.end-root.ensures c.if-root-ge-FIRST_VARIABLE.false) c.index.ensures c.in-Apply.is)
     (named_node c.args.arena.now c.end-root.result c.in-Apply.head c.in-Apply.argument c.requires.linked.arena (root_term c.args.arena.now c.args.links.now c.requires.linked c.args.node c.end-root.result c.requires.node c.end-root.ensures c.if-root-ge-FIRST_VARIABLE.false) (shape_of-read c.args.arena.now c.end-root.result _ (Apply c.in-Apply.head c.in-Apply.argument) c.requires.linked.arena (root_term c.args.arena.now c.args.links.now c.requires.linked c.args.node c.end-root.result c.requires.node c.end-root.ensures c.if-root-ge-FIRST_VARIABLE.false) c.index.ensures c.in-Apply.is))
     c.in_ok-push_below-in-Unseen.ensures.marks c.in_ok-push_below-in-Unseen.ensures.steps c.in_ok-push_below-in-Unseen.ensures.seen

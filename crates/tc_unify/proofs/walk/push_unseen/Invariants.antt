@@ -1,13 +1,9 @@
-use Rattle.std.proofs.Common.{◌≡◌, ◌-◌, ◌≤◌, length, All}
+use Rattle.std.proofs.Common.{◌≡◌, ◌-◌, length, All}
 use Rattle.tc_unify.specs.declared.walk.Mark.TheVariants.{Unseen}
 use Rattle.tc_unify.proofs.walk.push_unseen.Given as goal
 
 abbrev pub invariant-loop-marks : goal.invariant-loop-marks
-invariant-loop-marks l = record {
-  unseen : All (λ m. m ≡ Unseen) l.marks.items;
-  shorter : length l.marks.items ≤ l.len;
-  longer : length l.fn.marks.items ≤ length l.marks.items;
-}
+invariant-loop-marks l = All (λ m. m ≡ Unseen) l.marks.items
 
 abbrev pub decreases-loop-marks : goal.decreases-loop-marks
 decreases-loop-marks l = l.len - length l.marks.items

@@ -8,12 +8,12 @@ use Rattle.tc_unify.proofs.StoreValues.{value_found, tuple_found, no_value}
 use Rattle.tc_unify.proofs.store.Store.value.Goals as goal
 
 pub part_value-requires-clause-solved : goal.part_value-requires-clause-solved
-part_value-requires-clause-solved c = store_solved c.self.inside.arena c.self.inside.links c.self.inside.walk c.self.inside.added.items c.self.invariant
+part_value-requires-clause-solved c = store_solved c.self.inside.arena c.self.inside.links c.self.inside.added.items c.self.invariant.0
 
 pub tuple_of-requires : goal.tuple_of-requires
 tuple_of-requires c =
     let s = c.self.inside in
-    tuple_found s.arena s.links s.walk s.added.items c.self.invariant c.args.t.shift c.args.t.term.now c.whole-room.result c.part_value.new.room c.whole-room.ensures.nodes c.whole-room.ensures.name_bytes c.in_ok-found.found c.in_ok-found.ensures
+    tuple_found s.arena s.links s.added.items c.self.invariant.0 c.args.t.shift c.args.t.term.now c.whole-room.result c.part_value.new.room c.whole-room.ensures.nodes c.whole-room.ensures.name_bytes c.in_ok-found.found c.in_ok-found.ensures
     c.in-Some.term c.in-Some.is
     (subst (λ (e : Equations). var_bound (raised c.args.t.shift (tree_of c.args.t.term.now)) ≤ e.vars) (sym c.self.view_is) c.requires)
 
@@ -23,7 +23,7 @@ returns-in-Some-clause-found c =
     let term = raised c.args.t.shift (tree_of c.args.t.term.now) in
     subst (HasValue c.args.self.now.vars c.args.self.now.pairs term) (sym c.tuple_of.ensures)
     (subst (λ (e : Equations). HasValue e.vars e.pairs term (tree_of c.in-Some.term)) c.self.view_is
-    (value_found s.arena s.links s.walk s.added.items c.self.invariant c.args.t.shift c.args.t.term.now c.whole-room.result c.part_value.new.room c.whole-room.ensures.nodes c.whole-room.ensures.name_bytes c.in_ok-found.found c.in_ok-found.ensures
+    (value_found s.arena s.links s.added.items c.self.invariant.0 c.args.t.shift c.args.t.term.now c.whole-room.result c.part_value.new.room c.whole-room.ensures.nodes c.whole-room.ensures.name_bytes c.in_ok-found.found c.in_ok-found.ensures
     c.in-Some.term c.in-Some.is))
 
 pub returns-in-None-clause-none : goal.returns-in-None-clause-none
@@ -31,4 +31,4 @@ returns-in-None-clause-none c =
     let s = c.self.inside in
     let term = raised c.args.t.shift (tree_of c.args.t.term.now) in
     subst (λ (e : Equations). (t : Tree) → HasValue e.vars e.pairs term t → ⊥) c.self.view_is
-    (no_value s.arena s.links s.walk s.added.items c.self.invariant c.args.t.shift c.args.t.term.now c.whole-room.result c.part_value.new.room c.whole-room.ensures.nodes c.whole-room.ensures.name_bytes c.in_ok-found.found c.in_ok-found.ensures c.in-None.is)
+    (no_value s.arena s.links s.added.items c.self.invariant.0 c.args.t.shift c.args.t.term.now c.whole-room.result c.part_value.new.room c.whole-room.ensures.nodes c.whole-room.ensures.name_bytes c.in_ok-found.found c.in_ok-found.ensures c.in-None.is)
