@@ -19,7 +19,7 @@ use Rattle.tc_unify.specs.declared.sizes.Added.{Added}
 use Rattle.tc_unify.specs.Nodes.{label}
 use Rattle.tc_unify.specs.Solutions.{Means, NeverMeets, IsSolution, equations_of}
 use Rattle.tc_unify.specs.Values.{AreSolved}
-use Rattle.tc_unify.specs.Arena.{IsArena, IsNodeOf, IsNodeFor, Grows, Begins, shape_in, shape_of, node_tree}
+use Rattle.tc_unify.specs.Arena.{IsArena, HasLinkIn, IsNodeOf, IsNodeFor, Grows, Begins, shape_in, shape_of, node_tree}
 use Rattle.tc_unify.specs.Tables.{link_of, rewound, HasNode, Extends}
 use Rattle.tc_unify.specs.Cuts.{IsCut}
 use Rattle.tc_unify.specs.Meeting.{IsLinked}
@@ -196,7 +196,7 @@ IsGrown-solved a b l m n grows link trail terms variables x linked = record {
   trail = x.trail ∙ ap (λ ns. ns ++ x.more) trail;
   back = λ k. x.back k ∙ link k;
   places = subst (All (HasNode n)) (ap (drop (length m.trail.items)) x.trail ∙ drop-append_seam m.trail.items x.more)
-      (All-drop (HasNode n) (length m.trail.items) n.trail.items (All-weaker (IsNodeOf b) (HasNode n) (place_of b n linked) n.trail.items linked.trail));
+      (All-drop (HasNode n) (length m.trail.items) n.trail.items (All-weaker (HasLinkIn b) (HasNode n) (place_of b n linked) n.trail.items linked.trail));
   terms = (let same = x.terms in omega arith);
   variables = x.variables ∙ variables;
 }
@@ -235,7 +235,7 @@ module _ (a : Arena) (l : Links) (added rest : List Added) (e : Added) (store : 
   pub newest_places : All (HasNode l) (drop e.before.trail l.trail.items)
   newest_places =
       All-drop (HasNode l) e.before.trail l.trail.items
-      (All-weaker (IsNodeOf a) (HasNode l) (place_of a l (store_linked a l added store)) l.trail.items (newest a l added store).trail_nodes)
+      (All-weaker (HasLinkIn a) (HasNode l) (place_of a l (store_linked a l added store)) l.trail.items (newest a l added store).trail_nodes)
 
   pub newest_past : (k : ℕ) → e.before.nodes ≤ k → k < FIRST_VARIABLE → rewound (link_of l) (drop e.before.trail l.trail.items) k ≡ k
   newest_past k h term =

@@ -8,31 +8,68 @@ use Rattle.std.proofs.Math.ListN.{get_or-append, get_or-eq_default}
 use Rattle.std.proofs.Math.Seq.{take-append_seam, get_or-append_seam, drop-append_seam}
 use Rattle.std.proofs.Math.Path.{fun_ext}
 use Rattle.tc_term.specs.Tree.{Tree, Variable, Atomic, Number}
-use Rattle.tc_unify.specs.declared.nodes.TheConstants.{FIRST_VARIABLE}
+use Rattle.tc_unify.specs.declared.names.TheConstants.{SHORT, SHORT_NAMES}
+use Rattle.tc_unify.specs.declared.nodes.TheConstants.{FIRST_NAME, FIRST_VARIABLE}
+use Rattle.tc_unify.specs.Names.{name_at}
 use Rattle.tc_unify.specs.declared.nodes.Node.{Node}
 use Rattle.tc_unify.specs.declared.nodes.Node.TheVariants.{Atom, Int, Apply}
 use Rattle.tc_unify.specs.Nodes.{Shape, VariableNode, AtomNode, NumberNode, ApplyNode, IsVariable, IsTerm, IsHead, IsPlain, IsInOrder, InOrder, tree_of_node, applied, label}
 use Rattle.tc_unify.proofs.Labels.{IsWithin, label-same, label-labels}
-use Rattle.tc_unify.specs.Arena.{node_shape, shape_in, IsInside, IsNodeWithin, IsArenaOf, IsArena, IsNodeOf, AreNodesOf, Grows, IsNodeFor, IsHeadFor, shape_of, node_tree, Begins}
+use Rattle.tc_unify.specs.Arena.{node_shape, outer_shape, shape_in, IsInside, HasLink, IsNodeWithin, IsArenaOf, IsArena, IsNodeOf, AreNodesOf, Grows, IsNodeFor, IsHeadFor, shape_of, node_tree, Begins}
 use Rattle.std.proofs.Common.{Result, IfOk, OnOk, OnErr, Ok, Err}
 use Rattle.tc_unify.specs.declared.nodes.Arena.{Arena}
 use Rattle.std.specs.Prelude.{bytes_eq, slice_range, Decides}
 use Rattle.std.proofs.lemmas.Slice.Eq.{bytes_eq-Decides}
 
+not_below : (k n : ℕ) → n ≤ k → ltb k n ≡ false
+not_below k n h = by_test (ltb k n) refl
+  where
+    by_test : (b : Bool) → ltb k n ≡ b → ltb k n ≡ false
+    by_test true e = (let below = (Decides-ltb k n).0 e in absurd (omega arith))
+    by_test false e = e
+
 -- what a term's node is
-pub shape_in-term : (nodes : List Node) (text : List ℕ) (k : ℕ) → k < FIRST_VARIABLE → shape_in nodes text k ≡ node_shape text (get_or nodes k (Atom 0 0))
+pub shape_in-term : (nodes : List Node) (text : List ℕ) (k : ℕ) → k < FIRST_NAME → shape_in nodes text k ≡ node_shape text (get_or nodes k (Atom 0 0))
 unfolding shape_in
 shape_in-term nodes text k h =
-    ap (λ b. cond b (node_shape text (get_or nodes k (Atom 0 0))) (VariableNode (k - FIRST_VARIABLE))) ((Decides-ltb k FIRST_VARIABLE).1 h)
+    ap (λ b. cond b (node_shape text (get_or nodes k (Atom 0 0))) (outer_shape k)) ((Decides-ltb k FIRST_NAME).1 h)
+
+-- what the nodes above those of terms are
+pub shape_in-outer : (nodes : List Node) (text : List ℕ) (k : ℕ) → FIRST_NAME ≤ k → shape_in nodes text k ≡ outer_shape k
+unfolding shape_in
+shape_in-outer nodes text k h =
+    ap (λ b. cond b (node_shape text (get_or nodes k (Atom 0 0))) (outer_shape k)) (not_below k FIRST_NAME h)
+
+outer_shape-name : (k : ℕ) → k < FIRST_VARIABLE → outer_shape k ≡ AtomNode (name_at (k - FIRST_NAME))
+unfolding outer_shape
+outer_shape-name k h =
+    ap (λ b. cond b (AtomNode (name_at (k - FIRST_NAME))) (VariableNode (k - FIRST_VARIABLE))) ((Decides-ltb k FIRST_VARIABLE).1 h)
+
+outer_shape-variable : (k : ℕ) → FIRST_VARIABLE ≤ k → outer_shape k ≡ VariableNode (k - FIRST_VARIABLE)
+unfolding outer_shape
+outer_shape-variable k h =
+    ap (λ b. cond b (AtomNode (name_at (k - FIRST_NAME))) (VariableNode (k - FIRST_VARIABLE))) (not_below k FIRST_VARIABLE h)
+
+pub shape_in-name : (nodes : List Node) (text : List ℕ) (k : ℕ) → FIRST_NAME ≤ k → k < FIRST_VARIABLE → shape_in nodes text k ≡ AtomNode (name_at (k - FIRST_NAME))
+shape_in-name nodes text k h i = shape_in-outer nodes text k h ∙ outer_shape-name k i
 
 pub shape_in-variable : (nodes : List Node) (text : List ℕ) (k : ℕ) → FIRST_VARIABLE ≤ k → shape_in nodes text k ≡ VariableNode (k - FIRST_VARIABLE)
-unfolding shape_in
-shape_in-variable nodes text k h =
-    ap (λ b. cond b (node_shape text (get_or nodes k (Atom 0 0))) (VariableNode (k - FIRST_VARIABLE))) (not_below (ltb k FIRST_VARIABLE) refl)
-  where
-    not_below : (b : Bool) → ltb k FIRST_VARIABLE ≡ b → ltb k FIRST_VARIABLE ≡ false
-    not_below true e = (let below = (Decides-ltb k FIRST_VARIABLE).0 e in absurd (omega arith))
-    not_below false e = e
+shape_in-variable nodes text k h = shape_in-outer nodes text k (omega arith) ∙ outer_shape-variable k h
+
+outer_shape-plain : (k : ℕ) → IsPlain (outer_shape k)
+outer_shape-plain k =
+    elim (cases_lt k FIRST_VARIABLE) [
+      | inl name ↦ subst IsPlain (sym (outer_shape-name k name)) tt
+      | inr free ↦ subst IsPlain (sym (outer_shape-variable k free)) tt
+    ]
+
+pub outer_plain : (nodes : List Node) (text : List ℕ) (k : ℕ) → FIRST_NAME ≤ k → IsPlain (shape_in nodes text k)
+outer_plain nodes text k h = subst IsPlain (sym (shape_in-outer nodes text k h)) (outer_shape-plain k)
+
+-- a node with a link is inside
+pub inside_link : (nodes : List Node) (count k : ℕ) → HasLink nodes count k → IsInside nodes count k
+inside_link nodes count k (inl h) = inl h
+inside_link nodes count k (inr h) = inr (omega (arith, h.0), h.1)
 
 pub shape_in-node : (nodes : List Node) (text : List ℕ) (count k : ℕ) (node : Node) → IsArenaOf nodes text count → k < length nodes → node ≡ get_or nodes k node → shape_in nodes text k ≡ node_shape text node
 shape_in-node nodes text count k node arena h e =
@@ -52,18 +89,11 @@ names_decided text t u from len start size r d e f =
     subst (λ b. Decides b (take len (drop from text) ≡ take size (drop start text))) (sym (f ∙ ap₂ bytes_eq left right))
     (bytes_eq-Decides (take len (drop from text)) (take size (drop start text)))
 
-inside_term : (nodes : List Node) (text : List ℕ) (count k : ℕ) → IsInside nodes count k → IsTerm (shape_in nodes text k) → k < length nodes
-inside_term nodes text count k (inl h) term = h
-inside_term nodes text count k (inr h) term = absurd (subst IsTerm (shape_in-variable nodes text k h.0) term)
-
 IsHead-term : (s : Shape) → IsHead s → IsTerm s
 IsHead-term (VariableNode n) h = h
 IsHead-term (AtomNode name) h = tt
 IsHead-term (NumberNode n) h = tt
 IsHead-term (ApplyNode head argument) h = tt
-
-IsVariable-shape : (nodes : List Node) (text : List ℕ) (k : ℕ) → FIRST_VARIABLE ≤ k → IsVariable (shape_in nodes text k)
-IsVariable-shape nodes text k h = subst IsVariable (sym (shape_in-variable nodes text k h)) tt
 
 node_shape-not_variable : (text : List ℕ) (node : Node) → IsVariable (node_shape text node) → ⊥
 node_shape-not_variable text (Atom from len) h = h
@@ -72,9 +102,13 @@ node_shape-not_variable text (Apply head argument) h = h
 
 pub variable_above : (nodes : List Node) (text : List ℕ) (k : ℕ) → IsVariable (shape_in nodes text k) → FIRST_VARIABLE ≤ k
 variable_above nodes text k h =
-    elim (cases_lt k FIRST_VARIABLE) [
+    elim (cases_lt k FIRST_NAME) [
       | inl below ↦ absurd (node_shape-not_variable text (get_or nodes k (Atom 0 0)) (subst IsVariable (shape_in-term nodes text k below) h))
-      | inr above ↦ above
+      | inr above ↦
+          elim (cases_lt k FIRST_VARIABLE) [
+            | inl name ↦ absurd (subst IsVariable (shape_in-name nodes text k above name) h)
+            | inr free ↦ free
+          ]
     ]
 
 node_shape-term : (text : List ℕ) (node : Node) → IsTerm (node_shape text node)
@@ -84,7 +118,11 @@ node_shape-term text (Apply head argument) = tt
 
 -- the nodes below the variables are those of terms
 pub IsTerm-below : (nodes : List Node) (text : List ℕ) (k : ℕ) → k < FIRST_VARIABLE → IsTerm (shape_in nodes text k)
-IsTerm-below nodes text k h = subst IsTerm (sym (shape_in-term nodes text k h)) (node_shape-term text (get_or nodes k (Atom 0 0)))
+IsTerm-below nodes text k h =
+    elim (cases_lt k FIRST_NAME) [
+      | inl below ↦ subst IsTerm (sym (shape_in-term nodes text k below)) (node_shape-term text (get_or nodes k (Atom 0 0)))
+      | inr above ↦ subst IsTerm (sym (shape_in-name nodes text k above h)) tt
+    ]
 
 pub term_below : (nodes : List Node) (text : List ℕ) (k : ℕ) → IsTerm (shape_in nodes text k) → k < FIRST_VARIABLE
 term_below nodes text k h =
@@ -122,7 +160,7 @@ name-begins text longer from len h i =
     ∙ take-append-le len (drop from text) more (omega (arith, length-drop from text))
 
 node_shape-begins : (nodes : List Node) (text longer : List ℕ) (count : ℕ) (node : Node) → Begins text longer → IsNodeWithin nodes text count node → node_shape longer node ≡ node_shape text node
-node_shape-begins nodes text longer count (Atom from len) h w = ap AtomNode (name-begins text longer from len h w)
+node_shape-begins nodes text longer count (Atom from len) h w = ap AtomNode (name-begins text longer from len h w.0)
 node_shape-begins nodes text longer count (Int n) h w = refl
 node_shape-begins nodes text longer count (Apply head argument) h w = refl
 
@@ -138,19 +176,25 @@ module _ (nodes more : List Node) (text longer : List ℕ) (count : ℕ) (arena 
       ∙ ap (node_shape longer) (get_or-begins nodes more (Atom 0 0) k grows h)
       ∙ node_shape-begins nodes text longer count (get_or nodes k (Atom 0 0)) text_grows (node_at k h)
       ∙ sym (shape_in-term nodes text k (omega arith))
-  shape_in-grows k (inr h) = shape_in-variable more longer k h.0 ∙ sym (shape_in-variable nodes text k h.0)
+  shape_in-grows k (inr h) = shape_in-outer more longer k h.0 ∙ sym (shape_in-outer nodes text k h.0)
 
   within_shape : (node : Node) → IsNodeWithin nodes text count node → IsWithin (IsInside nodes count) (node_shape text node)
   within_shape (Atom from len) h = tt
   within_shape (Int n) h = tt
   within_shape (Apply head argument) h = h
 
+  plain_within : (s : Shape) → IsPlain s → IsWithin (IsInside nodes count) s
+  plain_within (VariableNode n) h = tt
+  plain_within (AtomNode name) h = tt
+  plain_within (NumberNode n) h = tt
+  plain_within (ApplyNode head argument) h = absurd h
+
   -- the nodes that a node names are inside
   pub inside_within : (k : ℕ) → IsInside nodes count k → IsWithin (IsInside nodes count) (shape_in nodes text k)
   inside_within k (inl h) =
       let few = arena.few in
       subst (IsWithin (IsInside nodes count)) (sym (shape_in-term nodes text k (omega arith))) (within_shape (get_or nodes k (Atom 0 0)) (node_at k h))
-  inside_within k (inr h) = subst (IsWithin (IsInside nodes count)) (sym (shape_in-variable nodes text k h.0)) tt
+  inside_within k (inr h) = plain_within (shape_in nodes text k) (outer_plain nodes text k h.0)
 
   -- and their trees
   pub label-grows : (v : ℕ → Tree) (k : ℕ) → IsInside nodes count k → label (shape_in more longer) v k ≡ label (shape_in nodes text) v k
@@ -159,7 +203,7 @@ module _ (nodes more : List Node) (text longer : List ℕ) (count : ℕ) (arena 
 
 -- a node may come next
 abbrev pub IsNext : List Node → List ℕ → ℕ → Node → Type 0
-IsNext nodes text count (Atom from len) = from + len ≤ length text
+IsNext nodes text count (Atom from len) = (from + len ≤ length text) × (SHORT < len)
 IsNext nodes text count (Int n) = Unit {0}
 IsNext nodes text count (Apply head argument) =
     IsHead (shape_in nodes text head) × IsInside nodes count head × IsInside nodes count argument
@@ -178,14 +222,17 @@ within_more nodes node text count (Atom from len) h = h
 within_more nodes node text count (Int n) h = tt
 within_more nodes node text count (Apply head argument) h = (inside_more nodes node count head h.0, inside_more nodes node count argument h.1)
 
-order_of : (nodes : List Node) (text : List ℕ) (count k : ℕ) (other : ℕ → Shape) (s : Shape) → ((j : ℕ) → j < k → other j ≡ shape_in nodes text j) → ((j : ℕ) → IsVariable (shape_in nodes text j) → IsVariable (other j)) → IsInOrder (shape_in nodes text) k s → IsInOrder other k s
-order_of nodes text count k other (VariableNode n) e v h = tt
-order_of nodes text count k other (AtomNode name) e v h = tt
-order_of nodes text count k other (NumberNode n) e v h = tt
-order_of nodes text count k other (ApplyNode head argument) e v h =
-    (subst IsHead (sym (e head h.1)) h.0, h.1, elim h.2 [ inl free ↦ inl (v argument free) | inr below ↦ inr below ])
+order_of : (nodes : List Node) (text : List ℕ) (count k : ℕ) (other : ℕ → Shape) (s : Shape) → ((j : ℕ) → IsInside nodes count j → other j ≡ shape_in nodes text j) → IsWithin (IsInside nodes count) s → IsInOrder (shape_in nodes text) k s → IsInOrder other k s
+order_of nodes text count k other (VariableNode n) e w h = tt
+order_of nodes text count k other (AtomNode name) e w h = tt
+order_of nodes text count k other (NumberNode n) e w h = tt
+order_of nodes text count k other (ApplyNode head argument) e w h = (
+  subst IsHead (sym (e head w.0)) h.0,
+  elim h.1 [ inl plain ↦ inl (subst IsPlain (sym (e head w.0)) plain) | inr below ↦ inr below ],
+  elim h.2 [ inl plain ↦ inl (subst IsPlain (sym (e argument w.1)) plain) | inr below ↦ inr below ],
+)
 
-module _ (nodes : List Node) (node : Node) (text : List ℕ) (count : ℕ) (arena : IsArenaOf nodes text count) (next : IsNext nodes text count node) (room : length nodes < FIRST_VARIABLE) where
+module _ (nodes : List Node) (node : Node) (text : List ℕ) (count : ℕ) (arena : IsArenaOf nodes text count) (next : IsNext nodes text count node) (room : length nodes < FIRST_NAME) where
   pushed : ℕ → Shape
   pushed = shape_in (nodes ++ node ∷ []) text
 
@@ -193,23 +240,23 @@ module _ (nodes : List Node) (node : Node) (text : List ℕ) (count : ℕ) (aren
   shape_in-pushed =
       shape_in-term (nodes ++ node ∷ []) text (length nodes) room ∙ ap (node_shape text) (get_or-append_seam nodes node [] (Atom 0 0))
 
-  pushed-below : (k : ℕ) → k < length nodes → pushed k ≡ shape_in nodes text k
+  pushed-inside : (k : ℕ) → IsInside nodes count k → pushed k ≡ shape_in nodes text k
   unfolding pushed
-  pushed-below k h = shape_in-grows nodes (nodes ++ node ∷ []) text text count arena (Begins-append nodes (node ∷ [])) (Begins-itself text) k (inl h)
+  pushed-inside k h = shape_in-grows nodes (nodes ++ node ∷ []) text text count arena (Begins-append nodes (node ∷ [])) (Begins-itself text) k h
 
-  pushed-variable : (k : ℕ) → IsVariable (shape_in nodes text k) → IsVariable (pushed k)
+  within_next : (k : ℕ) → k < length nodes → IsWithin (IsInside nodes count) (shape_in nodes text k)
+  within_next k h = inside_within nodes nodes text text count arena (Begins-itself nodes) (Begins-itself text) k (inl h)
+
+  inside_order : (k : ℕ) → IsInside nodes count k → IsPlain (pushed k) ⊎ (k < length nodes)
   unfolding pushed
-  pushed-variable k h = IsVariable-shape (nodes ++ node ∷ []) text k (variable_above nodes text k h)
+  inside_order k (inl h) = inr h
+  inside_order k (inr h) = inl (outer_plain (nodes ++ node ∷ []) text k h.0)
 
   next_order : (m : Node) → IsNext nodes text count m → IsInOrder pushed (length nodes) (node_shape text m)
   next_order (Atom from len) h = tt
   next_order (Int n) h = tt
   next_order (Apply head argument) h =
-      let below = inside_term nodes text count head h.1 (IsHead-term (shape_in nodes text head) h.0) in (
-        subst IsHead (sym (pushed-below head below)) h.0,
-        below,
-        elim h.2 [ inl old ↦ inr old | inr free ↦ inl (pushed-variable argument (IsVariable-shape nodes text argument free.0)) ],
-      )
+      (subst IsHead (sym (pushed-inside head h.1)) h.0, inside_order head h.1, inside_order argument h.2)
 
   pushed_order : InOrder pushed
   unfolding pushed
@@ -217,17 +264,23 @@ module _ (nodes : List Node) (node : Node) (text : List ℕ) (count : ℕ) (aren
       elim (cases_order k (length nodes)) [
         | inl at ↦ subst (λ j. IsInOrder pushed j (pushed j)) (sym at) (subst (IsInOrder pushed (length nodes)) (sym shape_in-pushed) (next_order node next))
         | inr (inl below) ↦
-            subst (IsInOrder pushed k) (sym (pushed-below k below))
-            (order_of nodes text count k pushed (shape_in nodes text k) (λ j h. pushed-below j (omega arith)) pushed-variable (arena.order k))
-        | inr (inr above) ↦ past k above (cases_lt k FIRST_VARIABLE)
+            subst (IsInOrder pushed k) (sym (pushed-inside k (inl below)))
+            (order_of nodes text count k pushed (shape_in nodes text k) pushed-inside (within_next k below) (arena.order k))
+        | inr (inr above) ↦ past k above (cases_lt k FIRST_NAME)
       ]
     where
-      past : (k : ℕ) → length nodes < k → ((k < FIRST_VARIABLE) ⊎ (FIRST_VARIABLE ≤ k)) → IsInOrder pushed k (pushed k)
+      plain_order : (k : ℕ) (s : Shape) → IsPlain s → IsInOrder pushed k s
+      plain_order k (VariableNode n) h = tt
+      plain_order k (AtomNode name) h = tt
+      plain_order k (NumberNode n) h = tt
+      plain_order k (ApplyNode head argument) h = absurd h
+
+      past : (k : ℕ) → length nodes < k → ((k < FIRST_NAME) ⊎ (FIRST_NAME ≤ k)) → IsInOrder pushed k (pushed k)
       past k above (inl term) =
           subst (IsInOrder pushed k)
           (sym (shape_in-term (nodes ++ node ∷ []) text k term ∙ ap (node_shape text) (get_or-eq_default (nodes ++ node ∷ []) (Atom 0 0) (omega (arith, length-append nodes (node ∷ []))))))
           tt
-      past k above (inr free) = subst (IsInOrder pushed k) (sym (shape_in-variable (nodes ++ node ∷ []) text k free)) tt
+      past k above (inr outer) = plain_order k (pushed k) (outer_plain (nodes ++ node ∷ []) text k outer)
 
   pub IsArenaOf-push : IsArenaOf (nodes ++ node ∷ []) text count
   unfolding pushed
@@ -273,16 +326,16 @@ shape_in-text nodes text longer count arena grows k =
     elim (cases_lt k (length nodes)) [
       | inl below ↦ shape_in-grows nodes nodes text longer count arena (Begins-itself nodes) grows k (inl below)
       | inr above ↦
-          elim (cases_lt k FIRST_VARIABLE) [
+          elim (cases_lt k FIRST_NAME) [
             | inl term ↦
                 shape_in-term nodes longer k term ∙ ap (node_shape longer) (get_or-eq_default nodes (Atom 0 0) above)
                 ∙ ap (node_shape text) (sym (get_or-eq_default nodes (Atom 0 0) above)) ∙ sym (shape_in-term nodes text k term)
-            | inr free ↦ shape_in-variable nodes longer k free ∙ sym (shape_in-variable nodes text k free)
+            | inr outer ↦ shape_in-outer nodes longer k outer ∙ sym (shape_in-outer nodes text k outer)
           ]
     ]
 
 within_text : (nodes : List Node) (text longer : List ℕ) (count : ℕ) → length text ≤ length longer → (m : Node) → IsNodeWithin nodes text count m → IsNodeWithin nodes longer count m
-within_text nodes text longer count h (Atom from len) w = omega arith
+within_text nodes text longer count h (Atom from len) w = (let stands = w.0 in omega arith, w.1)
 within_text nodes text longer count h (Int n) w = tt
 within_text nodes text longer count h (Apply head argument) w = w
 
@@ -300,11 +353,11 @@ module _ (old new : Arena) (node : Node)
     (variables : new.variables ≡ old.variables)
     (nodes : new.nodes.items ≡ old.nodes.items ++ node ∷ [])
     (next : IsNext old.nodes.items new.text.items old.variables node)
-    (few : length new.nodes.items < FIRST_VARIABLE) where
+    (few : length new.nodes.items < FIRST_NAME) where
   before : IsArenaOf old.nodes.items new.text.items old.variables
   before = IsArenaOf-text old.nodes.items old.text.items new.text.items old.variables arena text
 
-  room : length old.nodes.items < FIRST_VARIABLE
+  room : length old.nodes.items < FIRST_NAME
   room = omega (arith, ap length nodes, length-append old.nodes.items (node ∷ []))
 
   pub IsArena-pushed : IsArena new
@@ -375,13 +428,13 @@ IsArena-same old new arena text variables nodes =
     (subst (λ ns. IsArenaOf ns new.text.items old.variables) (sym nodes)
     (IsArenaOf-text old.nodes.items old.text.items new.text.items old.variables arena text))
 
-pub atom_pushed : (old new : Arena) (name : List ℕ) (from : ℕ) → IsArena old → from ≡ length old.text.items → new.text.items ≡ old.text.items ++ name → new.variables ≡ old.variables → length new.nodes.items < FIRST_VARIABLE
+pub atom_pushed : (old new : Arena) (name : List ℕ) (from : ℕ) → SHORT < length name → IsArena old → from ≡ length old.text.items → new.text.items ≡ old.text.items ++ name → new.variables ≡ old.variables → length new.nodes.items < FIRST_NAME
     → new.nodes.items ≡ old.nodes.items ++ Atom from (length name) ∷ []
     → IsArena new × IsHeadFor new (length old.nodes.items) (Atomic name)
-atom_pushed old new name from arena start text variables few nodes =
+atom_pushed old new name from long arena start text variables few nodes =
     let longer : Begins old.text.items new.text.items = subst (Begins old.text.items) (sym text) (Begins-append old.text.items name) in
     let node = Atom from (length name) in
-    let next : IsNext old.nodes.items new.text.items old.variables node = omega (arith, ap length text, length-append old.text.items name) in
+    let next : IsNext old.nodes.items new.text.items old.variables node = (omega (arith, ap length text, length-append old.text.items name), long) in
     let same = ap (λ i. take (length name) (drop i new.text.items)) start ∙ name_pushed old.text.items name new.text.items text in
     let is = shape_pushed old new node arena longer variables nodes next few ∙ ap AtomNode same in (
       IsArena-pushed old new node arena longer variables nodes next few,
@@ -394,7 +447,7 @@ atom_pushed old new name from arena start text variables few nodes =
       },
     )
 
-pub number_pushed : (old new : Arena) (n : ℤ) → IsArena old → new.text.items ≡ old.text.items → new.variables ≡ old.variables → length new.nodes.items < FIRST_VARIABLE
+pub number_pushed : (old new : Arena) (n : ℤ) → IsArena old → new.text.items ≡ old.text.items → new.variables ≡ old.variables → length new.nodes.items < FIRST_NAME
     → new.nodes.items ≡ old.nodes.items ++ Int n ∷ []
     → IsArena new × IsNodeFor new (length old.nodes.items) (Number n)
 number_pushed old new n arena text variables few nodes =
@@ -407,7 +460,7 @@ number_pushed old new n arena text variables few nodes =
     )
 
 pub apply_pushed : (old new : Arena) (head argument : ℕ) → IsArena old → IsHead (shape_of old head) → IsNodeOf old head → IsNodeOf old argument
-    → new.text.items ≡ old.text.items → new.variables ≡ old.variables → length new.nodes.items < FIRST_VARIABLE
+    → new.text.items ≡ old.text.items → new.variables ≡ old.variables → length new.nodes.items < FIRST_NAME
     → new.nodes.items ≡ old.nodes.items ++ Apply head argument ∷ []
     → IsArena new × IsHeadFor new (length old.nodes.items) (applied (node_tree old head) (node_tree old argument))
 apply_pushed old new head argument arena is_head inside other text variables few nodes =
@@ -426,6 +479,20 @@ apply_pushed old new head argument arena is_head inside other text variables few
         head = subst IsHead (sym is) tt;
       },
     )
+
+-- the node of a short name
+pub name_node : (a : Arena) (code : ℕ) (name : List ℕ) → IsArena a → code < SHORT_NAMES → name_at code ≡ name → IsHeadFor a (FIRST_NAME + code) (Atomic name)
+name_node a code name arena small e =
+    let place : (FIRST_NAME + code) - FIRST_NAME ≡ code = omega arith in
+    let is : shape_of a (FIRST_NAME + code) ≡ AtomNode name =
+    shape_in-name a.nodes.items a.text.items (FIRST_NAME + code) (omega arith) (omega arith) ∙ ap AtomNode (ap name_at place ∙ e) in
+    record {
+      node = record {
+        inside = inr (omega arith, omega arith);
+        tree = label-labels (shape_of a) Variable arena.order (FIRST_NAME + code) ∙ ap (tree_of_node Variable (node_tree a)) is;
+      };
+      head = subst IsHead (sym is) tt;
+    }
 
 -- the node of a variable
 pub variable_node : (a : Arena) (k n : ℕ) → IsArena a → k ≡ FIRST_VARIABLE + n → n < a.variables → IsNodeFor a k (Variable n)

@@ -1,5 +1,5 @@
 -- An arena that grows keeps what its links mean.
-use Rattle.std.proofs.Common.{◌≡◌, ℕ, ◌+◌, ◌≤◌, ◌⊎◌, inl, inr, List, [], ◌∷◌, length, map, reverse, refl, sym, ap, ap₂, ◌∙◌, subst, arith, All}
+use Rattle.std.proofs.Common.{◌≡◌, ℕ, ◌+◌, ◌<◌, ◌≤◌, ◌⊎◌, inl, inr, List, [], ◌∷◌, length, map, reverse, refl, sym, ap, ap₂, ◌∙◌, subst, arith, All}
 use Rattle.std.proofs.Math.Path.{fun_ext}
 use Rattle.std.proofs.Math.ListN.{get_or-eq_default}
 use Rattle.std.proofs.lemmas.Bool.{cases_lt}
@@ -15,11 +15,11 @@ use Rattle.tc_unify.specs.declared.sizes.Added.{Added}
 use Rattle.tc_unify.specs.Nodes.{IsTerm, tree_of_node, label}
 use Rattle.tc_unify.specs.Links.{Respects, Holds}
 use Rattle.tc_unify.specs.Solutions.{AreLinked, Means, equations_of}
-use Rattle.tc_unify.specs.Arena.{IsInside, IsArena, IsNodeOf, Grows, shape_of}
+use Rattle.tc_unify.specs.Arena.{IsInside, IsArena, IsNodeOf, HasLinkIn, Grows, shape_of}
 use Rattle.tc_unify.specs.Tables.{link_of}
 use Rattle.tc_unify.specs.Meeting.{IsLinked}
 use Rattle.tc_unify.specs.Stores.{pairs_of, IsLevel, AreLevels}
-use Rattle.tc_unify.proofs.Arenas.{Begins-length, shape_in-grows, label-grows, IsTerm-below, term_below}
+use Rattle.tc_unify.proofs.Arenas.{inside_link, Begins-length, shape_in-grows, label-grows, IsTerm-below, term_below}
 use Rattle.tc_unify.proofs.Tables.{link_in-term, link_in-variable}
 
 pub level_of : (count : ℕ) (nodes : List Node) (text : List ℕ) (link : ℕ → ℕ) (trail : List ℕ) (added : List Added) → AreLevels count nodes text link trail added → IsLevel count nodes text link trail added
@@ -29,8 +29,11 @@ level_of count nodes text link trail (e ∷ added) h = h.0
 module _ (old new : Arena) (link : ℕ → ℕ) (pairs : List (ℕ × ℕ))
     (arena : IsArena old) (grown : IsArena new) (grows : Grows old new)
     (inside : (k : ℕ) → IsNodeOf old k → IsNodeOf old (link k))
-    (past : (k : ℕ) → IsNodeOf old k ⊎ (link k ≡ k))
+    (past : (k : ℕ) → HasLinkIn old k ⊎ (link k ≡ k))
     (nodes : All (λ p. IsNodeOf old p.0 × IsNodeOf old p.1) pairs) where
+  own : (k : ℕ) → HasLinkIn old k → IsNodeOf old k
+  own k h = inside_link old.nodes.items old.variables k h
+
   same_label : (v : ℕ → Tree) (k : ℕ) → IsNodeOf old k → label (shape_of new) v k ≡ label (shape_of old) v k
   same_label v k h = label-grows old.nodes.items new.nodes.items old.text.items new.text.items old.variables arena grows.nodes grows.text v k h
 
@@ -40,14 +43,14 @@ module _ (old new : Arena) (link : ℕ → ℕ) (pairs : List (ℕ × ℕ))
   respects_new : (v : ℕ → Tree) → Respects (label (shape_of old) v) link → Respects (label (shape_of new) v) link
   respects_new v r k =
       elim (past k) [
-        | inl h ↦ same_label v k h ∙ r k ∙ sym (same_label v (link k) (inside k h))
+        | inl h ↦ same_label v k (own k h) ∙ r k ∙ sym (same_label v (link k) (inside k (own k h)))
         | inr e ↦ ap (label (shape_of new) v) (sym e)
       ]
 
   respects_old : (v : ℕ → Tree) → Respects (label (shape_of new) v) link → Respects (label (shape_of old) v) link
   respects_old v r k =
       elim (past k) [
-        | inl h ↦ sym (same_label v k h) ∙ r k ∙ same_label v (link k) (inside k h)
+        | inl h ↦ sym (same_label v k (own k h)) ∙ r k ∙ same_label v (link k) (inside k (own k h))
         | inr e ↦ ap (label (shape_of old) v) (sym e)
       ]
 
@@ -63,9 +66,9 @@ module _ (old new : Arena) (link : ℕ → ℕ) (pairs : List (ℕ × ℕ))
     alike = λ F r v k term.
         elim (past k) [
           | inl h ↦
-              ap (tree_of_node v F) (same_shape k h)
-              ∙ means.alike F r v k (subst IsTerm (same_shape k h) term)
-              ∙ ap (tree_of_node v F) (sym (same_shape (link k) (inside k h)))
+              ap (tree_of_node v F) (same_shape k (own k h))
+              ∙ means.alike F r v k (subst IsTerm (same_shape k (own k h)) term)
+              ∙ ap (tree_of_node v F) (sym (same_shape (link k) (inside k (own k h))))
           | inr e ↦ ap (λ j. tree_of_node v F (shape_of new j)) (sym e)
         ];
     solution = means.solution;
@@ -91,8 +94,8 @@ inside_longer nodes more count k h (inr i) = inr i
 pub IsLinked-grown : (old new : Arena) (l m : Links) (pairs : List (ℕ × ℕ)) → IsArena old → IsArena new → Grows old new
     → AreLinked (shape_of old) (link_of l)
     → ((k : ℕ) → IsNodeOf old k → IsNodeOf old (link_of l k))
-    → ((k : ℕ) → IsNodeOf old k ⊎ (link_of l k ≡ k))
-    → All (IsNodeOf old) l.trail.items
+    → ((k : ℕ) → HasLinkIn old k ⊎ (link_of l k ≡ k))
+    → All (HasLinkIn old) l.trail.items
     → ((k : ℕ) → link_of m k ≡ link_of l k)
     → m.trail.items ≡ l.trail.items
     → length m.terms.items ≡ length new.nodes.items
@@ -110,17 +113,21 @@ IsLinked-grown old new l m pairs arena grown grows linked inside past trail link
   });
   inside = λ k h.
       subst (IsNodeOf new) (sym (link k))
-      (elim (past k) [ inl i ↦ longer (link_of l k) (inside k i) | inr e ↦ subst (IsNodeOf new) (sym e) h ]);
+      (elim (past k) [ inl i ↦ longer (link_of l k) (inside k (inside_link old.nodes.items old.variables k i)) | inr e ↦ subst (IsNodeOf new) (sym e) h ]);
   terms = terms;
   variables = variables ∙ sym grows.variables;
-  trail = subst (All (IsNodeOf new)) (sym same) (All-weaker (IsNodeOf old) (IsNodeOf new) longer l.trail.items trail);
+  trail = subst (All (HasLinkIn new)) (sym same) (All-weaker (HasLinkIn old) (HasLinkIn new) longer_link l.trail.items trail);
 }
   where
     longer : (k : ℕ) → IsNodeOf old k → IsNodeOf new k
     longer k h = subst (λ n. IsInside new.nodes.items n k) (sym grows.variables) (inside_longer old.nodes.items new.nodes.items old.variables k (Begins-length old.nodes.items new.nodes.items grows.nodes) h)
 
+    longer_link : (k : ℕ) → HasLinkIn old k → HasLinkIn new k
+    longer_link k (inl h) = (let more = Begins-length old.nodes.items new.nodes.items grows.nodes in inl (omega arith))
+    longer_link k (inr h) = inr (h.0, subst (λ n. k < FIRST_VARIABLE + n) (sym grows.variables) h.1)
+
 -- nodes past the tables link to themselves
-pub past_tables : (a : Arena) (l : Links) → length l.terms.items ≡ length a.nodes.items → length l.variables.items ≡ a.variables → (k : ℕ) → IsNodeOf a k ⊎ (link_of l k ≡ k)
+pub past_tables : (a : Arena) (l : Links) → length l.terms.items ≡ length a.nodes.items → length l.variables.items ≡ a.variables → (k : ℕ) → HasLinkIn a k ⊎ (link_of l k ≡ k)
 past_tables a l terms variables k =
     elim (cases_lt k FIRST_VARIABLE) [
       | inl term ↦

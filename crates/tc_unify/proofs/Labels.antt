@@ -2,7 +2,7 @@
 use Rattle.std.proofs.Common.{◌≡◌, ℕ, zero, suc, ◌+◌, ◌<◌, ◌≤◌, min, max, ◌⊎◌, inl, inr, List, refl, sym, ap, ap₂, ◌∙◌, arith}
 use Rattle.tc_term.specs.Tree.{Tree, Variable, Atomic, Number, Compound, Trees, Last, More, nodes, nodes_of_all, depth, depth_of_all, name_bytes, name_bytes_of_all}
 use Rattle.tc_term.specs.Variables.{instance, instances}
-use Rattle.tc_unify.specs.Nodes.{and_last, applied, Shape, VariableNode, AtomNode, NumberNode, ApplyNode, tree_of_node, IsVariable, IsTerm, IsHead, IsInOrder, InOrder, IsLabelling, label_within, label}
+use Rattle.tc_unify.specs.Nodes.{and_last, applied, Shape, VariableNode, AtomNode, NumberNode, ApplyNode, tree_of_node, IsTerm, IsHead, IsPlain, IsInOrder, InOrder, IsLabelling, label_within, label}
 
 -- a term that can have one argument more
 abbrev pub IsSpine : Tree → Type 0
@@ -149,20 +149,19 @@ tree_of_node-term v w F (ApplyNode head argument) h = refl
 
 -- a depth that is enough for a node
 abbrev IsDeep : (ℕ → Shape) → ℕ → ℕ → Type 0
-IsDeep shape fuel k = (k < fuel) ⊎ (IsVariable (shape k) × (0 < fuel))
+IsDeep shape fuel k = (k + 1 < fuel) ⊎ (IsPlain (shape k) × (0 < fuel))
 
-tree_of_node-below : (shape : ℕ → Shape) (v F G : ℕ → Tree) (fuel k : ℕ) (s : Shape) → IsInOrder shape k s → (IsVariable s ⊎ (k ≤ fuel)) → ((j : ℕ) → IsDeep shape fuel j → F j ≡ G j) → tree_of_node v F s ≡ tree_of_node v G s
+tree_of_node-below : (shape : ℕ → Shape) (v F G : ℕ → Tree) (fuel k : ℕ) (s : Shape) → IsInOrder shape k s → (IsPlain s ⊎ (k < fuel)) → ((j : ℕ) → IsDeep shape fuel j → F j ≡ G j) → tree_of_node v F s ≡ tree_of_node v G s
 tree_of_node-below shape v F G fuel k (VariableNode n) h d e = refl
 tree_of_node-below shape v F G fuel k (AtomNode name) h d e = refl
 tree_of_node-below shape v F G fuel k (NumberNode n) h d e = refl
 tree_of_node-below shape v F G fuel k (ApplyNode head argument) h (inl d) e = absurd d
 tree_of_node-below shape v F G fuel k (ApplyNode head argument) h (inr d) e =
-    let before = h.1 in
     ap₂ applied
-    (e head (inl (omega arith)))
-    (e argument (elim h.2 [ inl free ↦ inr (free, omega arith) | inr below ↦ inl (omega arith) ]))
+    (e head (elim h.1 [ inl plain ↦ inr (plain, omega arith) | inr below ↦ inl (omega arith) ]))
+    (e argument (elim h.2 [ inl plain ↦ inr (plain, omega arith) | inr below ↦ inl (omega arith) ]))
 
-deep_enough : (shape : ℕ → Shape) (fuel k : ℕ) → IsDeep shape (suc fuel) k → IsVariable (shape k) ⊎ (k ≤ fuel)
+deep_enough : (shape : ℕ → Shape) (fuel k : ℕ) → IsDeep shape (suc fuel) k → IsPlain (shape k) ⊎ (k < fuel)
 deep_enough shape fuel k (inl d) = inr (omega arith)
 deep_enough shape fuel k (inr d) = inl d.0
 
@@ -172,20 +171,20 @@ label_within-same shape v o (suc f) zero k d e = absurd (elim e [ inl low ↦ om
 label_within-same shape v o (suc f) (suc g) k d e =
     tree_of_node-below shape v (label_within f shape v) (label_within g shape v) (min f g) k (shape k) (o k)
     (both (deep_enough shape f k d) (deep_enough shape g k e))
-    (λ j deep. label_within-same shape v o f g j (left deep) (right deep))
+    (λ j deep. label_within-same shape v o f g j (left j deep) (right j deep))
   where
-    both : (IsVariable (shape k) ⊎ (k ≤ f)) → (IsVariable (shape k) ⊎ (k ≤ g)) → IsVariable (shape k) ⊎ (k ≤ min f g)
+    both : (IsPlain (shape k) ⊎ (k < f)) → (IsPlain (shape k) ⊎ (k < g)) → IsPlain (shape k) ⊎ (k < min f g)
     both (inl free) h = inl free
     both (inr low) (inl free) = inl free
     both (inr low) (inr lower) = inr (omega arith)
 
-    left : {j : ℕ} → IsDeep shape (min f g) j → IsDeep shape f j
-    left (inl low) = inl (omega arith)
-    left (inr free) = inr (free.0, (let some = free.1 in omega arith))
+    left : (j : ℕ) → IsDeep shape (min f g) j → IsDeep shape f j
+    left j (inl low) = inl (omega arith)
+    left j (inr free) = inr (free.0, (let some = free.1 in omega arith))
 
-    right : {j : ℕ} → IsDeep shape (min f g) j → IsDeep shape g j
-    right (inl low) = inl (omega arith)
-    right (inr free) = inr (free.0, (let some = free.1 in omega arith))
+    right : (j : ℕ) → IsDeep shape (min f g) j → IsDeep shape g j
+    right j (inl low) = inl (omega arith)
+    right j (inr free) = inr (free.0, (let some = free.1 in omega arith))
 
 label_within-unique : (shape : ℕ → Shape) (v F : ℕ → Tree) → InOrder shape → IsLabelling shape v F → (f k : ℕ) → IsDeep shape f k → F k ≡ label_within f shape v k
 label_within-unique shape v F o l zero k d = absurd (elim d [ inl low ↦ omega arith | inr free ↦ (let low = free.1 in omega arith) ])
@@ -214,17 +213,17 @@ label_within-agree shape other v P same kids (suc f) k p =
 -- the trees of the variables fix those of all nodes
 pub label-unique : (shape : ℕ → Shape) (v F : ℕ → Tree) → InOrder shape → IsLabelling shape v F → (k : ℕ) → F k ≡ label shape v k
 unfolding label
-label-unique shape v F o l k = label_within-unique shape v F o l (suc k) k (inl (omega arith))
+label-unique shape v F o l k = label_within-unique shape v F o l (suc (suc k)) k (inl (omega arith))
 
 pub label-labels : (shape : ℕ → Shape) (v : ℕ → Tree) → InOrder shape → IsLabelling shape v (label shape v)
 unfolding label
 label-labels shape v o k =
-    tree_of_node-below shape v (label_within k shape v) (label shape v) k k (shape k) (o k) (inr (omega arith))
-    (λ j deep. label_within-same shape v o k (suc j) j deep (inl (omega arith)))
+    tree_of_node-below shape v (label_within (suc k) shape v) (label shape v) (suc k) k (shape k) (o k) (inr (omega arith))
+    (λ j deep. label_within-same shape v o (suc k) (suc (suc j)) j deep (inl (omega arith)))
 
 pub IsSpine-label : (shape : ℕ → Shape) (v : ℕ → Tree) (k : ℕ) → IsHead (shape k) → IsSpine (label shape v k)
 unfolding label
-IsSpine-label shape v k h = IsSpine-head v (label_within k shape v) (shape k) h
+IsSpine-label shape v k h = IsSpine-head v (label_within (suc k) shape v) (shape k) h
 
 instance-tree_of_node : (f F : ℕ → Tree) (shape : ℕ → Shape) (k : ℕ) (s : Shape) → IsInOrder shape k s → ((j : ℕ) → IsHead (shape j) → IsSpine (F j)) → instance f (tree_of_node Variable F s) ≡ tree_of_node f (λ j. instance f (F j)) s
 instance-tree_of_node f F shape k (VariableNode n) o h = refl
@@ -241,4 +240,4 @@ instance-label shape f o =
 -- nodes below a number that have the same shapes in two arenas have the same trees there
 pub label-same : (shape other : ℕ → Shape) (v : ℕ → Tree) (P : ℕ → Type 0) → ((k : ℕ) → P k → shape k ≡ other k) → ((k : ℕ) → P k → IsWithin P (shape k)) → (k : ℕ) → P k → label shape v k ≡ label other v k
 unfolding label
-label-same shape other v P same kids k p = label_within-agree shape other v P same kids (suc k) k p
+label-same shape other v P same kids k p = label_within-agree shape other v P same kids (suc (suc k)) k p

@@ -1,3 +1,4 @@
+pub mod ShortNames
 pub mod Labels
 pub mod Roots
 pub mod Finite

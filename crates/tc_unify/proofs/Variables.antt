@@ -7,7 +7,7 @@ use Rattle.std.proofs.lemmas.Bool.{cases_lt}
 use Rattle.std.proofs.lemmas.List.Elements.{All-nil, All-weaker, All-append, All-replicate}
 use Rattle.tc_term.specs.Tree.{Tree, Atomic, is_ground}
 use Rattle.tc_term.specs.Equations.{at}
-use Rattle.tc_unify.specs.declared.nodes.TheConstants.{FIRST_VARIABLE}
+use Rattle.tc_unify.specs.declared.nodes.TheConstants.{FIRST_NAME, FIRST_VARIABLE}
 use Rattle.tc_unify.specs.declared.nodes.Node.{Node}
 use Rattle.tc_unify.specs.declared.nodes.Node.TheVariants.{Atom, Int, Apply}
 use Rattle.tc_unify.specs.declared.nodes.Arena.{Arena}
@@ -15,13 +15,13 @@ use Rattle.tc_unify.specs.declared.links.Links.{Links}
 use Rattle.tc_unify.specs.declared.sizes.Added.{Added}
 use Rattle.tc_unify.specs.declared.walk.Walk.{Walk}
 use Rattle.tc_unify.specs.declared.walk.Mark.TheVariants.{Unseen}
-use Rattle.tc_unify.specs.Nodes.{IsTerm, IsInOrder, InOrder, tree_of_node, label}
+use Rattle.tc_unify.specs.Nodes.{Shape, VariableNode, AtomNode, NumberNode, ApplyNode, IsTerm, IsPlain, IsInOrder, InOrder, tree_of_node, label}
 use Rattle.tc_unify.specs.Links.{Respects}
-use Rattle.tc_unify.specs.Arena.{IsInside, IsNodeWithin, shape_in}
+use Rattle.tc_unify.specs.Arena.{IsInside, HasLink, IsNodeWithin, shape_in}
 use Rattle.tc_unify.specs.Tables.{link_in, link_of, rewound}
 use Rattle.tc_unify.specs.Marks.{IsUnmarked}
 use Rattle.tc_unify.specs.Stores.{pairs_of, IsLevel, AreLevels, IsStore}
-use Rattle.tc_unify.proofs.Arenas.{shape_in-term, shape_in-variable}
+use Rattle.tc_unify.proofs.Arenas.{shape_in-term, inside_link, outer_plain}
 use Rattle.tc_unify.proofs.Tables.{link_in-term, link_in-variable}
 use Rattle.tc_unify.proofs.Growing.{AreLevels-same}
 
@@ -52,6 +52,10 @@ module _ (count more : ℕ) (nodes : List Node) (text : List ℕ) (link : ℕ �
   wider k (inl h) = inl h
   wider k (inr h) = inr (h.0, (let below = h.1 in omega arith))
 
+  wider_link : (k : ℕ) → HasLink nodes count k → HasLink nodes (count + more) k
+  wider_link k (inl h) = inl h
+  wider_link k (inr h) = inr (h.0, (let below = h.1 in omega arith))
+
   within_wider : (node : Node) → IsNodeWithin nodes text count node → IsNodeWithin nodes text (count + more) node
   within_wider (Atom from len) h = h
   within_wider (Int n) h = tt
@@ -67,11 +71,11 @@ module _ (count more : ℕ) (nodes : List Node) (text : List ℕ) (link : ℕ �
     linked = level.linked;
     inside = λ k h.
         elim (level.past k) [
-          | inl old ↦ wider (link k) (level.inside k old)
+          | inl old ↦ wider (link k) (level.inside k (inside_link nodes count k old))
           | inr same ↦ subst (IsInside nodes (count + more)) (sym same) h
         ];
-    past = λ k. elim (level.past k) [ inl old ↦ inl (wider k old) | inr same ↦ inr same ];
-    trail_nodes = All-weaker (IsInside nodes count) (IsInside nodes (count + more)) wider trail level.trail_nodes;
+    past = λ k. elim (level.past k) [ inl old ↦ inl (wider_link k old) | inr same ↦ inr same ];
+    trail_nodes = All-weaker (HasLink nodes count) (HasLink nodes (count + more)) wider_link trail level.trail_nodes;
     pair_nodes = All-weaker (λ p. IsInside nodes count p.0 × IsInside nodes count p.1) (λ p. IsInside nodes (count + more) p.0 × IsInside nodes (count + more) p.1)
         (λ p h. (wider p.0 h.0, wider p.1 h.1)) (pairs_of added) level.pair_nodes;
     means = record {
@@ -123,10 +127,16 @@ no_links k =
 
 no_order : InOrder (shape_in [] [])
 no_order k =
-    elim (cases_lt k FIRST_VARIABLE) [
+    elim (cases_lt k FIRST_NAME) [
       | inl term ↦ subst (IsInOrder (shape_in [] []) k) (sym (shape_in-term [] [] k term)) tt
-      | inr free ↦ subst (IsInOrder (shape_in [] []) k) (sym (shape_in-variable [] [] k free)) tt
+      | inr outer ↦ plain_order (shape_in [] [] k) (outer_plain [] [] k outer)
     ]
+  where
+    plain_order : (s : Shape) → IsPlain s → IsInOrder (shape_in [] []) k s
+    plain_order (VariableNode n) h = tt
+    plain_order (AtomNode name) h = tt
+    plain_order (NumberNode n) h = tt
+    plain_order (ApplyNode head argument) h = absurd h
 
 no_level : IsLevel 0 [] [] (link_in [] []) [] []
 no_level = record {
@@ -138,7 +148,7 @@ no_level = record {
   };
   inside = λ k h. subst (IsInside [] 0) (sym (no_links k)) h;
   past = λ k. inr (no_links k);
-  trail_nodes = All-nil (IsInside [] 0);
+  trail_nodes = All-nil (HasLink [] 0);
   pair_nodes = All-nil (λ p. IsInside [] 0 p.0 × IsInside [] 0 p.1);
   means = record {
     says = λ v h k. ap (label (shape_in [] []) v) (sym (no_links k));

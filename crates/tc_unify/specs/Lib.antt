@@ -1,4 +1,5 @@
 pub mod Nodes
+pub mod Names
 pub mod Links
 pub mod Solutions
 pub mod Walks

@@ -3,7 +3,7 @@ use Rattle.std.specs.Prelude.{◌≡◌, ℕ, ◌+◌, ◌*◌, List, length, Al
 use Rattle.tc_unify.specs.declared.nodes.Arena.{Arena}
 use Rattle.tc_unify.specs.declared.links.Links.{Links}
 use Rattle.tc_unify.specs.Solutions.{AreLinked, Meets, NeverMeets}
-use Rattle.tc_unify.specs.Arena.{IsArena, IsNodeOf, shape_of}
+use Rattle.tc_unify.specs.Arena.{IsArena, IsNodeOf, HasLinkIn, shape_of}
 use Rattle.tc_unify.specs.Tables.{link_of, unlinked}
 
 -- the links of an arena
@@ -13,7 +13,7 @@ pub record IsLinked (a : Arena) (l : Links) : Type 0 where
   pub inside : (k : ℕ) → IsNodeOf a k → IsNodeOf a (link_of l k)
   pub terms : length l.terms.items ≡ length a.nodes.items
   pub variables : length l.variables.items ≡ a.variables
-  pub trail : All (IsNodeOf a) l.trail.items
+  pub trail : All (HasLinkIn a) l.trail.items
 
 -- what the old links and the old pairs say, the new ones say
 abbrev pub Leads : Arena → Links → List (ℕ × ℕ) → Links → List (ℕ × ℕ) → Type 0

@@ -52,6 +52,12 @@ IsHead (AtomNode name) = Unit {0}
 IsHead (NumberNode n) = ⊥
 IsHead (ApplyNode head argument) = Unit {0}
 
+abbrev pub IsAtom : Shape → Type 0
+IsAtom (VariableNode n) = ⊥
+IsAtom (AtomNode name) = Unit {0}
+IsAtom (NumberNode n) = ⊥
+IsAtom (ApplyNode head argument) = ⊥
+
 -- a node that names no other
 abbrev pub IsPlain : Shape → Type 0
 IsPlain (VariableNode n) = Unit {0}
@@ -59,10 +65,10 @@ IsPlain (AtomNode name) = Unit {0}
 IsPlain (NumberNode n) = Unit {0}
 IsPlain (ApplyNode head argument) = ⊥
 
--- the nodes that a node names are variables or stand before it
+-- the nodes that a node names stand before it or name no other
 abbrev pub IsInOrder : (ℕ → Shape) → ℕ → Shape → Type 0
 IsInOrder shape k (ApplyNode head argument) =
-    IsHead (shape head) × (head < k) × (IsVariable (shape argument) ⊎ (argument < k))
+    IsHead (shape head) × (IsPlain (shape head) ⊎ (head < k)) × (IsPlain (shape argument) ⊎ (argument < k))
 IsInOrder shape k _ = Unit {0}
 
 abbrev pub InOrder : (ℕ → Shape) → Type 0
@@ -79,4 +85,4 @@ label_within (suc fuel) shape v k = tree_of_node v (label_within fuel shape v) (
 
 -- the tree of a node where each variable has a tree
 unfoldable pub label : (ℕ → Shape) → (ℕ → Tree) → ℕ → Tree
-label shape v k = label_within (suc k) shape v k
+label shape v k = label_within (suc (suc k)) shape v k

@@ -7,7 +7,7 @@ use Rattle.tc_unify.specs.declared.nodes.Arena.{Arena}
 use Rattle.tc_unify.specs.declared.links.Links.{Links}
 use Rattle.tc_unify.specs.declared.sizes.Added.{Added}
 use Rattle.tc_unify.specs.Solutions.{AreLinked, Means, equations_of}
-use Rattle.tc_unify.specs.Arena.{IsInside, IsArenaOf, IsNodeFor, Grows, shape_in, shape_of}
+use Rattle.tc_unify.specs.Arena.{IsInside, HasLink, IsArenaOf, IsNodeFor, Grows, shape_in, shape_of}
 use Rattle.tc_unify.specs.Tables.{link_of, rewound, HasNode}
 use Rattle.tc_unify.specs.Meeting.{IsLinked}
 
@@ -20,8 +20,8 @@ pub record IsLevel (count : ℕ) (nodes : List Node) (text : List ℕ) (link : �
   pub arena : IsArenaOf nodes text count
   pub linked : AreLinked (shape_in nodes text) link
   pub inside : (k : ℕ) → IsInside nodes count k → IsInside nodes count (link k)
-  pub past : (k : ℕ) → IsInside nodes count k ⊎ (link k ≡ k)
-  pub trail_nodes : All (IsInside nodes count) trail
+  pub past : (k : ℕ) → HasLink nodes count k ⊎ (link k ≡ k)
+  pub trail_nodes : All (HasLink nodes count) trail
   pub pair_nodes : All (λ p. IsInside nodes count p.0 × IsInside nodes count p.1) (pairs_of added)
   pub means : Means count (shape_in nodes text) link (pairs_of added)
 

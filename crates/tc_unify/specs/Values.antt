@@ -1,15 +1,15 @@
 -- Values: what every solution makes of a node or of a term, and the room that it takes.
-use Rattle.std.specs.Prelude.{◌≡◌, ℕ, ◌+◌, ◌≤◌, List, All, length, take, drop, reverse, Option, IfSome, IfNone}
+use Rattle.std.specs.Prelude.{◌≡◌, ℕ, ◌+◌, ◌≤◌, List, All, reverse, Option, IfSome, IfNone}
 use Rattle.tc_term.specs.declared.terms.Term.{Term}
 use Rattle.tc_term.specs.Equations.{at, under}
-use Rattle.tc_term.specs.Tree.{Tree, Atomic, nodes, depth, name_bytes}
+use Rattle.tc_term.specs.Tree.{Tree, nodes, depth, name_bytes}
 use Rattle.tc_term.specs.TreeView.{tree_of}
 use Rattle.tc_term.specs.Variables.{raised}
 use Rattle.tc_unify.specs.declared.nodes.Arena.{Arena}
 use Rattle.tc_unify.specs.declared.links.Links.{Links}
 use Rattle.tc_unify.specs.declared.room.Room.{Room}
 use Rattle.tc_unify.specs.declared.nodes.Spine.{Spine}
-use Rattle.tc_unify.specs.Nodes.{applied_over, label}
+use Rattle.tc_unify.specs.Nodes.{IsAtom, applied_over, label}
 use Rattle.tc_unify.specs.Links.{Respects, LinkedAlike}
 use Rattle.tc_unify.specs.Solutions.{IsSolution}
 use Rattle.tc_unify.specs.Arena.{IsNodeOf, shape_of}
@@ -52,9 +52,10 @@ pub record IsValue (a : Arena) (l : Links) (V : List Tree → Tree) (limit : ℕ
   pub value : IfSome found (λ t. IsFixed a l V (tree_of t) × IsSpent (tree_of t) limit room left)
   pub none : IfNone found ((t : Tree) → IsFixed a l V t → IsWithin t limit room → ⊥)
 
--- the name and the arguments of a node, the last argument first
+-- the atom and the arguments of a node, the last argument first
 pub record IsSpineOf (a : Arena) (k : ℕ) (spine : Spine) : Type 0 where
-  pub name : spine.from + spine.len ≤ length a.text.items
+  pub atom : IsNodeOf a spine.atom
+  pub plain : IsAtom (shape_of a spine.atom)
   pub arguments : All (IsNodeOf a) spine.arguments.items
   pub tree : (v : ℕ → Tree) → label (shape_of a) v k
-      ≡ applied_over (label (shape_of a) v) (Atomic (take spine.len (drop spine.from a.text.items))) (reverse spine.arguments.items)
+      ≡ applied_over (label (shape_of a) v) (label (shape_of a) v spine.atom) (reverse spine.arguments.items)

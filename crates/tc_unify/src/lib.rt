@@ -9,6 +9,7 @@ mod copies;
 mod heads;
 mod laws;
 mod links;
+mod names;
 mod nodes;
 mod room;
 #[cfg(test)]

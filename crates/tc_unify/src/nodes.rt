@@ -1,18 +1,25 @@
 //! The arena of terms: nodes that name earlier nodes, and the bytes of names.
 ghost use Rattle.std.specs.Prelude.{◌≡◌, ◌<◌, ◌++◌, ◌∷◌, [], length, IfOk, OnOk, OnErr};
 ghost use Rattle.tc_term.specs.Tree.{Atomic, Number};
-ghost use Rattle.tc_unify.specs.Nodes.{applied, IsHead};
+ghost use Rattle.tc_unify.specs.Nodes.{AtomNode, applied, IsHead, IsAtom};
 ghost use Rattle.tc_unify.specs.Arena.{IsArena, IsNodeOf, IsNodeFor, IsHeadFor, Grows, shape_of, node_tree};
 ghost use Rattle.tc_unify.specs.Heads.{IsHeads};
 ghost use Rattle.tc_unify.specs.Values.{IsSpineOf};
 
+use crate::names::{SHORT, SHORT_NAMES, code_of, name_of};
 use std::alloc::Global;
 use tc_lists::NoMemory;
+use tc_term::Name;
 
-/// The node of the first variable. Variable n is the node n places on, and all terms are below.
-pub(crate) const FIRST_VARIABLE: usize = 1 << 63;
+/// The node of the first short name: of the atom without a name. All nodes in the arena are below.
+///
+/// A short name has no place in the arena, since its node says which it is.
+pub(crate) const FIRST_NAME: usize = 1 << 63;
 
-/// An atom by the place of its name, a number, or the term of a node with one argument more.
+/// The node of the first variable. Variable n is the node n places on.
+pub(crate) const FIRST_VARIABLE: usize = FIRST_NAME + SHORT_NAMES;
+
+/// An atom by the place of its long name, a number, or the term of a node with one argument more.
 #[derive(Clone, Copy)]
 pub(crate) enum Node {
     Atom { from: usize, len: usize },
@@ -20,7 +27,7 @@ pub(crate) enum Node {
     Apply { head: usize, argument: usize },
 }
 
-/// Terms as nodes. The nodes that a node names are variables or stand before it.
+/// Terms as nodes. The nodes that a node names are variables, short names, or stand before it.
 #[derive(Drop)]
 pub(crate) struct Arena {
     pub(crate) nodes: Vec<Node>,
@@ -41,22 +48,24 @@ pub(crate) enum Heads {
     },
 }
 
-/// The place of a node's name, and its arguments, the last first.
+/// The node of a node's atom, and its arguments, the last first.
 #[derive(Drop)]
 pub(crate) struct Spine {
-    pub(crate) from: usize,
-    pub(crate) len: usize,
+    pub(crate) atom: usize,
     pub(crate) arguments: Vec<usize>,
 }
 
 impl Arena {
-    /// A node for an atom, whose name is copied.
+    /// A node for an atom, whose name is copied where it is not short.
     pub(crate) fn push_atom(&mut self, name: &[u8]) -> Result<usize, NoMemory>
         requires { IsArena self.old }
         ensures pushed { IfOk result (λ node. IsHeadFor self.new node (Atomic name.now)) }
         ensures arena { IsArena self.new }
         ensures grows { Grows self.old self.new }
     {
+        if name.len() <= SHORT {
+            return Ok(FIRST_NAME + code_of(name));
+        }
         let from = self.text.len();
         self.text.extend_from_slice(name)?;
         self.push(Node::Atom {
@@ -92,7 +101,7 @@ impl Arena {
     fn push(&mut self, node: Node) -> Result<usize, NoMemory>
         ensures place { IfOk result (λ k. k ≡ length self.old.nodes.items) }
         ensures pushed { OnOk result (self.new.nodes.items ≡ self.old.nodes.items ++ node ∷ []) }
-        ensures few { length self.new.nodes.items < FIRST_VARIABLE }
+        ensures few { length self.new.nodes.items < FIRST_NAME }
         ensures same { OnErr result (self.new.nodes.items ≡ self.old.nodes.items) }
         ensures text { self.new.text.items ≡ self.old.text.items }
         ensures variables { self.new.variables ≡ self.old.variables }
@@ -102,30 +111,38 @@ impl Arena {
         Ok(place)
     }
 
-    /// The name and the arguments of a node that is no number. Takes the time of the arguments.
+    /// The atom and the arguments of a node that is no number. Takes the time of the arguments.
     pub(crate) fn spine(&self, alloc: Global, node: usize) -> Result<Spine, NoMemory>
         requires arena { IsArena self.now }
-        requires node { node < length self.now.nodes.items }
+        requires node { IsNodeOf self.now node }
         requires head { IsHead (shape_of self.now node) }
         ensures { IfOk result (λ spine. IsSpineOf self.now node spine) }
     {
         let mut arguments = Vec::new(alloc);
-        let mut rest = node;
-        loop {
-            match self.nodes[rest] {
-                Node::Apply { head, argument } => {
-                    arguments.push(argument)?;
-                    rest = head;
-                }
-                Node::Atom { from, len } => {
-                    return Ok(Spine {
-                        from,
-                        len,
-                        arguments,
-                    });
-                }
-                Node::Int(_) => unreachable!(),
-            }
+        let mut atom = node;
+        while atom < FIRST_NAME {
+            let Node::Apply { head, argument } = self.nodes[atom] else {
+                break;
+            };
+            arguments.push(argument)?;
+            atom = head;
+        }
+        Ok(Spine { atom, arguments })
+    }
+
+    /// The name of an atom's node.
+    pub(crate) fn atom_name(&self, alloc: Global, atom: usize) -> Result<Name, NoMemory>
+        requires arena { IsArena self.now }
+        requires node { IsNodeOf self.now atom }
+        requires atom { IsAtom (shape_of self.now atom) }
+        ensures { IfOk result (λ name. shape_of self.now atom ≡ AtomNode name) }
+    {
+        if atom >= FIRST_NAME {
+            return Ok(Name::from_vec(name_of(alloc, atom - FIRST_NAME)?));
+        }
+        match self.nodes[atom] {
+            Node::Atom { from, len } => Name::new(alloc, &self.text[from..from + len]),
+            _ => unreachable!(),
         }
     }
 

@@ -5,7 +5,7 @@ ghost use Rattle.tc_unify.specs.Arena.{AreNodesOf};
 ghost use Rattle.tc_unify.specs.Meeting.{IsLinked, Leads, Fails, work};
 
 use crate::links::Links;
-use crate::nodes::{Arena, FIRST_VARIABLE, Heads};
+use crate::nodes::{Arena, FIRST_NAME, FIRST_VARIABLE, Heads};
 use tc_lists::NoMemory;
 
 /// Whether all the pairs can be made equal, which links their nodes.
@@ -61,6 +61,9 @@ fn meet(
     if from >= FIRST_VARIABLE {
         links.join(from, to)?;
         return Ok(true);
+    }
+    if from >= FIRST_NAME {
+        return Ok(false);
     }
     match arena.heads(from, to) {
         Heads::Clash => Ok(false),

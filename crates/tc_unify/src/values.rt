@@ -8,7 +8,7 @@ ghost use Rattle.tc_unify.specs.Arena.{IsNodeOf};
 ghost use Rattle.tc_unify.specs.Values.{AreSolved, IsValue, of_node, of_term};
 
 use crate::links::Links;
-use crate::nodes::{Arena, FIRST_VARIABLE, Node};
+use crate::nodes::{Arena, FIRST_NAME, FIRST_VARIABLE, Node};
 use crate::room::Room;
 use std::alloc::Global;
 use tc_lists::NoMemory;
@@ -84,17 +84,19 @@ fn node_value(
     if end >= FIRST_VARIABLE {
         return Ok(None);
     }
-    if let Node::Int(n) = arena.nodes[end] {
-        if !room.take(depth, 0) {
-            return Ok(None);
+    if end < FIRST_NAME {
+        if let Node::Int(n) = arena.nodes[end] {
+            if !room.take(depth, 0) {
+                return Ok(None);
+            }
+            return Ok(Some(Term::Int(n)));
         }
-        return Ok(Some(Term::Int(n)));
     }
     let mut spine = arena.spine(alloc, end)?;
-    if !room.take(depth, spine.len) {
+    let name = arena.atom_name(alloc, spine.atom)?;
+    if !room.take(depth, name.bytes().len()) {
         return Ok(None);
     }
-    let name = Name::new(alloc, &arena.text[spine.from..spine.from + spine.len])?;
     let mut values = Vec::new(alloc);
     while let Some(argument) = spine.arguments.pop() {
         match node_value(alloc, arena, links, argument, depth - 1, room)? {

@@ -8,7 +8,7 @@ ghost use Rattle.tc_unify.specs.Walks.{HasNoTrees};
 ghost use Rattle.tc_unify.specs.Marks.{IsUnmarked, IsMarked, IsStarted, IsEndless, IsListed, Knows, Keeps, steps_of, walk_work};
 
 use crate::links::Links;
-use crate::nodes::{Arena, FIRST_VARIABLE, Node};
+use crate::nodes::{Arena, FIRST_NAME, FIRST_VARIABLE, Node};
 use tc_lists::NoMemory;
 
 /// What a walk knows of a node: nothing, that it was entered and not left, or that it is finite.
@@ -146,7 +146,7 @@ fn is_bound(arena: &Arena, links: &Links, node: usize) -> bool
         return false;
     }
     let end = links.end(node);
-    if end >= FIRST_VARIABLE {
+    if end >= FIRST_NAME {
         return false;
     }
     match arena.nodes[end] {
@@ -186,7 +186,7 @@ fn enter(arena: &Arena, links: &Links, walk: &mut Walk, node: usize) -> Result<b
     ensures marked { IsMarked walk.new }
 {
     let root = links.end(node);
-    if root >= FIRST_VARIABLE {
+    if root >= FIRST_NAME {
         return Ok(true);
     }
     let Node::Apply { head, argument } = arena.nodes[root] else {

@@ -60,5 +60,5 @@ returns-in-Var-clause-copied t c =
     let is : raised c.args.shift (tree_of c.args.term.now) ≡ Variable (c.in-Var.n + c.args.shift) = ap (λ t. raised c.args.shift (tree_of t)) c.in-Var.is in
     let below : var_bound (raised c.args.shift (tree_of c.args.term.now)) ≡ (c.in-Var.n + c.args.shift) + 1 = ap var_bound is in
     let bound = c.requires.variables in
-    subst (IsNodeFor c.args.arena.now (9223372036854775808 + c.in-Var.n + c.args.shift)) (sym is)
-    (variable_node c.args.arena.now (9223372036854775808 + c.in-Var.n + c.args.shift) (c.in-Var.n + c.args.shift) c.requires.arena (omega arith) (omega arith))
+    subst (IsNodeFor c.args.arena.now (9295712209692852481 + c.in-Var.n + c.args.shift)) (sym is)
+    (variable_node c.args.arena.now (9295712209692852481 + c.in-Var.n + c.args.shift) (c.in-Var.n + c.args.shift) c.requires.arena (omega arith) (omega arith))

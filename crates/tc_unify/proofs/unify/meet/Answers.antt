@@ -1,8 +1,8 @@
-use Rattle.std.proofs.Common.{◌≡◌, ℕ, ◌++◌, ◌∷◌, [], List, max, min, sym, ap, ap₂, ◌∙◌, subst, append_assoc, append-nil}
+use Rattle.std.proofs.Common.{inl, inr, ◌≡◌, ℕ, ◌++◌, ◌∷◌, [], List, max, min, sym, ap, ap₂, ◌∙◌, subst, append_assoc, append-nil}
 use Rattle.std.proofs.lemmas.List.Elements.{All-append}
 use Rattle.tc_unify.specs.Meeting.{Leads}
 use Rattle.tc_unify.specs.Arena.{IsNodeOf, AreNodesOf}
-use Rattle.tc_unify.proofs.Meetings.{IsLinked-same, waiting_nodes, from_place, from_free, from_term, to_term, leads_same, linked_after, leads_joined, variable_joins, fails_clash}
+use Rattle.tc_unify.proofs.Meetings.{IsLinked-same, waiting_nodes, from_place, from_free, from_term, to_term, leads_same, linked_after, leads_joined, variable_joins, name_clashes, fails_clash}
 use Rattle.tc_unify.proofs.unify.meet.Goals as goal
 
 high : {r left right x y : ℕ} → r ≡ max left right → left ≡ x → right ≡ y → r ≡ max x y
@@ -21,19 +21,19 @@ pub returns-then-from-to-clause-nodes : goal.returns-then-from-to-clause-nodes
 returns-then-from-to-clause-nodes c = waiting_nodes c.args.arena.now c.args.links.now c.args.waiting.now.items c.args.pair c.max-from.result c.min-to.result c.requires.linked c.requires.nodes (high c.max-from.ensures c.end-left.ensures c.end-right.ensures) (low c.min-to.ensures c.end-left.ensures c.end-right.ensures)
 
 pub join-requires-clause-place : goal.join-requires-clause-place
-join-requires-clause-place c = from_place c.args.arena.now c.args.links.now c.args.waiting.now.items c.args.pair c.max-from.result c.min-to.result c.requires.linked c.requires.nodes (high c.max-from.ensures c.end-left.ensures c.end-right.ensures) (low c.min-to.ensures c.end-left.ensures c.end-right.ensures)
+join-requires-clause-place c = from_place c.args.arena.now c.args.links.now c.args.waiting.now.items c.args.pair c.max-from.result c.min-to.result c.requires.linked c.requires.nodes (high c.max-from.ensures c.end-left.ensures c.end-right.ensures) (low c.min-to.ensures c.end-left.ensures c.end-right.ensures) (inr c.if-from-ge-FIRST_VARIABLE.true)
 
 pub join-requires-clause-free : goal.join-requires-clause-free
 join-requires-clause-free c = from_free c.args.arena.now c.args.links.now c.args.waiting.now.items c.args.pair c.max-from.result c.min-to.result c.requires.linked c.requires.nodes (high c.max-from.ensures c.end-left.ensures c.end-right.ensures) (low c.min-to.ensures c.end-left.ensures c.end-right.ensures)
 
 pub join-requires-in-Same-clause-place : goal.join-requires-in-Same-clause-place
-join-requires-in-Same-clause-place c = from_place c.args.arena.now c.args.links.now c.args.waiting.now.items c.args.pair c.max-from.result c.min-to.result c.requires.linked c.requires.nodes (high c.max-from.ensures c.end-left.ensures c.end-right.ensures) (low c.min-to.ensures c.end-left.ensures c.end-right.ensures)
+join-requires-in-Same-clause-place c = from_place c.args.arena.now c.args.links.now c.args.waiting.now.items c.args.pair c.max-from.result c.min-to.result c.requires.linked c.requires.nodes (high c.max-from.ensures c.end-left.ensures c.end-right.ensures) (low c.min-to.ensures c.end-left.ensures c.end-right.ensures) (inl c.if-from-ge-FIRST_NAME.false)
 
 pub join-requires-in-Same-clause-free : goal.join-requires-in-Same-clause-free
 join-requires-in-Same-clause-free c = from_free c.args.arena.now c.args.links.now c.args.waiting.now.items c.args.pair c.max-from.result c.min-to.result c.requires.linked c.requires.nodes (high c.max-from.ensures c.end-left.ensures c.end-right.ensures) (low c.min-to.ensures c.end-left.ensures c.end-right.ensures)
 
 pub join-requires-in-Pairs-clause-place : goal.join-requires-in-Pairs-clause-place
-join-requires-in-Pairs-clause-place c = from_place c.args.arena.now c.args.links.now c.args.waiting.now.items c.args.pair c.max-from.result c.min-to.result c.requires.linked c.requires.nodes (high c.max-from.ensures c.end-left.ensures c.end-right.ensures) (low c.min-to.ensures c.end-left.ensures c.end-right.ensures)
+join-requires-in-Pairs-clause-place c = from_place c.args.arena.now c.args.links.now c.args.waiting.now.items c.args.pair c.max-from.result c.min-to.result c.requires.linked c.requires.nodes (high c.max-from.ensures c.end-left.ensures c.end-right.ensures) (low c.min-to.ensures c.end-left.ensures c.end-right.ensures) (inl c.if-from-ge-FIRST_NAME.false)
 
 pub join-requires-in-Pairs-clause-free : goal.join-requires-in-Pairs-clause-free
 join-requires-in-Pairs-clause-free c = from_free c.args.arena.now c.args.links.now c.args.waiting.now.items c.args.pair c.max-from.result c.min-to.result c.requires.linked c.requires.nodes (high c.max-from.ensures c.end-left.ensures c.end-right.ensures) (low c.min-to.ensures c.end-left.ensures c.end-right.ensures)
@@ -45,13 +45,13 @@ pub returns-then-from-ge-FIRST_VARIABLE-clause-nodes : goal.returns-then-from-ge
 returns-then-from-ge-FIRST_VARIABLE-clause-nodes c = waiting_nodes c.args.arena.now c.args.links.now c.args.waiting.now.items c.args.pair c.max-from.result c.min-to.result c.requires.linked c.requires.nodes (high c.max-from.ensures c.end-left.ensures c.end-right.ensures) (low c.min-to.ensures c.end-left.ensures c.end-right.ensures)
 
 pub returns-then-from-ge-FIRST_VARIABLE-clause-linked : goal.returns-then-from-ge-FIRST_VARIABLE-clause-linked
-returns-then-from-ge-FIRST_VARIABLE-clause-linked c = linked_after c.args.arena.now c.args.links.now c.args.waiting.now.items c.args.pair c.max-from.result c.min-to.result c.requires.linked c.requires.nodes (high c.max-from.ensures c.end-left.ensures c.end-right.ensures) (low c.min-to.ensures c.end-left.ensures c.end-right.ensures) c.join.new.self c.if-from-to.false c.in_ok-join.ensures.link c.in_ok-join.ensures.extends.terms c.in_ok-join.ensures.extends.variables c.in_ok-join.ensures.trail
+returns-then-from-ge-FIRST_VARIABLE-clause-linked c = linked_after c.args.arena.now c.args.links.now c.args.waiting.now.items c.args.pair c.max-from.result c.min-to.result c.requires.linked c.requires.nodes (high c.max-from.ensures c.end-left.ensures c.end-right.ensures) (low c.min-to.ensures c.end-left.ensures c.end-right.ensures) c.join.new.self (inr c.if-from-ge-FIRST_VARIABLE.true) c.if-from-to.false c.in_ok-join.ensures.link c.in_ok-join.ensures.extends.terms c.in_ok-join.ensures.extends.variables c.in_ok-join.ensures.trail
 
 pub heads-requires-clause-left : goal.heads-requires-clause-left
-heads-requires-clause-left c = from_term c.args.arena.now c.args.links.now c.args.waiting.now.items c.args.pair c.max-from.result c.min-to.result c.requires.linked c.requires.nodes (high c.max-from.ensures c.end-left.ensures c.end-right.ensures) (low c.min-to.ensures c.end-left.ensures c.end-right.ensures) c.if-from-ge-FIRST_VARIABLE.false
+heads-requires-clause-left c = from_term c.args.arena.now c.args.links.now c.args.waiting.now.items c.args.pair c.max-from.result c.min-to.result c.requires.linked c.requires.nodes (high c.max-from.ensures c.end-left.ensures c.end-right.ensures) (low c.min-to.ensures c.end-left.ensures c.end-right.ensures) c.if-from-ge-FIRST_NAME.false
 
 pub heads-requires-clause-right : goal.heads-requires-clause-right
-heads-requires-clause-right c = to_term c.args.arena.now c.args.links.now c.args.waiting.now.items c.args.pair c.max-from.result c.min-to.result c.requires.linked c.requires.nodes (high c.max-from.ensures c.end-left.ensures c.end-right.ensures) (low c.min-to.ensures c.end-left.ensures c.end-right.ensures) c.if-from-ge-FIRST_VARIABLE.false
+heads-requires-clause-right c = to_term c.args.arena.now c.args.links.now c.args.waiting.now.items c.args.pair c.max-from.result c.min-to.result c.requires.linked c.requires.nodes (high c.max-from.ensures c.end-left.ensures c.end-right.ensures) (low c.min-to.ensures c.end-left.ensures c.end-right.ensures) c.if-from-ge-FIRST_NAME.false
 
 pub returns-in-Clash-clause-failed : goal.returns-in-Clash-clause-failed
 returns-in-Clash-clause-failed c = λ failed. fails_clash c.args.arena.now c.args.links.now c.args.waiting.now.items c.args.pair c.max-from.result c.min-to.result c.requires.linked c.requires.nodes (high c.max-from.ensures c.end-left.ensures c.end-right.ensures) (low c.min-to.ensures c.end-left.ensures c.end-right.ensures) c.in-Clash.ensures
@@ -66,7 +66,7 @@ pub returns-in_ok-join-in-Same-clause-nodes : goal.returns-in_ok-join-in-Same-cl
 returns-in_ok-join-in-Same-clause-nodes c = waiting_nodes c.args.arena.now c.args.links.now c.args.waiting.now.items c.args.pair c.max-from.result c.min-to.result c.requires.linked c.requires.nodes (high c.max-from.ensures c.end-left.ensures c.end-right.ensures) (low c.min-to.ensures c.end-left.ensures c.end-right.ensures)
 
 pub returns-in_ok-join-in-Same-clause-linked : goal.returns-in_ok-join-in-Same-clause-linked
-returns-in_ok-join-in-Same-clause-linked c = linked_after c.args.arena.now c.args.links.now c.args.waiting.now.items c.args.pair c.max-from.result c.min-to.result c.requires.linked c.requires.nodes (high c.max-from.ensures c.end-left.ensures c.end-right.ensures) (low c.min-to.ensures c.end-left.ensures c.end-right.ensures) c.join-in-Same.new.self c.if-from-to.false c.in_ok-join-in-Same.ensures.link c.in_ok-join-in-Same.ensures.extends.terms c.in_ok-join-in-Same.ensures.extends.variables c.in_ok-join-in-Same.ensures.trail
+returns-in_ok-join-in-Same-clause-linked c = linked_after c.args.arena.now c.args.links.now c.args.waiting.now.items c.args.pair c.max-from.result c.min-to.result c.requires.linked c.requires.nodes (high c.max-from.ensures c.end-left.ensures c.end-right.ensures) (low c.min-to.ensures c.end-left.ensures c.end-right.ensures) c.join-in-Same.new.self (inl c.if-from-ge-FIRST_NAME.false) c.if-from-to.false c.in_ok-join-in-Same.ensures.link c.in_ok-join-in-Same.ensures.extends.terms c.in_ok-join-in-Same.ensures.extends.variables c.in_ok-join-in-Same.ensures.trail
 
 pub returns-in_ok-join-in-Pairs-clause-met : goal.returns-in_ok-join-in-Pairs-clause-met
 returns-in_ok-join-in-Pairs-clause-met c = λ met.
@@ -79,7 +79,7 @@ returns-in_ok-join-in-Pairs-clause-nodes c =
     (All-append (λ p. IsNodeOf c.args.arena.now p.0 × IsNodeOf c.args.arena.now p.1) c.args.waiting.now.items (c.in-Pairs.arguments ∷ c.in-Pairs.heads ∷ []) (waiting_nodes c.args.arena.now c.args.links.now c.args.waiting.now.items c.args.pair c.max-from.result c.min-to.result c.requires.linked c.requires.nodes (high c.max-from.ensures c.end-left.ensures c.end-right.ensures) (low c.min-to.ensures c.end-left.ensures c.end-right.ensures)) c.in-Pairs.ensures.1)
 
 pub returns-in_ok-join-in-Pairs-clause-linked : goal.returns-in_ok-join-in-Pairs-clause-linked
-returns-in_ok-join-in-Pairs-clause-linked c = linked_after c.args.arena.now c.args.links.now c.args.waiting.now.items c.args.pair c.max-from.result c.min-to.result c.requires.linked c.requires.nodes (high c.max-from.ensures c.end-left.ensures c.end-right.ensures) (low c.min-to.ensures c.end-left.ensures c.end-right.ensures) c.join-in-Pairs.new.self c.if-from-to.false c.in_ok-join-in-Pairs.ensures.link c.in_ok-join-in-Pairs.ensures.extends.terms c.in_ok-join-in-Pairs.ensures.extends.variables c.in_ok-join-in-Pairs.ensures.trail
+returns-in_ok-join-in-Pairs-clause-linked c = linked_after c.args.arena.now c.args.links.now c.args.waiting.now.items c.args.pair c.max-from.result c.min-to.result c.requires.linked c.requires.nodes (high c.max-from.ensures c.end-left.ensures c.end-right.ensures) (low c.min-to.ensures c.end-left.ensures c.end-right.ensures) c.join-in-Pairs.new.self (inl c.if-from-ge-FIRST_NAME.false) c.if-from-to.false c.in_ok-join-in-Pairs.ensures.link c.in_ok-join-in-Pairs.ensures.extends.terms c.in_ok-join-in-Pairs.ensures.extends.variables c.in_ok-join-in-Pairs.ensures.trail
 
 pub returns-in_err-join-clause-linked : goal.returns-in_err-join-clause-linked
 returns-in_err-join-clause-linked c = IsLinked-same _ _ _ c.requires.linked c.in_err-join.ensures.same c.join.ensures.extends.terms c.join.ensures.extends.variables c.in_err-join.ensures.same_trail
@@ -89,3 +89,11 @@ returns-in_err-join-in-Same-clause-linked c = IsLinked-same _ _ _ c.requires.lin
 
 pub returns-in_err-join-in-Pairs-clause-linked : goal.returns-in_err-join-in-Pairs-clause-linked
 returns-in_err-join-in-Pairs-clause-linked c = IsLinked-same _ _ _ c.requires.linked c.in_err-join-in-Pairs.ensures.same c.join-in-Pairs.ensures.extends.terms c.join-in-Pairs.ensures.extends.variables c.in_err-join-in-Pairs.ensures.same_trail
+
+pub returns-then-from-ge-FIRST_NAME-clause-failed : goal.returns-then-from-ge-FIRST_NAME-clause-failed
+returns-then-from-ge-FIRST_NAME-clause-failed c = λ failed.
+    fails_clash c.args.arena.now c.args.links.now c.args.waiting.now.items c.args.pair c.max-from.result c.min-to.result c.requires.linked c.requires.nodes (high c.max-from.ensures c.end-left.ensures c.end-right.ensures) (low c.min-to.ensures c.end-left.ensures c.end-right.ensures)
+    (name_clashes c.args.arena.now c.args.links.now c.args.waiting.now.items c.args.pair c.max-from.result c.min-to.result c.requires.linked c.requires.nodes (high c.max-from.ensures c.end-left.ensures c.end-right.ensures) (low c.min-to.ensures c.end-left.ensures c.end-right.ensures) c.if-from-ge-FIRST_NAME.true c.if-from-ge-FIRST_VARIABLE.false c.if-from-to.false)
+
+pub returns-then-from-ge-FIRST_NAME-clause-nodes : goal.returns-then-from-ge-FIRST_NAME-clause-nodes
+returns-then-from-ge-FIRST_NAME-clause-nodes c = waiting_nodes c.args.arena.now c.args.links.now c.args.waiting.now.items c.args.pair c.max-from.result c.min-to.result c.requires.linked c.requires.nodes (high c.max-from.ensures c.end-left.ensures c.end-right.ensures) (low c.min-to.ensures c.end-left.ensures c.end-right.ensures)

@@ -1,16 +1,17 @@
-use Rattle.std.proofs.Common.{◌≡◌, ◌∙◌, sym, ap, ap₂, [], subst, arith, take, drop, length, reverse, refl, rules, to_z, of_z, w64}
+use Rattle.std.proofs.Common.{◌≤◌, ◌≡◌, ◌∙◌, sym, ap, [], subst, arith, length, reverse, refl, rules, to_z, of_z, w64}
 use Rattle.std.specs.Prelude.{Some}
 use Rattle.std.proofs.lemmas.List.Elements.{All-pop}
 use Rattle.tc_term.specs.Tree.{Number}
 use Rattle.tc_term.specs.Equations.{at}
 use Rattle.tc_term.specs.declared.terms.Term.TheVariants.{Int}
-use Rattle.tc_unify.specs.Nodes.{label}
+use Rattle.tc_unify.specs.Nodes.{AtomNode, label}
 use Rattle.tc_unify.specs.Arena.{IsNodeOf, shape_of}
 use Rattle.tc_unify.specs.Values.{IsFixed, of_node}
 use Rattle.tc_unify.proofs.Marks.{reverse-push}
-use Rattle.tc_unify.proofs.Meetings.{root_term}
-use Rattle.tc_unify.proofs.Spines.{length-name, head_read}
+use Rattle.tc_unify.proofs.Meetings.{root_term, root_node}
+use Rattle.tc_unify.proofs.Spines.{term_inside, head_read, head_outer, named_spine}
 use Rattle.tc_unify.proofs.Fixed.{IsSpent-head, spent_next, builds_next, none_next, number_fixed, free_value, full_value, leaf_value, none_value, name_least, spine_builds}
+use Rattle.tc_unify.proofs.values.+node_value.Goals.{then-end-lt-FIRST_NAME+in_default, else-end-lt-FIRST_NAME}
 use Rattle.tc_unify.proofs.values.+node_value.Goals as goal
 
 pub returns-then-end-ge-FIRST_VARIABLE : goal.returns-then-end-ge-FIRST_VARIABLE
@@ -19,7 +20,7 @@ returns-then-end-ge-FIRST_VARIABLE t c =
 
 pub index-requires : goal.index-requires
 index-requires t c =
-    let below = root_term c.args.arena.now c.args.links.now c.requires.solved.linked c.args.node c.end-end.result c.requires.node c.end-end.ensures c.if-end-ge-FIRST_VARIABLE.false in
+    let below = root_term c.args.arena.now c.args.links.now c.requires.solved.linked c.args.node c.end-end.result c.requires.node c.end-end.ensures c.if-end-lt-FIRST_NAME.true in
     omega arith
 
 pub returns-then-not-take : goal.returns-then-not-take
@@ -30,7 +31,7 @@ pub returns-in-Int : goal.returns-in-Int
 returns-in-Int t c =
     let a = c.args.arena.now in
     let l = c.args.links.now in
-    let below = root_term a l c.requires.solved.linked c.args.node c.end-end.result c.requires.node c.end-end.ensures c.if-end-ge-FIRST_VARIABLE.false in
+    let below = root_term a l c.requires.solved.linked c.args.node c.end-end.result c.requires.node c.end-end.ensures c.if-end-lt-FIRST_NAME.true in
     let same : to_z w64 (of_z w64 c.in-Int.n) ≡ c.in-Int.n = search rules in
     leaf_value a l c.requires.solved (of_node a c.args.node) (Int (to_z w64 (of_z w64 c.in-Int.n))) c.args.depth c.args.room.now c.take.new.self 0
     (subst (λ n. IsFixed a l (of_node a c.args.node) (Number n)) (sym same) (number_fixed a l c.requires.solved c.args.node c.end-end.result c.index.result.now c.in-Int.n c.end-end.ensures below c.index.ensures c.in-Int.is))
@@ -39,11 +40,17 @@ returns-in-Int t c =
 pub spine-requires : goal.spine-requires
 spine-requires t c =
     let a = c.args.arena.now in
-    let below = root_term a c.args.links.now c.requires.solved.linked c.args.node c.end-end.result c.requires.node c.end-end.ensures c.if-end-ge-FIRST_VARIABLE.false in
+    let l = c.args.links.now in
+    let inside = subst (IsNodeOf a) (sym c.end-end.ensures) (root_node a l c.requires.solved.linked c.args.node c.requires.node) in
     record {
       arena = c.requires.solved.linked.arena;
-      node = below;
-      head = head_read a c.end-end.result c.index.result.now c.requires.solved.linked.arena below c.index.ensures c.in_default.not-Int;
+      node = inside;
+      head =
+          elim c.if-end-lt-FIRST_NAME.branch [
+            | then-end-lt-FIRST_NAME+in_default w ↦
+                head_read a c.end-end.result w.index.result.now c.requires.solved.linked.arena (term_inside a c.end-end.result inside w.if-end-lt-FIRST_NAME.true) w.index.ensures w.in_default.not-Int
+            | else-end-lt-FIRST_NAME w ↦ head_outer a c.end-end.result w.if-end-lt-FIRST_NAME.false c.if-end-ge-FIRST_VARIABLE.false
+          ];
     }
 
 pub returns-then-not-take-2 : goal.returns-then-not-take-2
@@ -51,28 +58,29 @@ returns-then-not-take-2 t c =
     let a = c.args.arena.now in
     let l = c.args.links.now in
     let spine = c.in_ok-spine.ensures in
-    let name = take c.in_ok-spine.spine.len (drop c.in_ok-spine.spine.from a.text.items) in
-    full_value a l c.requires.solved (of_node a c.args.node) c.args.depth c.args.room.now c.take-2.new.self c.in_ok-spine.spine.len
-    (name_least a l c.requires.solved (λ v. label (shape_of a) (at v)) (of_node a c.args.node) name (reverse c.in_ok-spine.spine.arguments.items) c.in_ok-spine.spine.len
-    (length-name a.text.items c.in_ok-spine.spine.from c.in_ok-spine.spine.len spine.name)
-    (spine_builds a l c.requires.solved c.args.node c.end-end.result name [] c.in_ok-spine.spine.arguments.items name c.end-end.ensures refl refl spine.tree))
-    (c.take-2.ensures.full c.if-not-take-2.true)
+    let name = c.name.inside.bytes.items in
+    let shape : shape_of a c.in_ok-spine.spine.atom ≡ AtomNode name = c.in_ok-name.ensures ∙ ap AtomNode (sym c.name.view_is) in
+    full_value a l c.requires.solved (of_node a c.args.node) c.args.depth c.args.room.now c.take-2.new.self (length name)
+    (name_least a l c.requires.solved (λ v. label (shape_of a) (at v)) (of_node a c.args.node) name (reverse c.in_ok-spine.spine.arguments.items) (length name) refl
+    (spine_builds a l c.requires.solved c.args.node c.end-end.result name [] c.in_ok-spine.spine.arguments.items name c.end-end.ensures refl refl
+    (λ v. named_spine a v (label (shape_of a) v c.end-end.result) c.in_ok-spine.spine.atom name (reverse c.in_ok-spine.spine.arguments.items) c.requires.solved.linked.arena shape (spine.tree v))))
+    (λ one two three. c.take-2.ensures.full c.if-not-take-2.true one two (subst (λ bytes. length bytes ≤ c.args.room.now.name_bytes) (sym (c.bytes.ensures ∙ sym c.name.view_is)) three))
 
 pub loop-argument-init : goal.loop-argument-init
 loop-argument-init t c =
     let a = c.args.arena.now in
     let l = c.args.links.now in
     let spine = c.in_ok-spine.ensures in
-    let name = take c.in_ok-spine.spine.len (drop c.in_ok-spine.spine.from a.text.items) in
-    let same : c.name.inside.bytes.items ≡ name =
-    c.name.view_is ∙ c.in_ok-name.ensures ∙ ap₂ (λ n bytes. take n (drop c.in_ok-spine.spine.from bytes)) (omega arith) c.deref.ensures.value in
+    let name = c.name.inside.bytes.items in
+    let shape : shape_of a c.in_ok-spine.spine.atom ≡ AtomNode name = c.in_ok-name.ensures ∙ ap AtomNode (sym c.name.view_is) in
     record {
       deep = c.take-2.ensures.depth c.if-not-take-2.false;
       arguments = spine.arguments;
-      spent = IsSpent-head a l c.requires.solved c.name.inside.bytes.items c.new-values.result.items c.args.depth c.args.room.now c.take-2.new.self c.in_ok-spine.spine.len c.new-values.ensures.items
-          (length-name a.text.items c.in_ok-spine.spine.from c.in_ok-spine.spine.len spine.name ∙ ap length (sym same))
+      spent = IsSpent-head a l c.requires.solved name c.new-values.result.items c.args.depth c.args.room.now c.take-2.new.self (length c.bytes.result.now) c.new-values.ensures.items
+          (ap length (c.bytes.ensures ∙ sym c.name.view_is))
           (c.take-2.ensures.depth c.if-not-take-2.false) (c.take-2.ensures.nodes c.if-not-take-2.false) (c.take-2.ensures.bytes c.if-not-take-2.false);
-      value = spine_builds a l c.requires.solved c.args.node c.end-end.result c.name.inside.bytes.items c.new-values.result.items c.in_ok-spine.spine.arguments.items name c.end-end.ensures same c.new-values.ensures.items spine.tree;
+      value = spine_builds a l c.requires.solved c.args.node c.end-end.result name c.new-values.result.items c.in_ok-spine.spine.arguments.items name c.end-end.ensures refl c.new-values.ensures.items
+          (λ v. named_spine a v (label (shape_of a) v c.end-end.result) c.in_ok-spine.spine.atom name (reverse c.in_ok-spine.spine.arguments.items) c.requires.solved.linked.arena shape (spine.tree v));
     }
 
 pub node_value-requires : goal.node_value-requires

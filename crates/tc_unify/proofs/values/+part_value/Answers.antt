@@ -60,7 +60,7 @@ loop-arg-preserved t c =
 pub returns-in-Var : goal.returns-in-Var
 returns-in-Var t c =
     subst (λ V. IfOk c.node_value.result (IsValue c.args.arena.now c.args.links.now V c.args.depth c.args.room.now c.node_value.new.room))
-    (fun_ext (of_variable c.args.arena.now c.args.links.now c.requires.solved c.args.shift c.args.term.now c.in-Var.n (9223372036854775808 + c.in-Var.n + c.args.shift) (ap tree_of c.in-Var.is) (omega arith)))
+    (fun_ext (of_variable c.args.arena.now c.args.links.now c.requires.solved c.args.shift c.args.term.now c.in-Var.n (9295712209692852481 + c.in-Var.n + c.args.shift) (ap tree_of c.in-Var.is) (omega arith)))
     c.node_value.ensures
 
 pub returns-in_ok-copy-in-Comp : goal.returns-in_ok-copy-in-Comp
