@@ -1,4 +1,4 @@
-//! Short names as numbers: the bytes are the digits, and each digit counts one more.
+//! Short names as numbers: the bytes are digits of base 256, and each digit counts one more.
 ghost use Rattle.std.specs.Prelude.{◌≡◌, ◌<◌, ◌≤◌, length, IfOk};
 ghost use Rattle.tc_unify.specs.Names.{name_at};
 

@@ -48,7 +48,7 @@ pub(crate) enum Heads {
     },
 }
 
-/// The node of a node's atom, and its arguments, the last first.
+/// The node of the atom that a node begins with, and the node's arguments, the last first.
 #[derive(Drop)]
 pub(crate) struct Spine {
     pub(crate) atom: usize,

@@ -52,7 +52,7 @@ impl Store {
         let mut store = Store {
             arena: Arena {
                 nodes: Vec::with_capacity(alloc, 32)?,
-                text: Vec::with_capacity(alloc, 64)?,
+                text: Vec::new(alloc),
                 variables: 0,
             },
             links: Links {

@@ -170,6 +170,11 @@ fn names_are_compared_to_the_last_byte(rt: HostRuntime) -> Result<(), Fail> {
         ("fork", "fork", 1, true),
         ("fork", "forl", 1, false),
         ("for", "fork", 1, false),
+        ("partner", "partner", 0, true),
+        ("partner", "partners", 0, false),
+        ("partners", "partners", 0, true),
+        ("partners", "partnerz", 0, false),
+        ("partners", "partners", 1, true),
     ] {
         let s = repeated(alloc, left.as_bytes(), &Term::Int(1), args)?;
         let t = repeated(alloc, right.as_bytes(), &Term::Int(1), args)?;
@@ -178,6 +183,19 @@ fn names_are_compared_to_the_last_byte(rt: HostRuntime) -> Result<(), Fail> {
             "{left} = {right}"
         );
     }
+    Ok(())
+}
+
+#[test]
+fn names_come_back_whether_short_or_long(rt: HostRuntime) -> Result<(), Fail> {
+    let alloc = rt.alloc();
+    let mut sample = Sample::new(alloc, 1)?;
+    let long = repeated(alloc, b"partners", &Term::Int(1), 0)?;
+    let short = repeated(alloc, b"partner", &long, 2)?;
+    let want = repeated(alloc, b"neighbour", &short, 1)?;
+    binds(&rt, &mut sample, 0, &want)?;
+    let found = sample.value(as_is(&Term::Var(0)))?;
+    assert!(rt; found.is_some_and(|found| *found.term() == want));
     Ok(())
 }
 
