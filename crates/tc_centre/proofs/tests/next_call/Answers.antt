@@ -1,4 +1,4 @@
-use Rattle.std.proofs.Common.{◌<◌, ◌≤◌, ℕ, All, List, subst, length, ap, sym}
+use Rattle.std.proofs.Common.{◌<◌, ◌≤◌, ℕ, All, List, subst, length}
 use Rattle.tc_model.specs.Calls.{id_of, calls_of}
 use Rattle.tc_model.specs.declared.entries.Entry.{Entry}
 use Rattle.tc_centre.proofs.TestLists.{all-below}

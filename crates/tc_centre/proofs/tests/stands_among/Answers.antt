@@ -1,4 +1,4 @@
-use Rattle.std.proofs.Common.{◌≢◌, false, true, sym, ◌∙◌}
+use Rattle.std.proofs.Common.{◌≢◌, sym, ◌∙◌}
 use Rattle.std.proofs.lemmas.Bool.{true≢false}
 use Rattle.std.proofs.lemmas.Slice.Eq.{bytes_eq-Decides}
 use Rattle.tc_centre.proofs.TestLists.{all-more, all-whole}
