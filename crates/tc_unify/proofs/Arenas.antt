@@ -2,7 +2,7 @@
 use Rattle.std.proofs.Common.{◌≡◌, ◌≢◌, ℕ, ◌+◌, ◌-◌, ◌<◌, ◌≤◌, ◌⊎◌, inl, inr, List, [], ◌∷◌, ◌++◌, length, length-append, length-drop, take, drop, append_assoc, get_or, refl, sym, ap, ap₂, ◌∙◌, subst, arith, Bool, true, false, cond, ltb, ℤ}
 use Rattle.std.proofs.lemmas.Bool.Decides.{Decides-ltb}
 use Rattle.std.proofs.lemmas.Bool.{cases_lt, cases_order}
-use Rattle.std.proofs.lemmas.List.{take-append-drop, take-append-le, drop-append-le, take_all, get_or_default}
+use Rattle.std.proofs.lemmas.List.{take-append-drop, take-append-le, drop-append-le, take_all, length-take-le, get_or_default}
 use Rattle.std.proofs.lemmas.List.Elements.{All-nil, All-cons, All-get_or, All-push, All-weaker}
 use Rattle.std.proofs.Math.ListN.{get_or-append, get_or-eq_default}
 use Rattle.std.proofs.Math.Seq.{take-append_seam, get_or-append_seam, drop-append_seam}
@@ -80,6 +80,17 @@ shape_in-node nodes text count k node arena h e =
 pub shape_of-read : (a : Arena) (k : ℕ) (x node : Node) → IsArena a → k < length a.nodes.items → x ≡ get_or a.nodes.items k x → x ≡ node → shape_of a k ≡ node_shape a.text.items node
 shape_of-read a k x node arena h read e =
     shape_in-node a.nodes.items a.text.items a.variables k x arena h read ∙ ap (node_shape a.text.items) e
+
+-- an atom's name has as many bytes as its node says
+pub name_length : (a : Arena) (k : ℕ) (x : Node) (from len : ℕ) → IsArena a → k < length a.nodes.items
+    → x ≡ get_or a.nodes.items k x → x ≡ Atom from len → length (take len (drop from a.text.items)) ≡ len
+name_length a k x from len arena h read e =
+    let nodes = a.nodes.items in
+    let text = a.text.items in
+    let Within : Node → Type 0 = IsNodeWithin nodes text a.variables in
+    let within : Within (Atom from len) =
+    subst Within (get_or_default nodes k (Atom 0 0) x h ∙ sym read ∙ e) (All-get_or Within nodes k (Atom 0 0) h arena.within) in
+    length-take-le len (drop from text) (omega (arith, within.0, length-drop from text))
 
 -- names are compared as they stand in the text
 pub names_decided : (text t u : List ℕ) (from len start size : ℕ) (r : Bool) → t ≡ text → u ≡ text → r ≡ bytes_eq (slice_range t from (from + len)) (slice_range u start (start + size)) → Decides r (take len (drop from text) ≡ take size (drop start text))

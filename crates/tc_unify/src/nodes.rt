@@ -1,5 +1,5 @@
 //! The arena of terms: nodes that name earlier nodes, and the bytes of names.
-ghost use Rattle.std.specs.Prelude.{◌≡◌, ◌<◌, ◌++◌, ◌∷◌, [], length, IfOk, OnOk, OnErr};
+ghost use Rattle.std.specs.Prelude.{◌≡◌, ◌<◌, ◌++◌, ◌∷◌, [], List, ℕ, length, IfOk, IfSome, IfNone, OnOk, OnErr};
 ghost use Rattle.tc_term.specs.Tree.{Atomic, Number};
 ghost use Rattle.tc_unify.specs.Nodes.{AtomNode, applied, IsHead, IsAtom};
 ghost use Rattle.tc_unify.specs.Arena.{IsArena, IsNodeOf, IsNodeFor, IsHeadFor, Grows, shape_of, node_tree};
@@ -130,20 +130,31 @@ impl Arena {
         Ok(Spine { atom, arguments })
     }
 
-    /// The name of an atom's node.
-    pub(crate) fn atom_name(&self, alloc: Global, atom: usize) -> Result<Name, NoMemory>
+    /// The name of an atom's node. None where it has more than so many bytes, and then none is copied.
+    pub(crate) fn atom_name(
+        &self,
+        alloc: Global,
+        atom: usize,
+        most: usize,
+    ) -> Result<Option<Name>, NoMemory>
         requires arena { IsArena self.now }
         requires node { IsNodeOf self.now atom }
         requires atom { IsAtom (shape_of self.now atom) }
-        ensures { IfOk result (λ name. shape_of self.now atom ≡ AtomNode name) }
+        ensures name { IfOk result (λ found. IfSome found (λ name. shape_of self.now atom ≡ AtomNode name)) }
+        ensures longer { IfOk result (λ found. IfNone found
+            ((name : List ℕ) × (shape_of self.now atom ≡ AtomNode name) × (most < length name))) }
     {
         if atom >= FIRST_NAME {
-            return Ok(Name::from_vec(name_of(alloc, atom - FIRST_NAME)?));
+            let name = Name::from_vec(name_of(alloc, atom - FIRST_NAME)?);
+            return Ok(Some(name));
         }
-        match self.nodes[atom] {
-            Node::Atom { from, len } => Name::new(alloc, &self.text[from..from + len]),
-            _ => unreachable!(),
+        let Node::Atom { from, len } = self.nodes[atom] else {
+            unreachable!();
+        };
+        if len > most {
+            return Ok(None);
         }
+        Ok(Some(Name::new(alloc, &self.text[from..from + len])?))
     }
 
     /// What two nodes of terms have in common.

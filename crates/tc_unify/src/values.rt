@@ -93,7 +93,9 @@ fn node_value(
         }
     }
     let mut spine = arena.spine(alloc, end)?;
-    let name = arena.atom_name(alloc, spine.atom)?;
+    let Some(name) = arena.atom_name(alloc, spine.atom, room.name_bytes)? else {
+        return Ok(None);
+    };
     if !room.take(depth, name.bytes().len()) {
         return Ok(None);
     }

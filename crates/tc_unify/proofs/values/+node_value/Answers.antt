@@ -1,6 +1,7 @@
 use Rattle.std.proofs.Common.{◌≤◌, ◌≡◌, ◌∙◌, sym, ap, [], subst, arith, length, reverse, refl, rules, to_z, of_z, w64}
 use Rattle.std.specs.Prelude.{Some}
 use Rattle.std.proofs.lemmas.List.Elements.{All-pop}
+use Rattle.tc_lists.proofs.Options.{IfSome-at, IfNone-at}
 use Rattle.tc_term.specs.Tree.{Number}
 use Rattle.tc_term.specs.Equations.{at}
 use Rattle.tc_term.specs.declared.terms.Term.TheVariants.{Int}
@@ -53,13 +54,26 @@ spine-requires t c =
           ];
     }
 
+pub returns-in_default-2 : goal.returns-in_default-2
+returns-in_default-2 t c =
+    let a = c.args.arena.now in
+    let l = c.args.links.now in
+    let spine = c.in_ok-spine.ensures in
+    let long = IfNone-at _ c.in_ok-name.field-0 c.in_default-2.is c.in_ok-name.ensures.longer in
+    let name = long.0 in
+    full_value a l c.requires.solved (of_node a c.args.node) c.args.depth c.args.room.now c.args.room.now (length name)
+    (name_least a l c.requires.solved (λ v. label (shape_of a) (at v)) (of_node a c.args.node) name (reverse c.in_ok-spine.spine.arguments.items) (length name) refl
+    (spine_builds a l c.requires.solved c.args.node c.end-end.result name [] c.in_ok-spine.spine.arguments.items name c.end-end.ensures refl refl
+    (λ v. named_spine a v (label (shape_of a) v c.end-end.result) c.in_ok-spine.spine.atom name (reverse c.in_ok-spine.spine.arguments.items) c.requires.solved.linked.arena long.1 (spine.tree v))))
+    (λ one two three. omega (arith, long.2, three))
+
 pub returns-then-not-take-2 : goal.returns-then-not-take-2
 returns-then-not-take-2 t c =
     let a = c.args.arena.now in
     let l = c.args.links.now in
     let spine = c.in_ok-spine.ensures in
     let name = c.name.inside.bytes.items in
-    let shape : shape_of a c.in_ok-spine.spine.atom ≡ AtomNode name = c.in_ok-name.ensures ∙ ap AtomNode (sym c.name.view_is) in
+    let shape : shape_of a c.in_ok-spine.spine.atom ≡ AtomNode name = IfSome-at _ c.in_ok-name.field-0 c.in-Some.name c.in-Some.is c.in_ok-name.ensures.name ∙ ap AtomNode (sym c.name.view_is) in
     full_value a l c.requires.solved (of_node a c.args.node) c.args.depth c.args.room.now c.take-2.new.self (length name)
     (name_least a l c.requires.solved (λ v. label (shape_of a) (at v)) (of_node a c.args.node) name (reverse c.in_ok-spine.spine.arguments.items) (length name) refl
     (spine_builds a l c.requires.solved c.args.node c.end-end.result name [] c.in_ok-spine.spine.arguments.items name c.end-end.ensures refl refl
@@ -72,7 +86,7 @@ loop-argument-init t c =
     let l = c.args.links.now in
     let spine = c.in_ok-spine.ensures in
     let name = c.name.inside.bytes.items in
-    let shape : shape_of a c.in_ok-spine.spine.atom ≡ AtomNode name = c.in_ok-name.ensures ∙ ap AtomNode (sym c.name.view_is) in
+    let shape : shape_of a c.in_ok-spine.spine.atom ≡ AtomNode name = IfSome-at _ c.in_ok-name.field-0 c.in-Some.name c.in-Some.is c.in_ok-name.ensures.name ∙ ap AtomNode (sym c.name.view_is) in
     record {
       deep = c.take-2.ensures.depth c.if-not-take-2.false;
       arguments = spine.arguments;
@@ -90,7 +104,7 @@ node_value-requires t c =
       omega arith,
       (
         c.requires.solved,
-        (All-pop (IsNodeOf c.args.arena.now) c.loop-argument.spine.arguments.items c.pop.new.self.items (Some c.in-Some.argument) c.in-Some.ensures.items c.loop-argument.invariant.arguments).1,
+        (All-pop (IsNodeOf c.args.arena.now) c.loop-argument.spine.arguments.items c.pop.new.self.items (Some c.in-Some-pop.argument) c.in-Some-pop.ensures.items c.loop-argument.invariant.arguments).1,
       ),
     )
 
@@ -100,13 +114,13 @@ loop-argument-preserved t c =
     let l = c.args.links.now in
     let inv = c.loop-argument.invariant in
     let rest = c.pop.new.self.items in
-    let next = ap reverse c.in-Some.ensures.items ∙ reverse-push rest c.in-Some.argument in
+    let next = ap reverse c.in-Some-pop.ensures.items ∙ reverse-push rest c.in-Some-pop.argument in
     record {
       deep = inv.deep;
-      arguments = (All-pop (IsNodeOf a) c.loop-argument.spine.arguments.items rest (Some c.in-Some.argument) c.in-Some.ensures.items inv.arguments).0;
-      spent = spent_next a l c.requires.solved (λ v. label (shape_of a) (at v)) (of_node a c.args.node) c.name.inside.bytes.items c.loop-argument.values.items c.in-Some.argument (reverse c.loop-argument.spine.arguments.items) (reverse rest) c.args.depth c.args.room.now c.loop-argument.room
+      arguments = (All-pop (IsNodeOf a) c.loop-argument.spine.arguments.items rest (Some c.in-Some-pop.argument) c.in-Some-pop.ensures.items inv.arguments).0;
+      spent = spent_next a l c.requires.solved (λ v. label (shape_of a) (at v)) (of_node a c.args.node) c.name.inside.bytes.items c.loop-argument.values.items c.in-Some-pop.argument (reverse c.loop-argument.spine.arguments.items) (reverse rest) c.args.depth c.args.room.now c.loop-argument.room
           next inv.deep inv.spent inv.value c.in_ok-value.field-0 c.node_value.new.room c.in-Some-2.value c.push.new.self.items c.in-Some-2.is c.in_ok-value.ensures c.in_ok-push-in-Some-2.ensures.items;
-      value = builds_next a l c.requires.solved (λ v. label (shape_of a) (at v)) (of_node a c.args.node) c.name.inside.bytes.items c.loop-argument.values.items c.in-Some.argument (reverse c.loop-argument.spine.arguments.items) (reverse rest) c.args.depth c.args.room.now c.loop-argument.room
+      value = builds_next a l c.requires.solved (λ v. label (shape_of a) (at v)) (of_node a c.args.node) c.name.inside.bytes.items c.loop-argument.values.items c.in-Some-pop.argument (reverse c.loop-argument.spine.arguments.items) (reverse rest) c.args.depth c.args.room.now c.loop-argument.room
           next inv.deep inv.spent inv.value c.in_ok-value.field-0 c.node_value.new.room c.in-Some-2.value c.push.new.self.items c.in-Some-2.is c.in_ok-value.ensures c.in_ok-push-in-Some-2.ensures.items;
     }
 
@@ -116,7 +130,7 @@ returns-in-None t c =
     let l = c.args.links.now in
     let inv = c.loop-argument.invariant in
     let rest = c.pop.new.self.items in
-    let next = ap reverse c.in-Some.ensures.items ∙ reverse-push rest c.in-Some.argument in
+    let next = ap reverse c.in-Some-pop.ensures.items ∙ reverse-push rest c.in-Some-pop.argument in
     none_value a l c.requires.solved (of_node a c.args.node) c.args.depth c.args.room.now c.node_value.new.room
-    (none_next a l c.requires.solved (λ v. label (shape_of a) (at v)) (of_node a c.args.node) c.name.inside.bytes.items c.loop-argument.values.items c.in-Some.argument (reverse c.loop-argument.spine.arguments.items) (reverse rest) c.args.depth c.args.room.now c.loop-argument.room
+    (none_next a l c.requires.solved (λ v. label (shape_of a) (at v)) (of_node a c.args.node) c.name.inside.bytes.items c.loop-argument.values.items c.in-Some-pop.argument (reverse c.loop-argument.spine.arguments.items) (reverse rest) c.args.depth c.args.room.now c.loop-argument.room
     next inv.deep inv.spent inv.value c.in_ok-value.field-0 c.node_value.new.room c.in-None.is c.in_ok-value.ensures)
