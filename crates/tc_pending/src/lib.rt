@@ -3,6 +3,7 @@
 //! Nothing here knows of histories, or of what an answer brings about.
 #![tactic(auto)]
 
+mod changes;
 mod pending;
 #[cfg(test)]
 mod tests;

@@ -1,19 +1,22 @@
 //! The list of requests that wait.
-ghost use Rattle.std.specs.Prelude.{◌≡◌, IfOk};
-
+use crate::changes::{Change, go_back, make_room, note};
 use std::alloc::Global;
 use std::marker::Model;
 use tc_bag::Bag;
-use tc_lists::{NoMemory, Seq};
+use tc_lists::NoMemory;
 use tc_model::Request;
 use tc_search::oldest_match_of;
 
 /// Requests that wait, oldest first; and marks to which the list goes back.
+///
+/// A mark copies nothing: each change after it is noted, and can be taken back. A mark is the number
+/// of changes before it, and where there is no mark none is noted.
 #[derive(Drop)]
 pub struct Pending {
     alloc: Global,
     requests: Vec<Request>,
-    saved: Vec<Seq<Request>>,
+    changes: Vec<Change>,
+    marks: Vec<usize>,
 }
 
 impl Model for Pending {
@@ -25,7 +28,14 @@ impl Model for Pending {
 
     ghost coded = { Prim.hlevel (codes, coded_tree) };
 
-    ghost view = { λ p. record { now = p.requests.items; saved = p.saved.items } };
+    ghost use Rattle.tc_pending.specs.Changes.{saved_at, IsSound};
+
+    ghost view = { λ p. record {
+      now = p.requests.items;
+      saved = saved_at p.marks.items p.changes.items p.requests.items;
+    } };
+
+    ghost invariant = { λ p. IsSound p.requests p.changes p.marks.items };
 }
 
 impl Pending {
@@ -43,7 +53,8 @@ impl Pending {
         Pending {
             alloc,
             requests: Vec::new(alloc),
-            saved: Vec::new(alloc),
+            changes: Vec::new(alloc),
+            marks: Vec::new(alloc),
         }
     }
 
@@ -72,12 +83,14 @@ impl Pending {
         Ok(None)
     }
 
-    /// Appends a request.
+    /// Appends a request. Memory is taken for its removal, too, and for its return.
     pub fn add(&mut self, request: Request) -> Result<(), NoMemory>
         ensures added { OnOk result (self.new ≡ record self.old { now = self.old.now ++ request ∷ [] }) }
         ensures same { OnErr result (self.new ≡ self.old) }
     {
+        make_room(&mut self.requests, &mut self.changes)?;
         self.requests.push(request)?;
+        note(&mut self.changes, !self.marks.is_empty(), Change::Added);
         Ok(())
     }
 
@@ -86,26 +99,29 @@ impl Pending {
         requires { place < length self.old.now }
         ensures { self.new ≡ record self.old { now = remove self.old.now place } }
     {
-        let _request = self.requests.remove(place);
+        let request = self.requests.remove(place);
+        let removed = Change::Removed { place, request };
+        note(&mut self.changes, !self.marks.is_empty(), removed);
     }
 
-    /// Sets a mark. The requests are copied.
+    /// Sets a mark. It takes memory for a number, however many requests there are.
     pub fn mark(&mut self) -> Result<(), NoMemory>
         ensures marked { OnOk result (self.new ≡ marked self.old) }
         ensures same { OnErr result (self.new ≡ self.old) }
     {
-        let copies = copy_requests(self.alloc, &self.requests)?;
-        self.saved.push(Seq::new(copies))?;
+        self.marks.push(self.changes.len())?;
         Ok(())
     }
 
     /// Goes back to the latest mark, and removes it. No memory is taken.
+    ///
+    /// Takes the time of the changes since, each of O(requests).
     pub fn undo(&mut self)
         ensures back { IsUndone self.old self.new }
         ensures unmarked { self.old.saved ≡ [] → self.new ≡ self.old }
     {
-        if let Some(requests) = self.saved.pop() {
-            self.requests = requests.into_vec();
+        if let Some(count) = self.marks.pop() {
+            go_back(&mut self.requests, &mut self.changes, count);
         }
     }
 
@@ -114,17 +130,9 @@ impl Pending {
         ensures kept { IsKept self.old self.new }
         ensures unmarked { self.old.saved ≡ [] → self.new ≡ self.old }
     {
-        let _requests = self.saved.pop();
+        let _count = self.marks.pop();
+        if self.marks.is_empty() {
+            self.changes.clear();
+        }
     }
-}
-
-// Each request, in order.
-fn copy_requests(alloc: Global, requests: &[Request]) -> Result<Vec<Request>, NoMemory>
-    ensures { IfOk result (λ copies. copies.items ≡ requests.now) }
-{
-    let mut copies = Vec::with_capacity(alloc, requests.len())?;
-    for request in requests {
-        copies.push(request.copy(alloc)?)?;
-    }
-    Ok(copies)
 }

@@ -119,3 +119,30 @@ fn marks_within_marks_give_the_requests_back(rt: HostRuntime) -> Result<(), Fail
     assert!(rt; are_of(&requests, &[0, 1, 2]));
     Ok(())
 }
+
+// Removes the request at a place, and adds one of this agent behind the others.
+fn exchange(alloc: Global, pending: &mut Pending, place: usize, agent: u32) -> Result<(), Fail> {
+    remove(pending, place);
+    pending.add(request(alloc, agent, Term::Int(1))?)?;
+    Ok(())
+}
+
+#[test]
+fn removed_and_added_requests_come_back_in_order(rt: HostRuntime) -> Result<(), Fail> {
+    let alloc = rt.alloc();
+    let mut requests = pending(alloc, &[1, 2, 3])?;
+    requests.mark()?;
+    exchange(alloc, &mut requests, 0, 3)?;
+    exchange(alloc, &mut requests, 2, 4)?;
+    assert!(rt; are_of(&requests, &[1, 2, 4]));
+    requests.mark()?;
+    exchange(alloc, &mut requests, 1, 5)?;
+    exchange(alloc, &mut requests, 0, 6)?;
+    exchange(alloc, &mut requests, 1, 7)?;
+    assert!(rt; are_of(&requests, &[4, 6, 7]));
+    requests.undo();
+    assert!(rt; are_of(&requests, &[1, 2, 4]));
+    requests.undo();
+    assert!(rt; are_of(&requests, &[0, 1, 2]));
+    Ok(())
+}

@@ -1,4 +1,4 @@
-use Rattle.std.proofs.Common.{subst, ◌∙◌, ap, sym, List}
+use Rattle.std.proofs.Common.{subst, List}
 use Rattle.tc_lists.specs.Firsts.{NoneOf}
 use Rattle.tc_lists.proofs.Options.{IfSome-at, IfNone-at}
 use Rattle.tc_bag.specs.Stock.{tuples_of}

@@ -1,0 +1,76 @@
+//! Changes of a list of requests, which may be taken back.
+ghost use Rattle.std.specs.Prelude.{◌≡◌, ◌+◌, ◌<◌, ◌≤◌, ◌++◌, ◌∷◌, [], take, drop, if◌then◌else◌, OnOk, vec_len, vec_capacity};
+ghost use Rattle.tc_pending.specs.Changes.{earlier, rewound, Fits, AllFit};
+
+use tc_lists::NoMemory;
+use tc_model::Request;
+
+/// A change of the list: a request was added behind the others, or the one at a place was removed.
+#[derive(Drop)]
+pub(crate) enum Change {
+    Added,
+    Removed { place: usize, request: Request },
+}
+
+/// Makes room for one more request and one more change. There is room then, too, for each request
+/// to be removed and for each change to be taken back.
+pub(crate) fn make_room(
+    requests: &mut Vec<Request>,
+    changes: &mut Vec<Change>,
+) -> Result<(), NoMemory>
+    ensures requests { requests.new.items ≡ requests.old.items }
+    ensures changes { changes.new.items ≡ changes.old.items }
+    ensures list { vec_capacity requests.old ≤ vec_capacity requests.new }
+    ensures log { vec_capacity changes.old ≤ vec_capacity changes.new }
+    ensures list_room { OnOk result (vec_len requests.new + vec_len changes.new + 2 ≤ vec_capacity requests.new) }
+    ensures log_room { OnOk result (vec_len requests.new + vec_len changes.new + 2 ≤ vec_capacity changes.new) }
+{
+    requests.reserve(changes.len() + 2)?;
+    changes.reserve(requests.len() + 2)?;
+    Ok(())
+}
+
+/// Notes a change where there is a mark. No memory is taken.
+pub(crate) fn note(changes: &mut Vec<Change>, is_marked: bool, change: Change)
+    requires { vec_len changes.old < vec_capacity changes.old }
+    ensures noted { changes.new.items ≡ (if is_marked then changes.old.items ++ change ∷ [] else changes.old.items) }
+    ensures capacity { vec_capacity changes.old ≤ vec_capacity changes.new }
+{
+    if is_marked {
+        let _ = changes.push(change);
+    }
+}
+
+/// Takes a change back. No memory is taken.
+fn take_back(requests: &mut Vec<Request>, change: Change)
+    requires fits { Fits change requests.old.items }
+    requires room { vec_len requests.old < vec_capacity requests.old }
+    ensures earlier { requests.new.items ≡ earlier change requests.old.items }
+    ensures capacity { vec_capacity requests.old ≤ vec_capacity requests.new }
+{
+    match change {
+        Change::Added => {
+            let _request = requests.pop();
+        }
+        Change::Removed { place, request } => {
+            let _ = requests.insert(place, request);
+        }
+    }
+}
+
+/// Takes back all but the first `count` changes, the latest first. No memory is taken.
+pub(crate) fn go_back(requests: &mut Vec<Request>, changes: &mut Vec<Change>, count: usize)
+    requires fit { AllFit changes.old.items requests.old.items }
+    requires room { vec_len requests.old + vec_len changes.old ≤ vec_capacity requests.old }
+    ensures requests { requests.new.items ≡ rewound (drop count changes.old.items) requests.old.items }
+    ensures changes { changes.new.items ≡ take count changes.old.items }
+    ensures list { vec_capacity requests.old ≤ vec_capacity requests.new }
+    ensures log { vec_capacity changes.new ≡ vec_capacity changes.old }
+    ensures fewer { vec_len requests.new + vec_len changes.new ≤ vec_len requests.old + vec_len changes.old }
+{
+    while changes.len() > count {
+        if let Some(change) = changes.pop() {
+            take_back(requests, change);
+        }
+    }
+}
