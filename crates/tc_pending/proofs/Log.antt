@@ -13,6 +13,7 @@ use Rattle.tc_pending.specs.declared.changes.Change.TheVariants.{Added, Removed}
 use Rattle.tc_pending.specs.Waiting.{Waiting, IsUndone, IsKept}
 use Rattle.tc_pending.specs.Changes.{earlier, rewound, Fits, AllFit, saved_at, IsLog}
 
+-- the list as contracts see it
 abbrev pub waiting : List Request → List (List Request) → Waiting
 waiting now saved = record { now = now; saved = saved }
 
@@ -54,7 +55,7 @@ pub length-earlier : (c : Change) (requests : List Request) → Fits c requests
 length-earlier Added requests fits = omega (arith, length-take (length requests - 1) requests)
 length-earlier (Removed place r) requests fits = omega (arith, length-insert requests place r fits)
 
--- changes before others
+-- changes before others, which are taken back first
 pub rewound-append : (xs ys : List Change) (requests : List Request)
     → rewound (xs ++ ys) requests ≡ rewound xs (rewound ys requests)
 rewound-append [] ys requests = refl
@@ -125,13 +126,13 @@ pub oldest-push : (marks : List ℕ) (n more : ℕ) → get_or (marks ++ n ∷ [
 oldest-push [] n more = refl
 oldest-push (m ∷ ms) n more = refl
 
--- a change that is noted where there is a mark
+-- one change more at most is noted
 pub length-noted : (changes noted : List Change) (c : Change) (empty : Bool)
     → noted ≡ (if not empty then changes ++ c ∷ [] else changes) → length noted ≤ length changes + 1
 length-noted changes noted c true is = omega (arith, ap length is)
 length-noted changes noted c false is = omega (arith, ap length is, length-append changes (c ∷ []))
 
--- where there is a mark, there is not none
+-- the test for no mark, at a mark, and what it says where it fails
 not_none : (m : ℕ) (ms : List ℕ) → (length (m ∷ ms) == 0) ≡ false
 not_none m ms = ne_eqb (length (m ∷ ms)) 0 (λ none. absurd (omega (arith, none)))
 
@@ -139,6 +140,7 @@ pub some_from_test : (n : ℕ) (none : Bool) → none ≡ (n == 0) → none ≡ 
 some_from_test zero none is not = absurd (cc)
 some_from_test (suc n) none is not = omega arith
 
+-- a change that is noted where there is a mark
 pub IsLog-noted : (requests new : List Request) (changes noted : List Change) (marks : List ℕ) (c : Change) (empty : Bool)
     → IsLog requests changes marks → empty ≡ (length marks == 0)
     → noted ≡ (if not empty then changes ++ c ∷ [] else changes) → Fits c new → earlier c new ≡ requests

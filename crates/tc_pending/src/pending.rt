@@ -115,7 +115,7 @@ impl Pending {
 
     /// Goes back to the latest mark, and removes it. No memory is taken.
     ///
-    /// Takes the time of the changes since, each of O(requests).
+    /// Takes the time of the changes since, each at most O(requests).
     pub fn undo(&mut self)
         ensures back { IsUndone self.old self.new }
         ensures unmarked { self.old.saved ≡ [] → self.new ≡ self.old }
@@ -126,6 +126,8 @@ impl Pending {
     }
 
     /// Removes the latest mark, and leaves the requests as they are. No memory is taken.
+    ///
+    /// Takes O(1) time; where it is the only mark, that of the changes since.
     pub fn keep(&mut self)
         ensures kept { IsKept self.old self.new }
         ensures unmarked { self.old.saved ≡ [] → self.new ≡ self.old }
