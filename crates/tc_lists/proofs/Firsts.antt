@@ -1,5 +1,5 @@
 -- The first element of a list that has a property, and lists of which none has it.
-use Rattle.std.proofs.Common.{◌≡◌, List, [], ◌∷◌, ◌++◌, Contains, ℕ, zero, suc, ⊎_elim, arith, refl, sym, subst}
+use Rattle.std.proofs.Common.{◌≡◌, List, [], ◌∷◌, ◌++◌, Contains, zero, suc, ⊎_elim, arith, refl, sym, subst}
 use Rattle.std.proofs.lemmas.List.Elements.{Contains-append_right, Contains-append_cases}
 use Rattle.tc_lists.specs.Firsts.{NoneOf, IsFirst}
 

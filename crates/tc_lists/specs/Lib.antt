@@ -2,3 +2,4 @@ pub mod Texts
 pub mod Items
 pub mod Decimals
 pub mod Firsts
+pub mod Marks
