@@ -1,6 +1,6 @@
 -- The first element of a list that has a property, and lists of which none has it.
-use Rattle.std.proofs.Common.{◌≡◌, List, [], ◌∷◌, ◌++◌, Contains, zero, suc, ⊎_elim, arith, refl, sym, subst}
-use Rattle.std.proofs.lemmas.List.Elements.{Contains-append_right, Contains-append_cases}
+use Rattle.std.proofs.Common.{◌≡◌, List, [], ◌∷◌, ◌++◌, All, Contains, get_or, zero, suc, ⊎_elim, arith, refl, sym, subst}
+use Rattle.std.proofs.lemmas.List.Elements.{All-contains, Contains-get_or, Contains-append_right, Contains-append_cases}
 use Rattle.tc_lists.specs.Firsts.{NoneOf, IsFirst}
 
 pub NoneOf-nil : {X : Type 0} (P : X → Type 0) → NoneOf P []
@@ -20,3 +20,9 @@ pub NoneOf-push : {X : Type 0} (P : X → Type 0) (xs : List X) (x : X)
 NoneOf-push P xs x none never y inside has =
     ⊎_elim (λ within. none y within has) (λ last. never (subst P (only-one x y last) has))
     (Contains-append_cases xs (x ∷ []) y inside)
+
+pub NoneOf-from_All : {X : Type 0} (P : X → Type 0) (xs : List X) → All (λ x. P x → ⊥) xs → NoneOf P xs
+NoneOf-from_All P xs all = λ x inside has. All-contains (λ y. P y → ⊥) xs x all inside has
+
+pub All-from_NoneOf : {X : Type 0} (P : X → Type 0) (xs : List X) → NoneOf P xs → All (λ x. P x → ⊥) xs
+All-from_NoneOf P xs none = λ k d inside has. none (get_or xs k d) (Contains-get_or xs k d inside) has

@@ -1,5 +1,5 @@
 -- A list of items that a separator parts and a closing byte ends: what is spelled is read again, and what is read is spelled so.
-use Rattle.std.proofs.Common.{◌≡◌, ℕ, zero, suc, ◌<◌, ◌≤◌, ◌≢◌, ◌⊎◌, true, false, eqb, List, [], ◌∷◌, ◌++◌, length, Option, Some, None, sym, ap, ◌∙◌, refl, inl, inr, ⊎_elim, append_assoc, subst, option_map, eq-eqb, ne_eqb, arith}
+use Rattle.std.proofs.Common.{◌≡◌, ℕ, zero, suc, ◌+◌, ◌<◌, ◌≤◌, ◌≢◌, ◌⊎◌, true, false, eqb, List, [], ◌∷◌, ◌++◌, length, Option, Some, None, sym, ap, ◌∙◌, refl, inl, inr, ⊎_elim, append_assoc, length-append, subst, option_map, eq-eqb, ne_eqb, arith}
 use Rattle.std.specs.List.{AllByRecursion}
 use Rattle.std.proofs.lemmas.Bool.Decides.{eqb_tells}
 use Rattle.std.proofs.lemmas.Option.{option_and_then_some}
@@ -73,3 +73,10 @@ module _ {Y : Type 0} (separator closing : ℕ) (print : Y → List ℕ) (read :
       (λ (r : Y × List ℕ) (first : read bytes ≡ Some r) (more : items_behind separator closing (items_at separator closing read n) r.0 r.1 ≡ Some (ys, rest)).
       let spelled = sound bytes r.0 r.1 first in
       items_behind-takes Good (items_at separator closing read n) r.0 bytes r.1 ys rest (items_at-takes Good sound n) spelled.0 spelled.1 more)
+
+-- a list has at most one item more than its text has bytes
+pub length-items_text : {Y : Type 0} (print : Y → List ℕ) (separator : ℕ) (ys : List Y) → length ys ≤ length (items_text print separator ys) + 1
+length-items_text print separator [] = omega arith
+length-items_text print separator (y ∷ []) = omega arith
+length-items_text print separator (y ∷ z ∷ ys) =
+    omega (arith, length-append (print y) (separator ∷ items_text print separator (z ∷ ys)), length-items_text print separator (z ∷ ys))

@@ -1,0 +1,17 @@
+-- Tests, and what they tell.
+use Rattle.std.proofs.Common.{◌≡◌, ℕ, zero, suc, ◌==◌, ◌<◌, ◌&&◌, Bool, true, false, List, ◌∷◌, length, refl, arith}
+use Rattle.std.proofs.lemmas.Bool.{ne_eqb}
+
+-- both of two tests are passed
+pub and_parts : (p q : Bool) → (p && q) ≡ true → (p ≡ true) × (q ≡ true)
+and_parts true q both = (refl, both)
+and_parts false q both = absurd (cc)
+
+-- a list with an element isn't empty
+pub length-none_false : {X : Type 0} (x : X) (xs : List X) → (length (x ∷ xs) == 0) ≡ false
+length-none_false x xs = ne_eqb (length (x ∷ xs)) 0 (λ none. absurd (omega (arith, none)))
+
+-- a test for none that fails
+pub some_from_test : (n : ℕ) (none : Bool) → none ≡ (n == 0) → none ≡ false → 0 < n
+some_from_test zero none is fails = absurd (cc)
+some_from_test (suc n) none is fails = omega arith
