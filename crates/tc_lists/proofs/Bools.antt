@@ -1,6 +1,7 @@
 -- Tests, and what they tell.
-use Rattle.std.proofs.Common.{◌≡◌, ℕ, zero, suc, ◌==◌, ◌<◌, ◌&&◌, Bool, true, false, List, ◌∷◌, length, refl, arith}
-use Rattle.std.proofs.lemmas.Bool.{ne_eqb}
+use Rattle.std.proofs.Common.{◌≡◌, ℕ, zero, suc, ◌==◌, ◌<◌, ◌&&◌, Bool, true, false, List, ◌∷◌, length, bytes_eq, refl, arith}
+use Rattle.std.proofs.lemmas.Bool.{ne_eqb, false_from_ne_true}
+use Rattle.std.proofs.lemmas.Slice.Eq.{bytes_eq-Decides}
 
 -- both of two tests are passed
 pub and_parts : (p q : Bool) → (p && q) ≡ true → (p ≡ true) × (q ≡ true)
@@ -15,3 +16,7 @@ length-none_false x xs = ne_eqb (length (x ∷ xs)) 0 (λ none. absurd (omega (a
 pub some_from_test : (n : ℕ) (none : Bool) → none ≡ (n == 0) → none ≡ false → 0 < n
 some_from_test zero none is fails = absurd (cc)
 some_from_test (suc n) none is fails = omega arith
+
+-- texts that differ
+pub bytes_eq-apart : (xs ys : List ℕ) → (xs ≡ ys → ⊥) → bytes_eq xs ys ≡ false
+bytes_eq-apart xs ys apart = false_from_ne_true (bytes_eq xs ys) (λ same. apart ((bytes_eq-Decides xs ys).0 same))

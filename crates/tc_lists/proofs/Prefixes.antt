@@ -41,6 +41,9 @@ module _ {A : Type 0} where
   pub take-IsPrefix : (xs ys : List A) → IsPrefix xs ys → take (length xs) ys ≡ xs
   take-IsPrefix xs ys p = subst (λ (l : List A). take (length xs) l ≡ xs) p.1 (take-append_seam xs p.0)
 
+  pub IsPrefix-from_take : (xs ys : List A) → take (length xs) ys ≡ xs → IsPrefix xs ys
+  IsPrefix-from_take xs ys front = subst (λ (l : List A). IsPrefix l ys) front (IsPrefix-take (length xs) ys)
+
   pub length-IsPrefix : (xs ys : List A) → IsPrefix xs ys → length xs ≤ length ys
   length-IsPrefix xs ys p = omega (arith, length-append xs p.0, ap length p.1)
 
