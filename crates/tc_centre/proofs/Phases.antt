@@ -21,7 +21,7 @@ none_triggered e = record {
 pub whole-without : (choice : Choice) (setting : Setting) (budget : ℕ) (e : Occurrence) (tuples : List Tree)
     → IsWhole choice [] setting budget e tuples []
 whole-without choice setting budget e tuples = record {
-  end = record { tuples = tuples; waiting = [] };
+  end = record { tuples = tuples; triggered = [] };
   begins = record {
     first = [];
     triggers = ([], [], none_triggered e, refl, refl);

@@ -10,7 +10,7 @@ use Rattle.tc_model.specs.Goals.{Scene, Moment, Move, moved, Does, IsStep, Leads
 use Rattle.tc_model.specs.Bodies.{scene_of, beginning, IsFired, IsFailed, IsBody}
 use Rattle.tc_model.specs.Cascades.{Wave, pick_of, IsTried, Cascades, Begins, IsWhole, IsOver}
 use Rattle.tc_model.specs.State.{State, Origin, IsAnswerable}
-use Rattle.tc_model.specs.Tables.{IsServed, IsGiven, IsFound}
+use Rattle.tc_model.specs.Tables.{IsServed, IsGiven, IsChosenTuple}
 use Rattle.tc_model.specs.Run.{IsAnswered, IsLegal}
 use Rattle.tc_model.specs.declared.calls.CallId.{CallId}
 use Rattle.tc_model.specs.declared.calls.Op.{Op}
@@ -84,7 +84,7 @@ module _ (setting : Setting) where
       more = h.more;
       triggers = h.triggers;
       tuples = h.tuples;
-      waiting = h.waiting;
+      triggered = h.triggered;
     }
 
     any_cascades : (items : List Item) (w end : Wave)
@@ -97,7 +97,7 @@ module _ (setting : Setting) where
     any_begins e tuples items end h = record {
       first = h.first;
       triggers = h.triggers;
-      cascades = any_cascades items (record { tuples = tuples; waiting = h.first }) end h.cascades;
+      cascades = any_cascades items (record { tuples = tuples; triggered = h.first }) end h.cascades;
     }
 
     any_whole : (budget : ℕ) (e : Occurrence) (tuples : List Tree) (items : List Item)
@@ -115,11 +115,11 @@ module _ (setting : Setting) where
       end = h.end;
       begins = any_begins e tuples items h.end h.begins;
       spent = h.spent;
-      waits = h.waits;
+      left = h.left;
     }
 
 module _ (origin : Origin) (s : State) where
-  any_found : (template tuple : Tree) → IsFound TheFirst origin s template tuple → IsFound AnyOne origin s template tuple
+  any_found : (template tuple : Tree) → IsChosenTuple TheFirst origin s template tuple → IsChosenTuple AnyOne origin s template tuple
   any_found template tuple h = any_chosen _ s.tuples tuple h
 
   any_served : (id : CallId) (op : Op) (result : Outcome) (items : List Item)

@@ -53,4 +53,4 @@ pub cascade-tuples : (choice : Choice) (clauses : List Rule) (setting : Setting)
     (items : List Item) (end : Wave)
     → Begins choice clauses setting e tuples items end → end.tuples ≡ after_items items tuples
 cascade-tuples choice clauses setting e tuples items end h =
-    cascades-tuples choice clauses setting items (record { tuples = tuples; waiting = h.first }) end h.cascades
+    cascades-tuples choice clauses setting items (record { tuples = tuples; triggered = h.first }) end h.cascades

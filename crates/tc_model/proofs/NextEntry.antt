@@ -5,7 +5,7 @@ use Rattle.std.proofs.lemmas.Bool.{and_parts, both_ways, false_from_ne_true}
 use Rattle.std.proofs.lemmas.List.Elements.{All-contains, All-head, All-tail, Contains-append_left, Contains-push_cases}
 use Rattle.std.proofs.lemmas.Map.Made.{Contains-tail}
 use Rattle.tc_model.specs.Calls.{id_of, same_id, is_call_of, calls_of, IsCallOf}
-use Rattle.tc_model.specs.Entries.{IsAnswer, IsWellFormed}
+use Rattle.tc_model.specs.Entries.{IsAnswerOutcome, IsWellFormed}
 use Rattle.tc_model.specs.Replies.{reply_of, outcome_given, or_given, outcome_in, reply_in}
 use Rattle.tc_model.specs.Run.{HasCall}
 use Rattle.tc_model.specs.declared.calls.CallId.{CallId}
@@ -116,7 +116,7 @@ pub reply_in-called : (history : List Entry) (id : CallId) (op : Op) (result : O
 reply_in-called history id op result items above =
     ap reply_of (outcome_in-push history id op result items above ∙ or_given-nothing result)
 
-pub answer-replies : (result : Outcome) → IsAnswer result → reply_of result ≡ None → ⊥
+pub answer-replies : (result : Outcome) → IsAnswerOutcome result → reply_of result ≡ None → ⊥
 answer-replies outcome.Pending answer none = answer
 answer-replies _ answer none = absurd (cc)
 

@@ -4,9 +4,9 @@ use Rattle.std.proofs.Common.{length, get_or, take, refl, sym, ap, subst, ◌∙
 use Rattle.std.proofs.lemmas.List.{take_more, take_all}
 use Rattle.std.proofs.lemmas.Option.{slice_get-get_or}
 use Rattle.tc_model.specs.Choices.{AnyOne}
-use Rattle.tc_model.specs.State.{State, Origin, opening, after_call, after_entry, after_history}
+use Rattle.tc_model.specs.State.{State, Origin, opening, reached_by, after_call, after_entry, after_history}
 use Rattle.tc_model.specs.Run.{IsLegal, IsRun}
-use Rattle.tc_model.specs.Waiting.{NeverWaits, GivesNothing}
+use Rattle.tc_model.specs.Waiting.{IsImmediate, NeverWaits, GivesNothing}
 use Rattle.tc_model.specs.declared.calls.CallId.{CallId}
 use Rattle.tc_model.specs.declared.calls.Op.{Op}
 use Rattle.tc_model.specs.declared.calls.Op.TheVariants.{Out, In, Rd, Inp, Rdp, SetSpec, GetSpec}
@@ -18,17 +18,24 @@ use Rattle.tc_model.specs.declared.entries.Entry.{Entry}
 use Rattle.tc_model.specs.declared.entries.Entry.TheVariants.{Called, Gave, Looked}
 use Rattle.tc_model.proofs.Runs.{after_history-push}
 
+reached-pending : (id : CallId) (op : Op) (result : Outcome) (items : List Item) (s : State)
+    → IsImmediate op → (reached_by id op result items s).pending ≡ s.pending
+reached-pending id (Out t) result items s immediate = refl
+reached-pending id (In t) result items s immediate = absurd immediate
+reached-pending id (Rd t) result items s immediate = absurd immediate
+reached-pending id (Inp t) result items s immediate = refl
+reached-pending id (Rdp t) result items s immediate = refl
+reached-pending id (SetSpec clauses) result items s immediate = refl
+reached-pending id GetSpec result items s immediate = refl
+
 call-pending : (id : CallId) (op : Op) (result : Outcome) (items : List Item) (s : State)
-    → NeverWaits (Called id op result items) → (after_call id op result items s).pending ≡ s.pending
-call-pending id (Out t) Done items s never = refl
-call-pending id (Inp t) (Took u) items s never = refl
-call-pending id (Rdp t) (Took u) items s never = refl
-call-pending id (Inp t) NoTuple items s never = refl
-call-pending id (Rdp t) NoTuple items s never = refl
-call-pending id (In t) result items s never = absurd never
-call-pending id (Rd t) result items s never = absurd never
-call-pending id (SetSpec clauses) Done items s never = refl
-call-pending id _ _ items s never = refl
+    → IsImmediate op → (after_call id op result items s).pending ≡ s.pending
+call-pending id op (Over phase tuple) items s immediate = refl
+call-pending id op Done items s immediate = reached-pending id op Done items s immediate
+call-pending id op (Took u) items s immediate = reached-pending id op (Took u) items s immediate
+call-pending id op NoTuple items s immediate = reached-pending id op NoTuple items s immediate
+call-pending id op Pending items s immediate = reached-pending id op Pending items s immediate
+call-pending id op (Spec text) items s immediate = reached-pending id op (Spec text) items s immediate
 
 -- a legal entry after which nobody waits, if nobody waited and it is no call that may wait
 entry-pending : (origin : Origin) (history : List Entry) (s : State) (e : Entry)

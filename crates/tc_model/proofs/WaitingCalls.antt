@@ -8,7 +8,7 @@ use Rattle.std.proofs.lemmas.List.Quantifiers.{all_pairs_push, all_pairs_remove}
 use Rattle.std.proofs.lemmas.Option.{slice_get_within, get_or_from_slice_get, slice_get-get_or, same_Some}
 use Rattle.tc_model.specs.Calls.{id_of, same_id, IsCallOf}
 use Rattle.tc_model.specs.Choices.{AnyOne}
-use Rattle.tc_model.specs.Entries.{IsAnswer, IsWellFormed}
+use Rattle.tc_model.specs.Entries.{IsAnswerOutcome, IsWellFormed}
 use Rattle.tc_model.specs.Replies.{reply_of, reply_in}
 use Rattle.tc_model.specs.Run.{HasCall, IsNext, IsAnswered, IsLegal, IsRun}
 use Rattle.tc_model.specs.State.{State, Origin, opening, without_request, takes_tuple}
@@ -21,7 +21,7 @@ use Rattle.tc_model.specs.declared.calls.Op.TheVariants.{Out, In, Rd}
 use Rattle.tc_model.specs.declared.calls.Request.{Request}
 use Rattle.tc_model.specs.declared.items.Item.{Item}
 use Rattle.tc_model.specs.declared.outcomes.Outcome.{Outcome}
-use Rattle.tc_model.specs.declared.outcomes.Outcome.TheVariants.{Took, Pending}
+use Rattle.tc_model.specs.declared.outcomes.Outcome.TheVariants.{Took, Pending, Over}
 use Rattle.tc_model.specs.declared.entries.Entry.{Entry}
 use Rattle.tc_model.specs.declared.entries.Entry.TheVariants.{Called, Gave, Looked}
 use Rattle.tc_model.proofs.Lists.{AllPairs-tail, AllPairs-removed, Contains-remove, All-remove}
@@ -150,7 +150,7 @@ module _ (history : List Entry) (e : Entry) (requests : List Request) (waiting :
 
 -- an answer removes the request of its call, which then has a reply
 waiting-gives : (history : List Entry) (requests : List Request) (r : Request) (result : Outcome) (items : List Item)
-    → AreWaiting history requests → All IsWellFormed history → Contains requests r → IsAnswer result
+    → AreWaiting history requests → All IsWellFormed history → Contains requests r → IsAnswerOutcome result
     → AreWaiting (history ++ Gave r.id result items ∷ []) (without_request r.id requests)
 waiting-gives history requests r result items waiting well stands answer =
     let e : Entry = Gave r.id result items in
@@ -193,6 +193,18 @@ pending-answered id (Took u) items s = refl
 pending-answered id _ items s = refl
 
 module _ (origin : Origin) (history : List Entry) (s : State) (waiting : AreWaiting history s.pending) where
+  -- a call that gets its reply leaves the requests
+  waiting-replied : (id : CallId) (op : Op) (result : Outcome) (items : List Item)
+      → IsNext origin history id → (reply_of result ≡ None → ⊥)
+      → AreWaiting (history ++ Called id op result items ∷ []) s.pending
+  waiting-replied id op result items next some =
+      waiting-stays history (Called id op result items) s.pending waiting
+      (λ j. HasCall-other history id j next.number)
+      (λ j call none.
+      let here : reply_in (history ++ Called id op result items ∷ []) id ≡ None =
+      subst (λ i. reply_in (history ++ Called id op result items ∷ []) i ≡ None) (sym call) none in
+      some (sym (reply_in-called history id op result items next.number) ∙ here))
+
   -- an id that is next is of none of the calls before
   waiting-called_next : (id : CallId) (op : Op) (result : Outcome) (items : List Item)
       → IsNext origin history id → IsServed AnyOne origin s id op result items
@@ -207,17 +219,16 @@ module _ (origin : Origin) (history : List Entry) (s : State) (waiting : AreWait
       waiting-grows history (Called id (Rd t) Pending items) s.pending waiting
       (λ j. HasCall-other history id j next.number) (record { id = id; takes = false; template = t }) refl none
   waiting-called_next id _ Pending items next served = absurd served
-  waiting-called_next id op result items next served =
-      waiting-stays history (Called id op result items) s.pending waiting
-      (λ j. HasCall-other history id j next.number)
-      (λ j call none.
-      let here : reply_in (history ++ Called id op result items ∷ []) id ≡ None =
-      subst (λ i. reply_in (history ++ Called id op result items ∷ []) i ≡ None) (sym call) none in
-      let replied = reply_in-called history id op result items next.number in
-      absurd (cc (sym replied ∙ here)))
+  waiting-called_next id (In t) (Over phase tuple) items next served =
+      waiting-replied id (In t) (Over phase tuple) items next (λ none. absurd (cc))
+  waiting-called_next id (Rd t) (Over phase tuple) items next served =
+      waiting-replied id (Rd t) (Over phase tuple) items next (λ none. absurd (cc))
+  waiting-called_next id (In t) _ items next served = absurd served
+  waiting-called_next id (Rd t) _ items next served = absurd served
+  waiting-called_next id op result items next served = waiting-replied id op result items next (λ none. absurd (cc))
 
   waiting-answered : (id : CallId) (result : Outcome) (items : List Item)
-      → All IsWellFormed history → IsAnswered AnyOne origin s id result items → IsAnswer result
+      → All IsWellFormed history → IsAnswered AnyOne origin s id result items → IsAnswerOutcome result
       → AreWaiting (history ++ Gave id result items ∷ []) (after_answer id result items s).pending
   waiting-answered id result items well answered answer =
       let r : Request = answered.request in

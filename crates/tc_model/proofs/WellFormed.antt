@@ -9,7 +9,7 @@ use Rattle.tc_model.specs.Cascades.{Wave, IsTried, Cascades, IsWhole, IsOver}
 use Rattle.tc_model.specs.State.{State, Origin}
 use Rattle.tc_model.specs.Tables.{IsServed, IsGiven, setting_of}
 use Rattle.tc_model.specs.Run.{IsLegal}
-use Rattle.tc_model.specs.Entries.{IsOutcomeWellFormed, IsAnswer, IsNumbered, IsWellFormed}
+use Rattle.tc_model.specs.Entries.{IsOutcomeWellFormed, IsAnswerOutcome, IsNumbered, IsWellFormed}
 use Rattle.tc_model.specs.declared.calls.CallId.{CallId}
 use Rattle.tc_model.specs.declared.calls.Op.{Op}
 use Rattle.tc_model.specs.declared.calls.Op.TheVariants.{Out, In, Rd, Inp, Rdp, SetSpec, GetSpec}
@@ -47,12 +47,12 @@ module _ (choice : Choice) (clauses : List Rule) (setting : Setting) where
   whole-numbered : (budget : ℕ) (e : Occurrence) (tuples : List Tree) (items : List Item)
       → IsWhole choice clauses setting budget e tuples items → All IsNumbered items
   whole-numbered budget e tuples items h =
-      cascades-numbered items (record { tuples = tuples; waiting = h.begins.first }) h.end h.begins.cascades
+      cascades-numbered items (record { tuples = tuples; triggered = h.begins.first }) h.end h.begins.cascades
 
   over-numbered : (budget : ℕ) (e : Occurrence) (tuples : List Tree) (items : List Item)
       → IsOver choice clauses setting budget e tuples items → All IsNumbered items
   over-numbered budget e tuples items h =
-      cascades-numbered items (record { tuples = tuples; waiting = h.begins.first }) h.end h.begins.cascades
+      cascades-numbered items (record { tuples = tuples; triggered = h.begins.first }) h.end h.begins.cascades
 
 module _ (choice : Choice) (origin : Origin) (s : State) where
   served-well_formed : (id : CallId) (op : Op) (result : Outcome) (items : List Item)
@@ -76,7 +76,7 @@ module _ (choice : Choice) (origin : Origin) (s : State) where
   served-well_formed id _ _ items h = absurd h
 
   given-well_formed : (r : Request) (result : Outcome) (items : List Item)
-      → IsGiven choice origin s r result items → IsAnswer result × All IsNumbered items
+      → IsGiven choice origin s r result items → IsAnswerOutcome result × All IsNumbered items
   given-well_formed r (Took u) items h = (tt, whole-numbered choice s.clauses _ origin.budget _ _ items h.1)
   given-well_formed r (Over Post (Some u)) items h = (tt, over-numbered choice s.clauses _ origin.budget _ _ items h.1)
   given-well_formed r _ items h = absurd h

@@ -22,7 +22,8 @@ beginning r e tuples = record {
   effects = [];
 }
 
--- every goal has done its step, with these effects
+-- every goal has done its step, with these effects; a rule has a goal, whose step says that head and
+-- event can be made equal
 pub record IsFired (choice : Choice) (r : Rule) (e : Occurrence) (setting : Setting) (tuples : List Tree) (effects : List Effect) : Type 0 where
   pub end : Moment
   pub leads : Leads choice (scene_of r e setting) r.goals (beginning r e tuples) end

@@ -26,5 +26,6 @@ calls_of agent history = filter (is_call_of agent) history
 
 -- the entry is the call of this id
 abbrev pub IsCallOf : CallId → Entry → Type 0
-IsCallOf id (Called i op outcome items) = i ≡ id
-IsCallOf id entry = ⊥
+IsCallOf id (Called i op result items) = i ≡ id
+IsCallOf id (Gave i result items) = ⊥
+IsCallOf id (Looked i asked reply) = ⊥

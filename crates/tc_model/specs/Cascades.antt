@@ -20,23 +20,23 @@ abbrev pub clause_of : Item → ℕ
 clause_of (Fired pick clause effects) = clause
 clause_of (Failed pick clause goal effects) = clause
 
--- how far a cascade has come: the tuples, and what is triggered and waits
+-- how far a cascade has come: the tuples, and the triggered members that are still to be tried
 pub record Wave : Type 0 where
   pub tuples : List Tree
-  pub waiting : List Member
+  pub triggered : List Member
 
 -- the list without what stands at a place
 abbrev pub without : {X : Type 0} → ℕ → List X → List X
 without place xs = take place xs ++ drop (place + 1) xs
 
 module _ (choice : Choice) (clauses : List Rule) (setting : Setting) where
-  -- a member that waits is picked and tried, as the item says; what it triggers waits behind the others
+  -- a triggered member is picked and tried, as the item says; what it triggers stands behind the others
   pub record IsTried (w : Wave) (item : Item) (next : Wave) : Type 0 where
     pub place : ℕ
     pub pick : pick_of item ≡ place + 1
     pub allowed : IsPick choice (pick_of item)
     pub member : Member
-    pub picked : slice_get w.waiting place ≡ Some member
+    pub picked : slice_get w.triggered place ≡ Some member
     pub clause : clause_of item ≡ member.clause
     pub rule : Rule
     pub stands : IsClause clauses member.clause rule
@@ -44,7 +44,7 @@ module _ (choice : Choice) (clauses : List Rule) (setting : Setting) where
     pub more : List Member
     pub triggers : Triggers clauses (raises item) more
     pub tuples : next.tuples ≡ after_item item w.tuples
-    pub waiting : next.waiting ≡ without place w.waiting ++ more
+    pub triggered : next.triggered ≡ without place w.triggered ++ more
 
   -- the items, one after another, lead from here to there
   abbrev pub Cascades : List Item → Wave → Wave → Type 0
@@ -55,18 +55,18 @@ module _ (choice : Choice) (clauses : List Rule) (setting : Setting) where
   pub record Begins (e : Occurrence) (tuples : List Tree) (items : List Item) (end : Wave) : Type 0 where
     pub first : List Member
     pub triggers : Triggers clauses (e ∷ []) first
-    pub cascades : Cascades items (record { tuples = tuples; waiting = first }) end
+    pub cascades : Cascades items (record { tuples = tuples; triggered = first }) end
 
-  -- it ends within the budget: nothing waits any more
+  -- it ends within the budget: no member is left
   pub record IsWhole (budget : ℕ) (e : Occurrence) (tuples : List Tree) (items : List Item) : Type 0 where
     pub end : Wave
     pub begins : Begins e tuples items end
     pub within : length items ≤ budget
-    pub done : end.waiting ≡ []
+    pub done : end.triggered ≡ []
 
-  -- it goes over the budget: that is spent, and some still wait
+  -- it goes over the budget: that is spent, and some member is left
   pub record IsOver (budget : ℕ) (e : Occurrence) (tuples : List Tree) (items : List Item) : Type 0 where
     pub end : Wave
     pub begins : Begins e tuples items end
     pub spent : length items ≡ budget
-    pub waits : end.waiting ≢ []
+    pub left : end.triggered ≢ []

@@ -1,6 +1,7 @@
 -- What entries weigh, and which are well formed.
-use Rattle.std.specs.Prelude.{ℕ, ◌+◌, ◌*◌, ◌<◌, ◌≤◌, Some, List, All, length, sum_by}
+use Rattle.std.specs.Prelude.{ℕ, ◌+◌, ◌*◌, ◌<◌, ◌≤◌, Some, None, List, All, length, sum_by}
 use Rattle.tc_model.specs.State.{Origin, opening, after_history}
+use Rattle.tc_model.specs.declared.limits.TheConstants.{MOST_WEIGHT}
 use Rattle.tc_model.specs.declared.events.Phase.TheVariants.{Pre, Post}
 use Rattle.tc_model.specs.declared.items.Item.{Item}
 use Rattle.tc_model.specs.declared.items.Item.TheVariants.{Fired, Failed}
@@ -26,7 +27,7 @@ pending_after origin history = length (after_history (opening origin) history).p
 -- another call, with all the answers that it may lead to, could make the history too heavy
 abbrev pub IsFull : Origin → List Entry → Type 0
 IsFull origin history =
-    4000000 < weight history + (pending_after origin history + 2) * (origin.budget + 1)
+    MOST_WEIGHT < weight history + (pending_after origin history + 2) * (origin.budget + 1)
 
 -- the places that an item names are counted from 1
 abbrev pub IsNumbered : Item → Type 0
@@ -36,16 +37,22 @@ IsNumbered (Failed pick clause goal effects) = (1 ≤ pick) × (1 ≤ clause) ×
 -- the reactions to a request have no chosen tuple yet
 abbrev pub IsOutcomeWellFormed : Outcome → Type 0
 IsOutcomeWellFormed (outcome.Over Pre (Some tuple)) = ⊥
-IsOutcomeWellFormed _ = Unit {0}
+IsOutcomeWellFormed (outcome.Over Pre None) = Unit {0}
+IsOutcomeWellFormed (outcome.Over Post tuple) = Unit {0}
+IsOutcomeWellFormed outcome.Done = Unit {0}
+IsOutcomeWellFormed (outcome.Took tuple) = Unit {0}
+IsOutcomeWellFormed outcome.NoTuple = Unit {0}
+IsOutcomeWellFormed outcome.Pending = Unit {0}
+IsOutcomeWellFormed (outcome.Spec text) = Unit {0}
 
--- an answer has the tuple that was chosen for the request
-abbrev pub IsAnswer : Outcome → Type 0
-IsAnswer (outcome.Took tuple) = Unit {0}
-IsAnswer (outcome.Over Post (Some tuple)) = Unit {0}
-IsAnswer _ = ⊥
+-- an answer has the tuple that was chosen for the request; no other outcome is one of an answer
+abbrev pub IsAnswerOutcome : Outcome → Type 0
+IsAnswerOutcome (outcome.Took tuple) = Unit {0}
+IsAnswerOutcome (outcome.Over Post (Some tuple)) = Unit {0}
+IsAnswerOutcome _ = ⊥
 
 -- the entry is well formed
 abbrev pub IsWellFormed : Entry → Type 0
 IsWellFormed (Called id op result items) = IsOutcomeWellFormed result × All IsNumbered items
-IsWellFormed (Gave id result items) = IsAnswer result × All IsNumbered items
+IsWellFormed (Gave id result items) = IsAnswerOutcome result × All IsNumbered items
 IsWellFormed (Looked id asked reply) = Unit {0}

@@ -2,6 +2,7 @@
 use Rattle.std.specs.Prelude.{◌≡◌, ◌≤◌, ℕ, IsTrue, List, length, codes}
 use Rattle.tc_term.specs.Tree.{Tree, is_ground}
 use Rattle.tc_term.specs.Variables.{IsPattern}
+use Rattle.tc_model.specs.declared.limits.TheConstants.{MOST_NAME_BYTES}
 use Rattle.tc_model.specs.declared.events.EventOp.{EventOp}
 use Rattle.tc_model.specs.declared.events.EventOp.TheVariants as op
 use Rattle.tc_model.specs.declared.events.Phase.{Phase}
@@ -18,14 +19,20 @@ pub record Occurrence : Type 0 where
   pub phase : Phase
   pub sign : Sign
 
--- the table of events: which phase and which sign an operation may have
+-- the table of events: which phase and which sign an operation may have, and no other
 abbrev pub MayOccur : EventOp → Phase → Sign → Type 0
-MayOccur op.NoR phase sign = ⊥
+MayOccur op.Out Post Success = Unit {0}
 MayOccur op.In Pre Neither = Unit {0}
+MayOccur op.In Post Success = Unit {0}
 MayOccur op.Rd Pre Neither = Unit {0}
+MayOccur op.Rd Post Success = Unit {0}
+MayOccur op.Inp Post Success = Unit {0}
 MayOccur op.Inp Post Failure = Unit {0}
+MayOccur op.Rdp Post Success = Unit {0}
 MayOccur op.Rdp Post Failure = Unit {0}
-MayOccur operation Post Success = Unit {0}
+MayOccur op.OutR Post Success = Unit {0}
+MayOccur op.InR Post Success = Unit {0}
+MayOccur op.RdR Post Success = Unit {0}
 MayOccur operation phase sign = ⊥
 
 -- an event of the table; where it succeeded, its term is a tuple
@@ -39,10 +46,10 @@ pub record Setting : Type 0 where
   pub agent : List ℕ
   pub centre : List ℕ
 
--- names of at most 65,535 bytes
+-- names of few enough bytes
 pub record IsSetting (setting : Setting) : Type 0 where
-  pub agent : length setting.agent ≤ 65535
-  pub centre : length setting.centre ≤ 65535
+  pub agent : length setting.agent ≤ MOST_NAME_BYTES
+  pub centre : length setting.centre ≤ MOST_NAME_BYTES
 
 -- an operation has succeeded with this tuple
 abbrev pub success_event : EventOp → Tree → Occurrence

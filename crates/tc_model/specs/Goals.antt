@@ -36,8 +36,8 @@ pub record Moment : Type 0 where
   pub tuples : List Tree
   pub effects : List Effect
 
--- what a goal does: nothing; it makes two terms equal; it puts a tuple; it takes or reads one that
--- a term then is equal to
+-- what a goal does at a moment: nothing; it adds the equation of two terms; it puts a tuple; or it
+-- takes or reads a tuple, and adds the equation of a term and that tuple
 pub data Move : Type 0 where
   Nothing : Move
   Equates : Tree → Tree → Move
@@ -65,8 +65,8 @@ module _ (scene : Scene) where
   IsValue m t value = HasValue (width scene) m.pairs t value
 
   -- a tuple matches the term at the moment
-  abbrev pub IsMatch : Moment → Tree → Tree → Type 0
-  IsMatch m t tuple = Matches (width scene) m.pairs t tuple
+  abbrev pub IsMatchAt : Moment → Tree → Tree → Type 0
+  IsMatchAt m t tuple = Matches (width scene) m.pairs t tuple
 
   -- the term has a value at the moment, which evaluates to this number
   pub record Evaluates (m : Moment) (t : Tree) (i : ℤ) : Type 0 where
@@ -79,10 +79,10 @@ module _ (choice : Choice) (scene : Scene) where
   abbrev pub Does : Goal → Moment → Move → Type 0
   Does (OutR t) m move = (v : Tree) × IsValue scene m (tree_of t) v × (move ≡ Puts v)
   Does (InR t) m move =
-      (u : Tree) × IsChosen choice (IsMatch scene m (tree_of t)) m.tuples u × (move ≡ Takes (tree_of t) u)
+      (u : Tree) × IsChosen choice (IsMatchAt scene m (tree_of t)) m.tuples u × (move ≡ Takes (tree_of t) u)
   Does (RdR t) m move =
-      (u : Tree) × IsChosen choice (IsMatch scene m (tree_of t)) m.tuples u × (move ≡ Reads (tree_of t) u)
-  Does (NoR t) m move = NoneOf (IsMatch scene m (tree_of t)) m.tuples × (move ≡ Nothing)
+      (u : Tree) × IsChosen choice (IsMatchAt scene m (tree_of t)) m.tuples u × (move ≡ Reads (tree_of t) u)
+  Does (NoR t) m move = NoneOf (IsMatchAt scene m (tree_of t)) m.tuples × (move ≡ Nothing)
   Does Pre m move = (scene.event.phase ≡ phase.Pre) × (move ≡ Nothing)
   Does Post m move = (scene.event.phase ≡ phase.Post) × (move ≡ Nothing)
   Does Success m move = (scene.event.sign ≡ sign.Success) × (move ≡ Nothing)
@@ -112,6 +112,6 @@ module _ (choice : Choice) (scene : Scene) where
   Leads [] m end = end ≡ m
   Leads (g ∷ gs) m end = (move : Move) × IsStep g m move × Leads gs (moved move m) end
 
--- the goal can do no step, whatever is chosen
+-- the goal has no step at the moment, not by any tuple that it may choose
 abbrev pub IsStuck : Scene → Goal → Moment → Type 0
 IsStuck scene goal m = (move : Move) → IsStep AnyOne scene goal m move → ⊥

@@ -7,6 +7,7 @@ pub mod Goals
 pub mod Bodies
 pub mod Triggers
 pub mod Cascades
+pub mod Typed
 pub mod State
 pub mod Calls
 pub mod Replies

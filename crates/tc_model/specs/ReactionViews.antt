@@ -6,5 +6,5 @@ use Rattle.tc_model.specs.declared.reactions.Reaction.TheInside.{Inside}
 abbrev pub rule_of : Inside → Rule
 rule_of r = record { vars = r.vars; op = r.op; head = tree_of r.head; goals = r.goals.items }
 
-abbrev pub IsKept : Inside → Type 0
-IsKept r = IsRule (rule_of r)
+abbrev pub IsReaction : Inside → Type 0
+IsReaction r = IsRule (rule_of r)

@@ -1,5 +1,5 @@
 -- Reactions: a head, a body of goals, and the clause that they are written as.
-use Rattle.std.specs.Prelude.{◌≡◌, ◌≤◌, ℕ, List, [], ◌∷◌, ◌++◌, length, codes}
+use Rattle.std.specs.Prelude.{◌≡◌, ◌≤◌, ℕ, List, [], ◌∷◌, ◌++◌, All, length, codes}
 use Rattle.std.specs.List.{flat_map}
 use Rattle.tc_term.specs.Tree.{Tree, Atomic, Compound, Last, More}
 use Rattle.tc_term.specs.TreeView.{tree_of}
@@ -9,6 +9,7 @@ use Rattle.tc_term.specs.Readable.{IsReadable}
 use Rattle.tc_term.specs.declared.comparison.Cmp.{Cmp}
 use Rattle.tc_term.specs.declared.comparison.Cmp.TheVariants as cmp
 use Rattle.tc_model.specs.Events.{op_name}
+use Rattle.tc_model.specs.declared.limits.TheConstants.{MOST_GOALS, MOST_CLAUSES}
 use Rattle.tc_model.specs.declared.events.EventOp.{EventOp}
 use Rattle.tc_model.specs.declared.goals.Goal.{Goal}
 use Rattle.tc_model.specs.declared.goals.Goal.TheVariants.{OutR, InR, RdR, NoR, Pre, Post, Success, Failure, True, Agent, Centre, Operation, Tuple, Equal, Differ, Is, Compare}
@@ -69,9 +70,14 @@ clause_term r = of_two (codes "reaction") (of_one (op_name r.op) r.head) (body_t
 -- it has 1 to 64 goals; its clause is a template with so many variables, whose text is read back
 pub record IsRule (r : Rule) : Type 0 where
   pub some : 1 ≤ length r.goals
-  pub most : length r.goals ≤ 64
+  pub most : length r.goals ≤ MOST_GOALS
   pub clause : IsReadable (clause_term r)
   pub vars : r.vars ≡ length (variables (clause_term r))
+
+-- rules, and few enough for a centre
+pub record AreClauses (clauses : List Rule) : Type 0 where
+  pub rules : All IsRule clauses
+  pub few : length clauses ≤ MOST_CLAUSES
 
 -- the text of clauses: each ends with a dot and a line feed
 abbrev pub clauses_text : List Rule → List ℕ

@@ -28,7 +28,11 @@ outcome_given (Looked i asked reply ∷ es) id = outcome_given es id
 -- an outcome, or where it is Pending the one that is given
 abbrev pub or_given : Outcome → Outcome → Outcome
 or_given outcome.Pending given = given
-or_given result given = result
+or_given outcome.Done given = outcome.Done
+or_given (outcome.Took tuple) given = outcome.Took tuple
+or_given outcome.NoTuple given = outcome.NoTuple
+or_given (outcome.Spec text) given = outcome.Spec text
+or_given (outcome.Over phase tuple) given = outcome.Over phase tuple
 
 -- the outcome of a call: that of its entry, or where this is Pending the one that it is given
 abbrev pub outcome_in : List Entry → CallId → Outcome

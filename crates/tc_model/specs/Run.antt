@@ -60,7 +60,7 @@ EachEntry R s history =
 abbrev pub IsRunBy : Choice → Origin → List Entry → Type 0
 IsRunBy choice origin history = EachEntry (IsLegal choice origin) (opening origin) history
 
--- every entry is legal where it stands, whatever was chosen
+-- every entry is legal where it stands: each choice is any one that was possible
 abbrev pub IsRun : Origin → List Entry → Type 0
 IsRun origin history = IsRunBy AnyOne origin history
 

@@ -1,13 +1,15 @@
 -- The state of a centre, and what each entry of its history makes of it.
-use Rattle.std.specs.Prelude.{◌≡◌, ◌≢◌, ℕ, ◌<◌, ◌≤◌, Bool, true, false, if◌then◌else◌}
+use Rattle.std.specs.Prelude.{◌≡◌, ◌≢◌, ℕ, ◌<◌, ◌≤◌, ◌^◌, Bool, true, false, if◌then◌else◌}
 use Rattle.std.specs.Prelude.{List, [], ◌∷◌, ◌++◌, All, AllPairs, Contains, length}
 use Rattle.tc_lists.specs.Firsts.{NoneOf}
-use Rattle.tc_term.specs.Tree.{Tree}
+use Rattle.tc_term.specs.Tree.{Tree, IsTuple}
 use Rattle.tc_term.specs.Variables.{var_bound}
 use Rattle.tc_term.specs.Equations.{Matches}
 use Rattle.tc_model.specs.Calls.{same_id}
-use Rattle.tc_model.specs.Reactions.{Rule}
+use Rattle.tc_model.specs.Reactions.{Rule, AreClauses}
 use Rattle.tc_model.specs.Tuples.{without_first, after_items}
+use Rattle.tc_model.specs.Typed.{AreBytes, IsTypedRequest}
+use Rattle.tc_model.specs.declared.limits.TheConstants.{MOST_NAME_BYTES, MOST_BUDGET, MOST_TUPLES}
 use Rattle.tc_model.specs.declared.calls.CallId.{CallId}
 use Rattle.tc_model.specs.declared.calls.Op.{Op}
 use Rattle.tc_model.specs.declared.calls.Op.TheVariants.{Out, In, Rd, Inp, Rdp, SetSpec, GetSpec}
@@ -32,21 +34,33 @@ pub record Origin : Type 0 where
   pub tuples : List Tree
   pub clauses : List Rule
 
--- within the limits of a centre
+-- the name of a centre or of an agent
+pub record IsName (name : List ℕ) : Type 0 where
+  pub bytes : AreBytes name
+  pub short : length name ≤ MOST_NAME_BYTES
+
+-- what a centre may begin with
 pub record IsOrigin (origin : Origin) : Type 0 where
+  pub name : IsName origin.name
   pub some_agent : 0 < length origin.agents
-  pub agents : length origin.agents < 4294967296
+  pub agents : length origin.agents < 2 ^ 32
   pub names_differ : AllPairs ◌≢◌ origin.agents
-  pub name : length origin.name ≤ 65535
-  pub agent_names : All (λ name. length name ≤ 65535) origin.agents
+  pub agent_names : All IsName origin.agents
   pub some_budget : 1 ≤ origin.budget
-  pub budget : origin.budget ≤ 10000
-  pub tuples : length origin.tuples ≤ 16777216
-  pub clauses : length origin.clauses ≤ 1000
+  pub budget : origin.budget ≤ MOST_BUDGET
+  pub tuples : All IsTuple origin.tuples
+  pub few_tuples : length origin.tuples ≤ MOST_TUPLES
+  pub clauses : AreClauses origin.clauses
 
 -- no request waits at first
 abbrev pub opening : Origin → State
 opening origin = record { tuples = origin.tuples; clauses = origin.clauses; pending = [] }
+
+-- what the program's types promise of a state
+pub record IsTypedState (s : State) : Type 0 where
+  pub tuples : All IsTuple s.tuples
+  pub clauses : AreClauses s.clauses
+  pub pending : All IsTypedRequest s.pending
 
 -- the tuple matches the template
 abbrev pub IsMatch : Tree → Tree → Type 0
@@ -89,27 +103,48 @@ with_request id takes template s =
 abbrev pub with_answered : CallId → State → State
 with_answered id s = record s { pending = without_request id s.pending }
 
--- the state after a call: after one that went over its budget, as before
-abbrev pub after_call : CallId → Op → Outcome → List Item → State → State
-after_call id (Out t) outcome.Done items s = with_tuples (after_items items (s.tuples ++ t ∷ [])) s
-after_call id (Inp t) (outcome.Took u) items s =
-    with_tuples (after_items items (without_first u s.tuples)) s
-after_call id (Rdp t) (outcome.Took u) items s = with_tuples (after_items items s.tuples) s
-after_call id (Inp t) outcome.NoTuple items s = with_tuples (after_items items s.tuples) s
-after_call id (Rdp t) outcome.NoTuple items s = with_tuples (after_items items s.tuples) s
-after_call id (In t) outcome.Pending items s =
-    with_request id true t (with_tuples (after_items items s.tuples) s)
-after_call id (Rd t) outcome.Pending items s =
-    with_request id false t (with_tuples (after_items items s.tuples) s)
-after_call id (SetSpec clauses) outcome.Done items s = with_clauses clauses s
-after_call id op result items s = s
+-- the tuples after a search with this outcome: the one that it tells is taken, or stays
+abbrev pub after_search : Bool → Outcome → List Tree → List Tree
+after_search takes (outcome.Took u) tuples = after_taking takes u tuples
+after_search takes outcome.NoTuple tuples = tuples
+after_search takes outcome.Done tuples = tuples
+after_search takes outcome.Pending tuples = tuples
+after_search takes (outcome.Spec text) tuples = tuples
+after_search takes (outcome.Over phase tuple) tuples = tuples
 
--- the state after an answer: the request is gone; after one that went over its budget, no more than that
+-- the state that was reached; where the reactions went over the budget, the state before
+abbrev pub unless_over : Outcome → State → State → State
+unless_over (outcome.Over phase tuple) before reached = before
+unless_over outcome.Done before reached = reached
+unless_over (outcome.Took u) before reached = reached
+unless_over outcome.NoTuple before reached = reached
+unless_over outcome.Pending before reached = reached
+unless_over (outcome.Spec text) before reached = reached
+
+-- the state that a call has reached with its outcome and its items
+abbrev pub reached_by : CallId → Op → Outcome → List Item → State → State
+reached_by id (Out t) result items s = with_tuples (after_items items (s.tuples ++ t ∷ [])) s
+reached_by id (Inp t) result items s =
+    with_tuples (after_items items (after_search true result s.tuples)) s
+reached_by id (Rdp t) result items s =
+    with_tuples (after_items items (after_search false result s.tuples)) s
+reached_by id (In t) result items s =
+    with_request id true t (with_tuples (after_items items s.tuples) s)
+reached_by id (Rd t) result items s =
+    with_request id false t (with_tuples (after_items items s.tuples) s)
+reached_by id (SetSpec clauses) result items s = with_clauses clauses s
+reached_by id GetSpec result items s = s
+
+-- the state after a call
+abbrev pub after_call : CallId → Op → Outcome → List Item → State → State
+after_call id op result items s = unless_over result s (reached_by id op result items s)
+
+-- the state after an answer: its request is gone
 abbrev pub after_answer : CallId → Outcome → List Item → State → State
-after_answer id (outcome.Took u) items s =
+after_answer id result items s =
     with_answered id
-    (with_tuples (after_items items (after_taking (takes_tuple id s.pending) u s.tuples)) s)
-after_answer id result items s = with_answered id s
+    (unless_over result s
+    (with_tuples (after_items items (after_search (takes_tuple id s.pending) result s.tuples)) s))
 
 -- the state after an entry
 abbrev pub after_entry : Entry → State → State

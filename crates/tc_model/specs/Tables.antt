@@ -36,34 +36,34 @@ module _ (choice : Choice) (origin : Origin) (s : State) where
       IsOver choice s.clauses (setting_of origin id) origin.budget e tuples items
 
   -- the tuple may be chosen for the template
-  abbrev pub IsFound : Tree → Tree → Type 0
-  IsFound template tuple = IsChosen choice (IsMatch template) s.tuples tuple
+  abbrev pub IsChosenTuple : Tree → Tree → Type 0
+  IsChosenTuple template tuple = IsChosen choice (IsMatch template) s.tuples tuple
 
   -- no tuple matches the template
-  abbrev pub NoneFound : Tree → Type 0
-  NoneFound template = NoneOf (IsMatch template) s.tuples
+  abbrev pub NoneMatches : Tree → Type 0
+  NoneMatches template = NoneOf (IsMatch template) s.tuples
 
-  -- the table of calls
+  -- the table of calls: an operation has no outcome that isn't listed
   abbrev pub IsServed : CallId → Op → Outcome → List Item → Type 0
   IsServed id (Out t) Done items = Reacts id (success_event op.Out t) (s.tuples ++ t ∷ []) items
   IsServed id (Out t) (Over Post None) items =
       Overruns id (success_event op.Out t) (s.tuples ++ t ∷ []) items
   IsServed id (Inp t) (Took u) items =
-      IsFound t u × Reacts id (success_event op.Inp u) (without_first u s.tuples) items
+      IsChosenTuple t u × Reacts id (success_event op.Inp u) (without_first u s.tuples) items
   IsServed id (Inp t) (Over Post (Some u)) items =
-      IsFound t u × Overruns id (success_event op.Inp u) (without_first u s.tuples) items
+      IsChosenTuple t u × Overruns id (success_event op.Inp u) (without_first u s.tuples) items
   IsServed id (Rdp t) (Took u) items =
-      IsFound t u × Reacts id (success_event op.Rdp u) s.tuples items
+      IsChosenTuple t u × Reacts id (success_event op.Rdp u) s.tuples items
   IsServed id (Rdp t) (Over Post (Some u)) items =
-      IsFound t u × Overruns id (success_event op.Rdp u) s.tuples items
+      IsChosenTuple t u × Overruns id (success_event op.Rdp u) s.tuples items
   IsServed id (Inp t) NoTuple items =
-      NoneFound t × Reacts id (failure_event op.Inp t) s.tuples items
+      NoneMatches t × Reacts id (failure_event op.Inp t) s.tuples items
   IsServed id (Inp t) (Over Post None) items =
-      NoneFound t × Overruns id (failure_event op.Inp t) s.tuples items
+      NoneMatches t × Overruns id (failure_event op.Inp t) s.tuples items
   IsServed id (Rdp t) NoTuple items =
-      NoneFound t × Reacts id (failure_event op.Rdp t) s.tuples items
+      NoneMatches t × Reacts id (failure_event op.Rdp t) s.tuples items
   IsServed id (Rdp t) (Over Post None) items =
-      NoneFound t × Overruns id (failure_event op.Rdp t) s.tuples items
+      NoneMatches t × Overruns id (failure_event op.Rdp t) s.tuples items
   IsServed id (In t) Pending items = Reacts id (request_event op.In t) s.tuples items
   IsServed id (In t) (Over Pre None) items = Overruns id (request_event op.In t) s.tuples items
   IsServed id (Rd t) Pending items = Reacts id (request_event op.Rd t) s.tuples items
@@ -76,12 +76,12 @@ module _ (choice : Choice) (origin : Origin) (s : State) where
   abbrev pub answer_op : Bool → EventOp
   answer_op takes = if takes then op.In else op.Rd
 
-  -- the table of answers
+  -- the table of answers: a request has no outcome that isn't listed
   abbrev pub IsGiven : Request → Outcome → List Item → Type 0
   IsGiven r (Took u) items =
-      IsFound r.template u
+      IsChosenTuple r.template u
       × Reacts r.id (success_event (answer_op r.takes) u) (after_taking r.takes u s.tuples) items
   IsGiven r (Over Post (Some u)) items =
-      IsFound r.template u
+      IsChosenTuple r.template u
       × Overruns r.id (success_event (answer_op r.takes) u) (after_taking r.takes u s.tuples) items
   IsGiven r result items = ⊥

@@ -4,21 +4,33 @@ use Rattle.tc_model.specs.Calls.{same_id}
 use Rattle.tc_model.specs.Replies.{reply_in}
 use Rattle.tc_model.specs.Run.{HasCall}
 use Rattle.tc_model.specs.declared.calls.CallId.{CallId}
-use Rattle.tc_model.specs.declared.calls.Op.TheVariants.{In, Rd}
+use Rattle.tc_model.specs.declared.calls.Op.{Op}
+use Rattle.tc_model.specs.declared.calls.Op.TheVariants.{Out, In, Rd, Inp, Rdp, SetSpec, GetSpec}
 use Rattle.tc_model.specs.declared.calls.Request.{Request}
 use Rattle.tc_model.specs.declared.entries.Entry.{Entry}
 use Rattle.tc_model.specs.declared.entries.Entry.TheVariants.{Called, Gave, Looked}
 
+-- the operation is served at once
+abbrev pub IsImmediate : Op → Type 0
+IsImmediate (Out t) = Unit {0}
+IsImmediate (In t) = ⊥
+IsImmediate (Rd t) = ⊥
+IsImmediate (Inp t) = Unit {0}
+IsImmediate (Rdp t) = Unit {0}
+IsImmediate (SetSpec clauses) = Unit {0}
+IsImmediate GetSpec = Unit {0}
+
 -- the entry is no call that may have to wait
 abbrev pub NeverWaits : Entry → Type 0
-NeverWaits (Called id (In t) result items) = ⊥
-NeverWaits (Called id (Rd t) result items) = ⊥
-NeverWaits entry = Unit {0}
+NeverWaits (Called id op result items) = IsImmediate op
+NeverWaits (Gave id result items) = Unit {0}
+NeverWaits (Looked id asked reply) = Unit {0}
 
 -- the entry answers no request that waited
 abbrev pub GivesNothing : Entry → Type 0
+GivesNothing (Called id op result items) = Unit {0}
 GivesNothing (Gave id result items) = ⊥
-GivesNothing entry = Unit {0}
+GivesNothing (Looked id asked reply) = Unit {0}
 
 -- a request of this call is among the requests
 pub record HasRequest (id : CallId) (requests : List Request) : Type 0 where

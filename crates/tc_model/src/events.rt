@@ -1,5 +1,7 @@
 //! Events that trigger reactions, and in whose name and where reactions run.
-ghost use Rattle.std.specs.Prelude.{◌≡◌, IfOk};
+ghost use Rattle.std.specs.Prelude.{◌≡◌, IfOk, IfSome, IfNone};
+ghost use Rattle.tc_model.specs.Events.{op_name};
+ghost use Rattle.tc_model.specs.declared.events.EventOp.{EventOp};
 
 use std::alloc::Global;
 use std::marker::Model;
@@ -19,6 +21,46 @@ pub enum EventOp {
     RdR,
     /// No event is of this operation: a clause with this head is never triggered.
     NoR,
+}
+
+impl EventOp {
+    ghost use Rattle.tc_model.specs.Events.{op_name};
+
+    /// Its name, as heads, goals and `current_op` write it.
+    pub fn name(&self) -> &'static [u8]
+        ensures { result.now ≡ op_name self.now }
+    {
+        match self {
+            EventOp::Out => b"out",
+            EventOp::In => b"in",
+            EventOp::Rd => b"rd",
+            EventOp::Inp => b"inp",
+            EventOp::Rdp => b"rdp",
+            EventOp::OutR => b"out_r",
+            EventOp::InR => b"in_r",
+            EventOp::RdR => b"rd_r",
+            EventOp::NoR => b"no_r",
+        }
+    }
+}
+
+/// The operation of this name, if there is one. No memory is taken.
+pub fn event_op_of(name: &Name) -> Option<EventOp>
+    ensures found { IfSome result (λ o. op_name o ≡ name.now) }
+    ensures none { IfNone result ((o : EventOp) → op_name o ≡ name.now → ⊥) }
+{
+    match name.bytes() {
+        b"out" => Some(EventOp::Out),
+        b"in" => Some(EventOp::In),
+        b"rd" => Some(EventOp::Rd),
+        b"inp" => Some(EventOp::Inp),
+        b"rdp" => Some(EventOp::Rdp),
+        b"out_r" => Some(EventOp::OutR),
+        b"in_r" => Some(EventOp::InR),
+        b"rd_r" => Some(EventOp::RdR),
+        b"no_r" => Some(EventOp::NoR),
+        _ => None,
+    }
 }
 
 /// Whether a request or its answer triggers the reactions.

@@ -8,9 +8,11 @@
 mod calls;
 mod entries;
 mod events;
+mod faults;
 mod goals;
 mod items;
 mod laws;
+mod limits;
 mod outcomes;
 mod reactions;
 #[cfg(test)]
@@ -18,12 +20,16 @@ mod tests;
 
 pub use calls::{CallId, Op, Request};
 pub use entries::Entry;
-pub use events::{Context, Event, EventOp, Phase, Sign};
+pub use events::{Context, Event, EventOp, Phase, Sign, event_op_of};
+pub use faults::{BadSpec, SpecCause};
 pub use goals::Goal;
 pub use items::{Effect, Item};
 pub use laws::{
     beginning_is_run, entries_fix_the_state, first_run_is_run, nothing_waits_uncalled,
     numbers_rise, reply_stays, run_is_well_formed, waiting_calls_have_no_reply, weights_add,
+};
+pub use limits::{
+    MOST_BUDGET, MOST_CLAUSES, MOST_GOALS, MOST_NAME_BYTES, MOST_TUPLES, MOST_WEIGHT,
 };
 pub use outcomes::{Outcome, Reply};
 pub use reactions::{Clauses, Reaction};

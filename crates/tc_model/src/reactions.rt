@@ -3,6 +3,7 @@ ghost use Rattle.std.specs.Prelude.{◌≡◌, ◌<◌, ◌++◌, ◌∷◌, [],
 
 use crate::events::EventOp;
 use crate::goals::Goal;
+use crate::limits::MOST_CLAUSES;
 use std::alloc::Global;
 use std::marker::Model;
 use tc_lists::NoMemory;
@@ -29,11 +30,11 @@ impl Model for Reaction {
 
     ghost coded = { Prim.hlevel (codes, coded_tree, coded_trees) };
 
-    ghost use Rattle.tc_model.specs.ReactionViews.{rule_of, IsKept};
+    ghost use Rattle.tc_model.specs.ReactionViews.{rule_of, IsReaction};
 
     ghost view = { rule_of };
 
-    ghost invariant = { IsKept };
+    ghost invariant = { IsReaction };
 }
 
 impl Reaction {
@@ -55,21 +56,24 @@ impl Reaction {
 
     /// How many variables there are.
     pub fn vars(&self) -> u32
-        ensures { result ≡ self.now.vars }
+        ensures vars { result ≡ self.now.vars }
+        ensures rule { IsRule self.now }
     {
         self.vars
     }
 
     /// The operation whose events trigger the reaction.
     pub fn op(&self) -> EventOp
-        ensures { result ≡ self.now.op }
+        ensures op { result ≡ self.now.op }
+        ensures rule { IsRule self.now }
     {
         self.op
     }
 
     /// What the event's term is to meet.
     pub fn head(&self) -> &Term
-        ensures { tree_of result.now ≡ self.now.head }
+        ensures head { tree_of result.now ≡ self.now.head }
+        ensures rule { IsRule self.now }
     {
         &self.head
     }
@@ -113,10 +117,10 @@ pub struct Clauses {
 }
 
 impl Model for Clauses {
-    ghost use Rattle.std.specs.Prelude.{◌≤◌, List, length};
+    ghost use Rattle.std.specs.Prelude.{List};
     ghost use Rattle.std.specs.Coded.{codes};
     ghost use Rattle.tc_term.specs.TreeCode.{coded_tree, coded_trees};
-    ghost use Rattle.tc_model.specs.Reactions.{Rule};
+    ghost use Rattle.tc_model.specs.Reactions.{Rule, AreClauses};
 
     ghost Value = { List Rule };
 
@@ -124,11 +128,11 @@ impl Model for Clauses {
 
     ghost view = { λ c. c.items.items };
 
-    ghost invariant = { λ c. length c.items.items ≤ 1000 };
+    ghost invariant = { λ c. AreClauses c.items.items };
 }
 
 impl Clauses {
-    ghost use Rattle.std.specs.Prelude.{◌≤◌};
+    ghost use Rattle.tc_model.specs.Reactions.{AreClauses};
 
     /// No clause.
     pub fn new(alloc: Global) -> Clauses
@@ -141,10 +145,11 @@ impl Clauses {
 
     /// Appends a clause.
     pub fn push(&mut self, reaction: Reaction) -> Result<(), NoMemory>
-        requires { length self.old < 1000 }
+        requires { length self.old < MOST_CLAUSES }
         ensures ok { OnOk result (self.new ≡ self.old ++ reaction ∷ []) }
         ensures err { OnErr result (self.new ≡ self.old) }
     {
+        let _op = reaction.op();
         self.items.push(reaction)?;
         Ok(())
     }
@@ -152,7 +157,7 @@ impl Clauses {
     /// The clauses, in order.
     pub fn items(&self) -> &[Reaction]
         ensures items { result.now ≡ self.now }
-        ensures few { length self.now ≤ 1000 }
+        ensures clauses { AreClauses self.now }
     {
         &self.items
     }

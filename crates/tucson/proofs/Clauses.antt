@@ -22,21 +22,21 @@ none_waits e first triggers =
 
 -- where nothing waits, nothing is picked
 none_picked : (choice : Choice) (setting : Setting) (items : List Item) (w end : Wave)
-    → w.waiting ≡ [] → Cascades choice [] setting items w end → (items ≡ []) × (end.waiting ≡ [])
-none_picked choice setting [] w end none cascades = (refl, ap (λ v. v.waiting) cascades ∙ none)
+    → w.triggered ≡ [] → Cascades choice [] setting items w end → (items ≡ []) × (end.triggered ≡ [])
+none_picked choice setting [] w end none cascades = (refl, ap (λ v. v.triggered) cascades ∙ none)
 none_picked choice setting (i ∷ items) w end none cascades =
     let tried = cascades.1 in
-    let within : tried.place < length w.waiting = slice_get_within w.waiting tried.place tried.member tried.picked in
+    let within : tried.place < length w.triggered = slice_get_within w.triggered tried.place tried.member tried.picked in
     absurd (omega (arith, within, ap length none))
 
 module _ (choice : Choice) (setting : Setting) (budget : ℕ) (e : Occurrence) (tuples : List Tree) (items : List Item) where
-  none_begins : (end : Wave) → Begins choice [] setting e tuples items end → (items ≡ []) × (end.waiting ≡ [])
+  none_begins : (end : Wave) → Begins choice [] setting e tuples items end → (items ≡ []) × (end.triggered ≡ [])
   none_begins end begins =
-      none_picked choice setting items (record { tuples = tuples; waiting = begins.first }) end
+      none_picked choice setting items (record { tuples = tuples; triggered = begins.first }) end
       (none_waits e begins.first begins.triggers) begins.cascades
 
   pub IsWhole-none : IsWhole choice [] setting budget e tuples items → items ≡ []
   IsWhole-none whole = (none_begins whole.end whole.begins).0
 
   pub IsOver-none : IsOver choice [] setting budget e tuples items → ⊥
-  IsOver-none over = over.waits (none_begins over.end over.begins).1
+  IsOver-none over = over.left (none_begins over.end over.begins).1
