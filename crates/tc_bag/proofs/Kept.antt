@@ -5,10 +5,10 @@ use Rattle.std.proofs.lemmas.Bool.{eq-eqb, ne_eqb}
 use Rattle.std.proofs.lemmas.List.{drop_more, get_or_at}
 use Rattle.std.proofs.lemmas.List.Elements.{All-nil, All-head, All-tail, All-weaker, All-append, All-cons, All-map, All-filter, filter_passes}
 use Rattle.tc_lists.specs.Firsts.{NoneOf, IsFirst}
-use Rattle.tc_bag.specs.declared.key.Key.{Key}
+use Rattle.tc_term.specs.Tree.{Tree}
 use Rattle.tc_bag.specs.declared.slots.Slot.{Slot}
-use Rattle.tc_bag.specs.Stock.{Row, Rises, IsCandidate, tuples_of, tuple_at}
-use Rattle.tc_bag.specs.Slots.{row_of, is_there, rows_now, InOrder, IsThereWith, IsPlaceOf, retaken}
+use Rattle.tc_bag.specs.Stock.{Row, Rises, tuples_of, tuple_at}
+use Rattle.tc_bag.specs.Slots.{row_of, is_there, rows_now, InOrder, IsPlaceOf, retaken}
 use Rattle.tc_bag.proofs.Firsts.{NoneOf-from_All, All-from_NoneOf, All-front, All-back, kept-at, split_read, filter-all}
 use Rattle.tc_bag.proofs.Ages.{IsOther, tuple_at-at, others_before}
 
@@ -92,11 +92,19 @@ NoneOf-rows_now P slots none =
     (λ k d inside. All-filter is_there (λ s. IsTrue (is_there s) → P (row_of s) → ⊥) slots none k d inside
     (filter_passes is_there slots k d inside)))
 
+-- the row is there, and its tuple has the property
+abbrev pub ThereWith : (Tree → Type 0) → Slot → Type 0
+ThereWith P s = IsTrue (is_there s) × P s.tuple
+
+-- the row's age is at least this number, and its tuple has the property
+abbrev pub CandidateWith : (Tree → Type 0) → ℕ → Row → Type 0
+CandidateWith P from r = (from ≤ r.age) × P r.tuple
+
 -- the first slot at or behind a place that is there and agrees is the first candidate, where those before it are older
-pub IsFirst-candidate : (key : Key) (from : ℕ) (slots front rest : List Slot) (s : Slot)
+pub IsFirst-candidate : (P : Tree → Type 0) (from : ℕ) (slots front rest : List Slot) (s : Slot)
     → slots ≡ front ++ rest → All (λ t. t.age < from) front → All (λ t. from ≤ t.age) rest
-    → IsFirst (IsThereWith key) rest s → IsFirst (IsCandidate key from) (rows_now slots) (row_of s)
-IsFirst-candidate key from slots front rest s parts older late first =
+    → IsFirst (ThereWith P) rest s → IsFirst (CandidateWith P from) (rows_now slots) (row_of s)
+IsFirst-candidate P from slots front rest s parts older late first =
     let before = front ++ first.before in
     let whole : slots ≡ before ++ s ∷ first.behind =
     parts ∙ ap (λ ys. front ++ ys) first.split ∙ sym (append_assoc front first.before (s ∷ first.behind)) in
@@ -111,26 +119,26 @@ IsFirst-candidate key from slots front rest s parts older late first =
             (All-back (λ t. from ≤ t.age) first.before (s ∷ first.behind) late_split),
         first.has.1,
       );
-      none = NoneOf-rows_now (IsCandidate key from) before
-          (All-append (λ t. IsTrue (is_there t) → IsCandidate key from (row_of t) → ⊥) front first.before
-          (All-weaker (λ t. t.age < from) (λ t. IsTrue (is_there t) → IsCandidate key from (row_of t) → ⊥)
+      none = NoneOf-rows_now (CandidateWith P from) before
+          (All-append (λ t. IsTrue (is_there t) → CandidateWith P from (row_of t) → ⊥) front first.before
+          (All-weaker (λ t. t.age < from) (λ t. IsTrue (is_there t) → CandidateWith P from (row_of t) → ⊥)
           (λ t younger there candidate. absurd (omega (arith, younger, candidate.0))) front older)
-          (All-weaker (λ t. IsThereWith key t → ⊥) (λ t. IsTrue (is_there t) → IsCandidate key from (row_of t) → ⊥)
+          (All-weaker (λ t. ThereWith P t → ⊥) (λ t. IsTrue (is_there t) → CandidateWith P from (row_of t) → ⊥)
           (λ t never there candidate. never (there, candidate.1)) first.before
-          (All-from_NoneOf (IsThereWith key) first.before first.none)));
+          (All-from_NoneOf (ThereWith P) first.before first.none)));
     }
 
-pub NoneOf-candidate : (key : Key) (from : ℕ) (slots front rest : List Slot)
-    → slots ≡ front ++ rest → All (λ t. t.age < from) front → NoneOf (IsThereWith key) rest
-    → NoneOf (IsCandidate key from) (rows_now slots)
-NoneOf-candidate key from slots front rest parts older none =
-    subst (λ ss. NoneOf (IsCandidate key from) (rows_now ss)) (sym parts)
-    (NoneOf-rows_now (IsCandidate key from) (front ++ rest)
-    (All-append (λ t. IsTrue (is_there t) → IsCandidate key from (row_of t) → ⊥) front rest
-    (All-weaker (λ t. t.age < from) (λ t. IsTrue (is_there t) → IsCandidate key from (row_of t) → ⊥)
+pub NoneOf-candidate : (P : Tree → Type 0) (from : ℕ) (slots front rest : List Slot)
+    → slots ≡ front ++ rest → All (λ t. t.age < from) front → NoneOf (ThereWith P) rest
+    → NoneOf (CandidateWith P from) (rows_now slots)
+NoneOf-candidate P from slots front rest parts older none =
+    subst (λ ss. NoneOf (CandidateWith P from) (rows_now ss)) (sym parts)
+    (NoneOf-rows_now (CandidateWith P from) (front ++ rest)
+    (All-append (λ t. IsTrue (is_there t) → CandidateWith P from (row_of t) → ⊥) front rest
+    (All-weaker (λ t. t.age < from) (λ t. IsTrue (is_there t) → CandidateWith P from (row_of t) → ⊥)
     (λ t younger there candidate. absurd (omega (arith, younger, candidate.0))) front older)
-    (All-weaker (λ t. IsThereWith key t → ⊥) (λ t. IsTrue (is_there t) → IsCandidate key from (row_of t) → ⊥)
-    (λ t never there candidate. never (there, candidate.1)) rest (All-from_NoneOf (IsThereWith key) rest none))))
+    (All-weaker (λ t. ThereWith P t → ⊥) (λ t. IsTrue (is_there t) → CandidateWith P from (row_of t) → ⊥)
+    (λ t never there candidate. never (there, candidate.1)) rest (All-from_NoneOf (ThereWith P) rest none))))
 
 -- the rows round a place
 pub rows_now-place : (age : ℕ) (slots : List Slot) (place : ℕ) (at : IsPlaceOf age slots place)

@@ -1,10 +1,10 @@
 -- How a bag keeps its rows: each in a slot, which stays while a mark may bring its row back.
-use Rattle.std.specs.Prelude.{◌≡◌, ℕ, ◌+◌, ◌<◌, ◌≤◌, ◌==◌, ◌&&◌, ◌||◌, nat_lt, min, Bool, IsTrue, if◌then◌else◌, List, [], ◌∷◌, ◌++◌, length, map, filter, All}
-use Rattle.tc_term.specs.Tree.{IsTuple}
+use Rattle.std.specs.Prelude.{◌≡◌, ℕ, ◌+◌, ◌<◌, ◌≤◌, ◌==◌, ◌&&◌, ◌||◌, nat_lt, min, Bool, IsTrue, if◌then◌else◌, List, [], ◌∷◌, ◌++◌, length, map, filter, All, Option}
+use Rattle.tc_term.specs.Tree.{Tree, IsTuple}
 use Rattle.tc_bag.specs.declared.key.Key.{Key}
 use Rattle.tc_bag.specs.declared.slots.Slot.{Slot}
 use Rattle.tc_bag.specs.declared.slots.Mark.{Mark}
-use Rattle.tc_bag.specs.Keys.{Agrees}
+use Rattle.tc_bag.specs.Keys.{IsLike}
 use Rattle.tc_bag.specs.Stock.{Row, Saved, Stock}
 
 -- the row in a slot
@@ -88,9 +88,9 @@ pub record IsNoted (age : ℕ) (old new : List Mark) : Type 0 where
   pub last : (before : List Mark) (top : Mark) → old ≡ before ++ top ∷ []
       → new ≡ before ++ record top { oldest = min top.oldest age } ∷ []
 
--- the row is there, and its tuple agrees with the key
-abbrev pub IsThereWith : Key → Slot → Type 0
-IsThereWith key s = IsTrue (is_there s) × Agrees key s.tuple
+-- the row is there, its tuple agrees with the key and has this first argument, where one is given
+abbrev pub IsThereLike : Key → Option Tree → Slot → Type 0
+IsThereLike key first s = IsTrue (is_there s) × IsLike key first s.tuple
 
 -- the row of this age stands at this place, and is there
 pub record IsPlaceOf (age : ℕ) (slots : List Slot) (place : ℕ) : Type 0 where

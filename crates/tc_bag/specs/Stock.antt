@@ -2,7 +2,7 @@
 use Rattle.std.specs.Prelude.{◌≡◌, ℕ, ◌+◌, ◌<◌, ◌≤◌, ◌==◌, if◌then◌else◌, List, [], ◌∷◌, ◌++◌, map, All, Option, Some, None}
 use Rattle.tc_term.specs.Tree.{Tree}
 use Rattle.tc_bag.specs.declared.key.Key.{Key}
-use Rattle.tc_bag.specs.Keys.{Agrees}
+use Rattle.tc_bag.specs.Keys.{Agrees, IsLike}
 
 -- a tuple with its age, a number that rises from tuple to tuple
 pub record Row : Type 0 where
@@ -37,6 +37,10 @@ Rises (r ∷ rs) next = (r.age < next) × All (λ s. r.age < s.age) rs × Rises 
 -- the row's age is at least this number, and its tuple agrees with the key
 abbrev pub IsCandidate : Key → ℕ → Row → Type 0
 IsCandidate key from row = (from ≤ row.age) × Agrees key row.tuple
+
+-- the same, and the tuple has this first argument, where one is given
+abbrev pub IsCandidateLike : Key → Option Tree → ℕ → Row → Type 0
+IsCandidateLike key first from row = (from ≤ row.age) × IsLike key first row.tuple
 
 -- the tuple of the first row of this age
 abbrev pub tuple_at : ℕ → List Row → Option Tree

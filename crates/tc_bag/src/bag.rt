@@ -1,15 +1,16 @@
 //! The bag.
 use crate::key::Key;
-use crate::rows::{count, first_with, go_back, note, nth, place_from, place_of, settle, take_at};
+use crate::rows::{count, first_like, go_back, note, nth, place_from, place_of, settle, take_at};
 use crate::slots::{Mark, Slot};
 use std::alloc::Global;
 use std::marker::Model;
 use tc_lists::NoMemory;
-use tc_term::Ground;
+use tc_term::{Ground, Term};
 
 /// Why a tuple was not put. It is given back.
-#[derive(Debug, Drop)]
+#[derive(Debug, Drop, thiserror::Error)]
 pub enum PutFault {
+    #[error("no memory for another tuple")]
     NoMemory(Ground),
 }
 
@@ -41,10 +42,11 @@ impl Model for Bag {
 
 impl Bag {
     ghost use Rattle.std.specs.Prelude.{◌≡◌, ◌^◌, ◌<◌, [], length, slice_get, All, OnOk, OnErr, IfErr, IfSome, IfNone};
-    ghost use Rattle.std.specs.Option.{option_copied};
+    ghost use Rattle.std.specs.Option.{option_copied, option_map};
     ghost use Rattle.tc_lists.specs.Firsts.{NoneOf, IsFirst};
     ghost use Rattle.tc_term.specs.Tree.{IsTuple};
-    ghost use Rattle.tc_bag.specs.Stock.{row, tuples_of, Rises, IsCandidate, tuple_at, without_age, with_tuple, marked, IsUndone, IsKept};
+    ghost use Rattle.tc_term.specs.TreeView.{tree_of};
+    ghost use Rattle.tc_bag.specs.Stock.{row, tuples_of, Rises, IsCandidate, IsCandidateLike, tuple_at, without_age, with_tuple, marked, IsUndone, IsKept};
 
     /// No tuple and no mark. The first tuple that is put has the age 0.
     pub fn new(alloc: Global) -> Bag
@@ -59,8 +61,7 @@ impl Bag {
 
     /// The oldest tuple that agrees with the key and whose age is at least `from`, with its age.
     ///
-    /// No memory is taken. Takes O(log rows) time to come to `from`, and O(1) for each row from
-    /// there on, but for names.
+    /// No memory is taken.
     pub fn candidate(&self, key: &Key, from: u64) -> Option<(u64, &Ground)>
         ensures found { IfSome result
             (λ r. IsFirst (IsCandidate key.now from) self.now.now (row r.0 r.1.now)) }
@@ -71,10 +72,35 @@ impl Bag {
         ensures limit { self.now.next < 2 ^ 64 }
         ensures tuples { All (λ r. IsTuple r.tuple) self.now.now }
     {
+        self.candidate_like(key, None, from)
+    }
+
+    /// The oldest tuple that agrees with the key, has this first argument where one is given, and
+    /// whose age is at least `from`, with its age.
+    ///
+    /// No memory is taken.
+    pub fn candidate_like(
+        &self,
+        key: &Key,
+        first: Option<&Term>,
+        from: u64,
+    ) -> Option<(u64, &Ground)>
+        ensures found { IfSome result (λ r. IsFirst
+            (IsCandidateLike key.now (option_map (λ term. tree_of term.now) first.entry) from)
+            self.now.now (row r.0 r.1.now)) }
+        ensures none { IfNone result (NoneOf
+            (IsCandidateLike key.now (option_map (λ term. tree_of term.now) first.entry) from)
+            self.now.now) }
+
+        // What a search needs that goes on from the age found.
+        ensures rises { Rises self.now.now self.now.next }
+        ensures limit { self.now.next < 2 ^ 64 }
+        ensures tuples { All (λ r. IsTuple r.tuple) self.now.now }
+    {
         // Reading it tells that it is a number of 64 bits.
         let _next = self.next;
         let start = place_from(&self.slots, from);
-        let slot = first_with(&self.slots[start..], key)?;
+        let slot = first_like(&self.slots[start..], key, first)?;
         Some((slot.age, &slot.tuple))
     }
 
@@ -119,6 +145,24 @@ impl Bag {
             return Err(PutFault::NoMemory(failed.value.tuple));
         }
         self.next += 1;
+        Ok(())
+    }
+
+    /// As `put`, but where memory ends the tuple is dropped.
+    pub fn add(&mut self, tuple: Ground) -> Result<(), NoMemory>
+        requires { self.old.next < u64.MAX }
+        ensures put { OnOk result (self.new ≡ with_tuple self.old tuple) }
+        ensures same { OnErr result (self.new ≡ self.old) }
+    {
+        // The tuple shows that it is one, which each slot keeps.
+        let _term = tuple.term();
+        let age = self.next;
+        self.slots.push(Slot {
+            age,
+            tuple,
+            taken: 0,
+        })?;
+        self.next = age + 1;
         Ok(())
     }
 

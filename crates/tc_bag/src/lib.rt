@@ -13,5 +13,6 @@ mod slots;
 mod tests;
 
 pub use bag::{Bag, PutFault};
-pub use key::Key;
-pub use laws::matching_tuple_agrees;
+pub use key::{Key, known_first};
+pub use laws::{matching_tuple_agrees, matching_tuple_has_first};
+pub use tc_lists::NoMemory;

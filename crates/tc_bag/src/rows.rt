@@ -1,12 +1,14 @@
 //! Finding, taking and bringing back rows in slots.
 ghost use Rattle.std.specs.Prelude.{◌≡◌, ◌<◌, ◌≤◌, ◌-◌, ◌∷◌, ◌++◌, List, IsTrue, IfSome, IfNone, All, length, take, drop, map, filter, slice_get, vec_len};
-ghost use Rattle.std.specs.Option.{option_copied};
+ghost use Rattle.std.specs.Option.{option_copied, option_map};
 ghost use Rattle.tc_lists.specs.Firsts.{NoneOf, IsFirst};
+ghost use Rattle.tc_term.specs.TreeView.{tree_of};
 ghost use Rattle.tc_bag.specs.declared.slots.Slot.{Slot};
-ghost use Rattle.tc_bag.specs.Slots.{InOrder, IsBound, IsNoted, IsThereWith, IsPlaceOf, is_there, is_older, taken_from, retaken, stays};
+ghost use Rattle.tc_bag.specs.Slots.{InOrder, IsBound, IsNoted, IsThereLike, IsPlaceOf, is_there, is_older, taken_from, retaken, stays};
 
-use crate::key::Key;
+use crate::key::{Key, is_like};
 use crate::slots::{Mark, Slot};
+use tc_term::Term;
 
 /// The first place whose age is at least this one.
 pub(crate) fn place_from(slots: &[Slot], age: u64) -> usize
@@ -33,13 +35,15 @@ pub(crate) fn place_of(slots: &[Slot], age: u64) -> Option<usize>
     }
 }
 
-/// The first row that is there and agrees with the key.
-pub(crate) fn first_with<'a>(slots: &'a [Slot], key: &Key) -> Option<&'a Slot>
-    ensures found { IfSome result (λ s. IsFirst (IsThereWith key.now) slots.now s.now) }
-    ensures none { IfNone result (NoneOf (IsThereWith key.now) slots.now) }
+/// The first row that is there, agrees with the key and has this first argument, where one is given.
+pub(crate) fn first_like<'a>(slots: &'a [Slot], key: &Key, first: Option<&Term>) -> Option<&'a Slot>
+    ensures found { IfSome result (λ s. IsFirst
+        (IsThereLike key.now (option_map (λ term. tree_of term.now) first.entry)) slots.now s.now) }
+    ensures none { IfNone result (NoneOf
+        (IsThereLike key.now (option_map (λ term. tree_of term.now) first.entry)) slots.now) }
 {
     for slot in slots {
-        if slot.taken == 0 && key.agrees(&slot.tuple) {
+        if slot.taken == 0 && is_like(key, first, &slot.tuple) {
             return Some(slot);
         }
     }
