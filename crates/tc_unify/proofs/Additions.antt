@@ -1,11 +1,11 @@
 -- An addition is kept, or taken back so that all is as before.
 use Rattle.std.proofs.Common.{◌+◌, ◌≡◌, ℕ, zero, suc, ◌-◌, ◌<◌, ◌≤◌, inl, inr, List, [], ◌∷◌, ◌++◌, length, reverse, take, drop, refl, sym, ap, ap₂, ◌∙◌, subst, arith, All, append-nil, length-append, length-take}
-use Rattle.std.specs.Prelude.{Some, Option, Result, Ok, IfOk, IfSome}
+use Rattle.std.specs.Prelude.{Some}
 use Rattle.std.proofs.Math.Path.{fun_ext}
 use Rattle.std.proofs.Math.ListN.{get_or-eq_default}
 use Rattle.std.proofs.Math.Seq.{drop-append_seam, take-append_seam}
-use Rattle.std.proofs.lemmas.List.{map-append, reverse-append, take-append-drop}
-use Rattle.std.proofs.lemmas.List.Elements.{All-nil, All-cons, All-pop, All-weaker, All-drop}
+use Rattle.std.proofs.lemmas.List.{map-append, reverse-append}
+use Rattle.std.proofs.lemmas.List.Elements.{All-nil, All-pop, All-weaker, All-drop}
 use Rattle.tc_term.specs.Tree.{Tree, Variable}
 use Rattle.tc_term.specs.Variables.{raised}
 use Rattle.tc_term.proofs.Instances.{instance-instance}
@@ -17,19 +17,17 @@ use Rattle.tc_unify.specs.declared.links.Links.{Links}
 use Rattle.tc_unify.specs.declared.sizes.Sizes.{Sizes}
 use Rattle.tc_unify.specs.declared.sizes.Added.{Added}
 use Rattle.tc_unify.specs.Nodes.{label}
-use Rattle.tc_unify.specs.Solutions.{Means, NeverMeets, IsSolution, equations_of}
+use Rattle.tc_unify.specs.Solutions.{Means, NeverMeets, IsSolution, Demands}
 use Rattle.tc_unify.specs.Values.{AreSolved}
-use Rattle.tc_unify.specs.Arena.{IsArena, HasLinkIn, IsNodeOf, IsNodeFor, Grows, Begins, shape_in, shape_of, node_tree}
+use Rattle.tc_unify.specs.Arena.{IsArena, HasLinkIn, Grows, shape_of}
 use Rattle.tc_unify.specs.Tables.{link_of, rewound, HasNode, Extends}
 use Rattle.tc_unify.specs.Cuts.{IsCut}
 use Rattle.tc_unify.specs.Meeting.{IsLinked}
-use Rattle.tc_unify.specs.Stores.{pairs_of, IsLevel, AreLevels, equations_in, IsStore, IsGrown, IsAdded, NeverAdds}
-use Rattle.tc_unify.proofs.Labels.{instance-label}
-use Rattle.tc_unify.proofs.Arenas.{Begins-append, inside_grows}
+use Rattle.tc_unify.specs.Stores.{equation_of, said_of, IsLevel, AreLevels, IsStore, IsGrown, IsAdded, NeverAdds}
 use Rattle.tc_unify.proofs.Tables.{link_in-term}
 use Rattle.tc_unify.proofs.Meetings.{place_of}
-use Rattle.tc_unify.proofs.Solutions.{Solves-holds, Solves-from_holds}
-use Rattle.tc_unify.proofs.Growing.{level_of, Means-grows, equations-grow, IsLinked-grown, past_tables, AreLevels-same, pairs_backward, pairs_forward}
+use Rattle.tc_unify.specs.Splits.{AreEqual, Always, Asks, NeverAsks}
+use Rattle.tc_unify.proofs.Growing.{level_of, Means-grows, IsLinked-grown, past_tables, AreLevels-same, said_backward, said_forward}
 
 module _ (a : Arena) (l : Links) (added : List Added) (store : IsStore a l added) where
   pub newest : IsLevel a.variables a.nodes.items a.text.items (link_of l) l.trail.items (reverse added)
@@ -45,60 +43,47 @@ module _ (a : Arena) (l : Links) (added : List Added) (store : IsStore a l added
     trail = newest.trail_nodes;
   }
 
-  pair_nodes : All (λ p. IsNodeOf a p.0 × IsNodeOf a p.1) (pairs_of added)
-  pair_nodes = pairs_forward (λ p. IsNodeOf a p.0 × IsNodeOf a p.1) added newest.pair_nodes
-
   -- the solutions of the equations are those of the links
-  pub store_solution : (v : List Tree) → Solves a.variables (equations_in a added) v → IsSolution a.variables (shape_of a) (link_of l) v
+  pub store_solution : (v : List Tree) → Solves a.variables (said_of added) v → IsSolution a.variables (shape_of a) (link_of l) v
   store_solution v solves = record {
     valuation = record { whole = solves.whole; ground = solves.ground };
-    respects = newest.means.says (at v)
-        (pairs_backward (λ p. label (shape_of a) (at v) p.0 ≡ label (shape_of a) (at v) p.1) added
-        (Solves-holds a.variables (shape_of a) newest.arena.order (pairs_of added) v solves));
+    respects = newest.means.says (at v) (said_backward (λ e. under v e.0 ≡ under v e.1) added solves.equal);
   }
 
-  pub solution_solves : (v : List Tree) → IsSolution a.variables (shape_of a) (link_of l) v → Solves a.variables (equations_in a added) v
-  solution_solves v solution =
-      Solves-from_holds a.variables (shape_of a) newest.arena.order (pairs_of added) v solution.valuation
-      (pairs_forward (λ p. label (shape_of a) (at v) p.0 ≡ label (shape_of a) (at v) p.1) added (newest.means.said (at v) solution.respects))
+  pub solution_solves : (v : List Tree) → IsSolution a.variables (shape_of a) (link_of l) v → Solves a.variables (said_of added) v
+  solution_solves v solution = record {
+    whole = solution.valuation.whole;
+    ground = solution.valuation.ground;
+    equal = said_forward (λ e. under v e.0 ≡ under v e.1) added (newest.means.said (at v) solution.respects);
+  }
 
   -- the equations of a store are solvable
-  pub store_solvable : Solvable a.variables (equations_in a added)
+  pub store_solvable : Solvable a.variables (said_of added)
   store_solvable = record { valuation = newest.means.solution; solves = solution_solves newest.means.solution newest.means.solves }
 
   pub store_solved : AreSolved a l
   store_solved = record { linked = store_linked; alike = newest.means.alike; solution = newest.means.solution; solves = newest.means.solves }
 
   module _ (b : Arena) (grown : IsArena b) (grows : Grows a b) where
-    pub equations_kept : equations_in b added ≡ equations_in a added
-    equations_kept = equations-grow a b (link_of l) (pairs_of added) newest.arena grown grows newest.inside newest.past pair_nodes
-
-    means_before : Means a.variables (shape_of b) (link_of l) (pairs_of (reverse added))
-    means_before = Means-grows a b (link_of l) (pairs_of (reverse added)) newest.arena grown grows newest.inside newest.past newest.pair_nodes newest.means
+    means_before : Means a.variables (shape_of b) (link_of l) (said_of (reverse added))
+    means_before = Means-grows a b (link_of l) (said_of (reverse added)) newest.arena grown grows newest.inside newest.past newest.means
 
     module _ (m : Links) (link : (k : ℕ) → link_of m k ≡ link_of l k) where
-      pub means_prepared : Means b.variables (shape_of b) (link_of m) (pairs_of (reverse added))
+      pub means_prepared : Means b.variables (shape_of b) (link_of m) (said_of (reverse added))
       means_prepared =
-          subst (λ n. Means n (shape_of b) (link_of m) (pairs_of (reverse added))) (sym grows.variables)
-          (subst (λ f. Means a.variables (shape_of b) f (pairs_of (reverse added))) (sym (fun_ext link)) means_before)
+          subst (λ n. Means n (shape_of b) (link_of m) (said_of (reverse added))) (sym grows.variables)
+          (subst (λ f. Means a.variables (shape_of b) f (said_of (reverse added))) (sym (fun_ext link)) means_before)
 
       pub linked_prepared : m.trail.items ≡ l.trail.items → length m.terms.items ≡ length b.nodes.items → length m.variables.items ≡ length l.variables.items → IsLinked b m
       linked_prepared trail terms variables =
-          IsLinked-grown a b l m (pairs_of added) newest.arena grown grows newest.linked newest.inside newest.past newest.trail_nodes link trail terms (variables ∙ store.variables)
+          IsLinked-grown a b l m newest.arena grown grows newest.linked newest.inside newest.past newest.trail_nodes link trail terms (variables ∙ store.variables)
 
       -- no trees make the nodes equal, so no valuation makes the terms equal
-      pub never_adds : (pair : ℕ × ℕ) (s t : Tree) → IsNodeFor b pair.0 s → IsNodeFor b pair.1 t → NeverMeets (shape_of b) (link_of m) pair → NeverAdds a added s t
-      never_adds pair s t left right never solvable =
+      pub never_adds : (asked : List (ℕ × ℕ)) (s t : Tree) → Demands (shape_of b) s t asked → NeverMeets (shape_of b) (link_of m) asked → NeverAdds a added s t
+      never_adds asked s t demands never solvable =
           let v = solvable.valuation in
-          let P : Equation → Type 0 = λ e. under v e.0 ≡ under v e.1 in
-          let parts = All-pop P (equations_in a added ++ (s, t) ∷ []) (equations_in a added) (Some (s, t)) refl solvable.solves.equal in
-          let solves : Solves a.variables (equations_in b added) v =
-          record { whole = solvable.solves.whole; ground = solvable.solves.ground; equal = subst (All P) (sym equations_kept) parts.0 } in
-          let holds = Solves-holds a.variables (shape_of b) grown.order (pairs_of added) v solves in
-          let backward = pairs_backward (λ p. label (shape_of b) (at v) p.0 ≡ label (shape_of b) (at v) p.1) added holds in
-          never (at v) (means_prepared.says (at v) backward)
-          (sym (instance-label (shape_of b) (at v) grown.order pair.0) ∙ ap (under v) left.tree ∙ parts.1
-          ∙ sym (ap (under v) right.tree) ∙ instance-label (shape_of b) (at v) grown.order pair.1)
+          let parts = All-pop (λ e. under v e.0 ≡ under v e.1) (said_of added ++ (s, t) ∷ []) (said_of added) (Some (s, t)) refl solvable.solves.equal in
+          never (at v) (means_prepared.says (at v) (said_backward (λ e. under v e.0 ≡ under v e.1) added parts.0)) (demands.forth (at v) parts.1)
 
   -- what an addition left can be taken back
   module _ (b : Arena) (m : Links) (g : IsGrown a l b m) (to : Sizes)
@@ -146,12 +131,9 @@ module _ (a : Arena) (l : Links) (added : List Added) (store : IsStore a l added
         few = subst (λ x. x < 4294967296) (sym same_variables) store.few;
       }
 
-      pub restored_equations : equations_in c added ≡ equations_in a added
-      restored_equations = ap₂ (λ ns bytes. equations_of (shape_in ns bytes) (pairs_of added)) same_nodes same_text
-
   -- an addition that is kept
-  module _ (b : Arena) (m : Links) (g : IsGrown a l b m) (pair : ℕ × ℕ) (s t : Tree) (is : IsAdded a b m added pair s t) (e : Added)
-      (pair_is : (e.left, e.right) ≡ pair)
+  module _ (b : Arena) (m : Links) (g : IsGrown a l b m) (s t : Tree) (is : IsAdded b m added s t) (e : Added)
+      (said : equation_of e ≡ (s, t))
       (nodes_to : e.before.nodes ≡ length a.nodes.items) (text_to : e.before.text ≡ length a.text.items) (trail_to : e.before.trail ≡ length l.trail.items) where
     pub kept : IsStore b m (added ++ e ∷ [])
     kept = record {
@@ -162,11 +144,7 @@ module _ (a : Arena) (l : Links) (added : List Added) (store : IsStore a l added
           inside = is.linked.inside;
           past = past_tables b m is.linked.terms is.linked.variables;
           trail_nodes = is.linked.trail;
-          pair_nodes = All-cons (λ p. IsNodeOf b p.0 × IsNodeOf b p.1) (e.left, e.right) (pairs_of (reverse added))
-              (subst (λ p. IsNodeOf b p.0 × IsNodeOf b p.1) (sym pair_is) (is.left.inside, is.right.inside))
-              (All-weaker (λ p. IsNodeOf a p.0 × IsNodeOf a p.1) (λ p. IsNodeOf b p.0 × IsNodeOf b p.1)
-              (λ p h. (inside_grows a b g.grows p.0 h.0, inside_grows a b g.grows p.1 h.1)) (pairs_of (reverse added)) newest.pair_nodes);
-          means = subst (λ p. Means b.variables (shape_of b) (link_of m) (p ∷ pairs_of (reverse added))) (sym pair_is) is.means;
+          means = subst (λ q. Means b.variables (shape_of b) (link_of m) (q ∷ said_of (reverse added))) (sym said) is.means;
         },
         AreLevels-same a.variables b.variables a.nodes.items (take e.before.nodes b.nodes.items) a.text.items (take e.before.text b.text.items)
             (link_of l) (rewound (link_of m) (drop e.before.trail m.trail.items)) l.trail.items (take e.before.trail m.trail.items) (reverse added)
@@ -179,12 +157,8 @@ module _ (a : Arena) (l : Links) (added : List Added) (store : IsStore a l added
       few = subst (λ x. x < 4294967296) (sym g.grows.variables) store.few;
     }
 
-    pub kept_equations : equations_in b (added ++ e ∷ []) ≡ equations_in a added ++ (s, t) ∷ []
-    kept_equations =
-        ap (equations_of (shape_of b)) (map-append (λ x. (x.left, x.right)) added (e ∷ []))
-        ∙ map-append (λ p. (node_tree b p.0, node_tree b p.1)) (pairs_of added) ((e.left, e.right) ∷ [])
-        ∙ ap₂ (λ (es : List Equation) (q : Equation). es ++ q ∷ []) (equations_kept b is.linked.arena g.grows)
-        (ap (λ p. (node_tree b p.0, node_tree b p.1)) pair_is ∙ ap₂ (λ (x : Tree) (y : Tree). (x, y)) is.left.tree is.right.tree)
+    pub kept_equations : said_of (added ++ e ∷ []) ≡ said_of added ++ (s, t) ∷ []
+    kept_equations = map-append equation_of added (e ∷ []) ∙ ap (λ (q : Equation). said_of added ++ q ∷ []) said
 
 -- links that were extended can be taken back
 pub IsGrown-solved : (a b : Arena) (l m n : Links) → Grows a b → ((k : ℕ) → link_of m k ≡ link_of l k) → m.trail.items ≡ l.trail.items
@@ -215,12 +189,20 @@ IsGrown-prepared a b l m grows link trail terms variables = record {
   variables = variables;
 }
 
-pub equations-length : (a : Arena) (added : List Added) → length (equations_in a added) ≡ length added
-equations-length a [] = refl
-equations-length a (e ∷ added) = let rest = equations-length a added in omega arith
+pub said-length : (added : List Added) → length (said_of added) ≡ length added
+said-length [] = refl
+said-length (e ∷ added) = let rest = said-length added in omega arith
 
-begins_take : {X : Type 0} (n : ℕ) (xs : List X) → Begins (take n xs) xs
-begins_take n xs = subst (Begins (take n xs)) (take-append-drop n xs) (Begins-append (take n xs) (drop n xs))
+-- the newest equation is the last
+pub said_newest : (added rest : List Added) (e : Added) → added ≡ rest ++ e ∷ [] → said_of rest ≡ take (length added - 1) (said_of added)
+said_newest added rest e split =
+    let count : length added - 1 ≡ length (said_of rest) =
+    (let one = ap length split in
+    let two = length-append rest (e ∷ []) in
+    let three = said-length rest in
+    omega arith) in
+    sym (take-append_seam (said_of rest) (equation_of e ∷ []))
+    ∙ ap₂ (λ i es. take i es) (sym count) (sym (ap said_of split ∙ map-append equation_of rest (e ∷ [])))
 
 -- the newest equation is taken back
 module _ (a : Arena) (l : Links) (added rest : List Added) (e : Added) (store : IsStore a l added) (split : added ≡ rest ++ e ∷ []) where
@@ -268,29 +250,6 @@ module _ (a : Arena) (l : Links) (added rest : List Added) (e : Added) (store : 
       few = subst (λ x. x < 4294967296) (sym variables) store.few;
     }
 
-    pub newest_equations : equations_in c rest ≡ take (length added - 1) (equations_in a added)
-    newest_equations =
-        let grows : Grows c a = record {
-          nodes = subst (λ ns. Begins ns a.nodes.items) (sym nodes) (begins_take e.before.nodes a.nodes.items);
-          text = subst (λ ns. Begins ns a.text.items) (sym text) (begins_take e.before.text a.text.items);
-          variables = sym variables;
-        } in
-        let count : length added - 1 ≡ length (equations_in a rest) =
-        (let one = ap length split in
-        let two = length-append rest (e ∷ []) in
-        let three = equations-length a rest in
-        omega arith) in
-        let whole : equations_in a added ≡ equations_in a rest ++ (node_tree a e.left, node_tree a e.right) ∷ [] =
-        ap (equations_in a) split ∙ ap (equations_of (shape_of a)) (map-append (λ x. (x.left, x.right)) rest (e ∷ []))
-        ∙ map-append (λ p. (node_tree a p.0, node_tree a p.1)) (pairs_of rest) ((e.left, e.right) ∷ []) in
-        sym (equations_kept c n rest newest_store a (newest a l added store).arena grows)
-        ∙ sym (take-append_seam (equations_in a rest) ((node_tree a e.left, node_tree a e.right) ∷ []))
-        ∙ ap₂ (λ i es. take i es) (sym count) (sym whole)
-
--- what an answer says of the value that it has
-pub some_added : {X E : Type 0} (r : Result (Option X) E) (o : Option X) (x : X) (P : X → Type 0) → r ≡ Ok o → o ≡ Some x → IfOk r (λ p. IfSome p P) → P x
-some_added r o x P e f h = subst (λ q. IfOk q (λ p. IfSome p P)) (e ∙ ap Ok f) h
-
 take_nil : {X : Type 0} (n : ℕ) → take {A = X} n [] ≡ []
 take_nil zero = refl
 take_nil (suc n) = refl
@@ -305,6 +264,20 @@ take_fewer (suc n) (suc m) (x ∷ xs) h = ap (λ ys. x ∷ ys) (take_fewer n m x
 pub never_equal_adds : (a : Arena) (added : List Added) (j k : ℕ) (s t : Tree) → NeverEqual s t → NeverAdds a added (raised j s) (raised k t)
 never_equal_adds a added j k s t never solvable =
     let v = solvable.valuation in
-    let equal = (All-pop (λ e. under v e.0 ≡ under v e.1) (equations_in a added ++ (raised j s, raised k t) ∷ []) (equations_in a added) (Some (raised j s, raised k t)) refl solvable.solves.equal).1 in
+    let equal = (All-pop (λ e. under v e.0 ≡ under v e.1) (said_of added ++ (raised j s, raised k t) ∷ []) (said_of added) (Some (raised j s, raised k t)) refl solvable.solves.equal).1 in
     never (λ n. at v (n + j)) (λ n. at v (n + k))
     (sym (instance-instance (at v) (λ n. Variable (n + j)) s) ∙ equal ∙ instance-instance (at v) (λ n. Variable (n + k)) t)
+
+-- neither are terms that no trees make equal
+pub never_asked : (a : Arena) (added : List Added) (s t : Tree) → NeverAsks a [] (AreEqual s t) → NeverAdds a added s t
+never_asked a added s t never solvable =
+    let v = solvable.valuation in
+    never (at v) (All-nil (λ p. label (shape_of a) (at v) p.0 ≡ label (shape_of a) (at v) p.1))
+    (All-pop (λ e. under v e.0 ≡ under v e.1) (said_of added ++ (s, t) ∷ []) (said_of added) (Some (s, t)) refl solvable.solves.equal).1
+
+-- what a walk from no pairs asks
+pub demands_asked : (a b : Arena) (s t : Tree) (asked : List (ℕ × ℕ)) → Asks a [] (AreEqual s t) b asked Always → Demands (shape_of b) s t asked
+demands_asked a b s t asked asks = record {
+  forth = λ v e. (asks.forth v (All-nil (λ p. label (shape_of a) v p.0 ≡ label (shape_of a) v p.1)) e).0;
+  back = λ v h. (asks.back v h tt).1;
+}

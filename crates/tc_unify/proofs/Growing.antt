@@ -1,11 +1,11 @@
 -- An arena that grows keeps what its links mean.
-use Rattle.std.proofs.Common.{◌≡◌, ℕ, ◌+◌, ◌<◌, ◌≤◌, ◌⊎◌, inl, inr, List, [], ◌∷◌, length, map, reverse, refl, sym, ap, ap₂, ◌∙◌, subst, arith, All}
+use Rattle.std.proofs.Common.{◌≡◌, ℕ, ◌+◌, ◌<◌, ◌≤◌, ◌⊎◌, inl, inr, List, [], ◌∷◌, length, map, reverse, refl, sym, ap, ◌∙◌, subst, arith, All}
 use Rattle.std.proofs.Math.Path.{fun_ext}
 use Rattle.std.proofs.Math.ListN.{get_or-eq_default}
 use Rattle.std.proofs.lemmas.Bool.{cases_lt}
 use Rattle.std.proofs.lemmas.List.{reverse-append}
 use Rattle.std.proofs.lemmas.List.Elements.{All-nil, All-cons, All-head, All-tail, All-push, All-weaker, All-map}
-use Rattle.tc_term.specs.Tree.{Tree, Variable}
+use Rattle.tc_term.specs.Tree.{Tree}
 use Rattle.tc_term.specs.Equations.{Equation, at}
 use Rattle.tc_unify.specs.declared.nodes.TheConstants.{FIRST_VARIABLE}
 use Rattle.tc_unify.specs.declared.nodes.Node.{Node}
@@ -13,12 +13,12 @@ use Rattle.tc_unify.specs.declared.nodes.Arena.{Arena}
 use Rattle.tc_unify.specs.declared.links.Links.{Links}
 use Rattle.tc_unify.specs.declared.sizes.Added.{Added}
 use Rattle.tc_unify.specs.Nodes.{IsTerm, tree_of_node, label}
-use Rattle.tc_unify.specs.Links.{Respects, Holds}
-use Rattle.tc_unify.specs.Solutions.{AreLinked, Means, equations_of}
+use Rattle.tc_unify.specs.Links.{Respects}
+use Rattle.tc_unify.specs.Solutions.{AreLinked, Means}
 use Rattle.tc_unify.specs.Arena.{IsInside, IsArena, IsNodeOf, HasLinkIn, Grows, shape_of}
 use Rattle.tc_unify.specs.Tables.{link_of}
 use Rattle.tc_unify.specs.Meeting.{IsLinked}
-use Rattle.tc_unify.specs.Stores.{pairs_of, IsLevel, AreLevels}
+use Rattle.tc_unify.specs.Stores.{equation_of, said_of, IsLevel, AreLevels}
 use Rattle.tc_unify.proofs.Arenas.{inside_link, Begins-length, shape_in-grows, label-grows, IsTerm-below, term_below}
 use Rattle.tc_unify.proofs.Tables.{link_in-term, link_in-variable}
 
@@ -26,11 +26,10 @@ pub level_of : (count : ℕ) (nodes : List Node) (text : List ℕ) (link : ℕ �
 level_of count nodes text link trail [] h = h
 level_of count nodes text link trail (e ∷ added) h = h.0
 
-module _ (old new : Arena) (link : ℕ → ℕ) (pairs : List (ℕ × ℕ))
+module _ (old new : Arena) (link : ℕ → ℕ) (es : List Equation)
     (arena : IsArena old) (grown : IsArena new) (grows : Grows old new)
     (inside : (k : ℕ) → IsNodeOf old k → IsNodeOf old (link k))
-    (past : (k : ℕ) → HasLinkIn old k ⊎ (link k ≡ k))
-    (nodes : All (λ p. IsNodeOf old p.0 × IsNodeOf old p.1) pairs) where
+    (past : (k : ℕ) → HasLinkIn old k ⊎ (link k ≡ k)) where
   own : (k : ℕ) → HasLinkIn old k → IsNodeOf old k
   own k h = inside_link old.nodes.items old.variables k h
 
@@ -54,15 +53,10 @@ module _ (old new : Arena) (link : ℕ → ℕ) (pairs : List (ℕ × ℕ))
         | inr e ↦ ap (label (shape_of old) v) (sym e)
       ]
 
-  both : (F G : ℕ → Tree) → ((k : ℕ) → IsNodeOf old k → F k ≡ G k) → Holds F pairs → Holds G pairs
-  both F G e h = λ k d i.
-      let p = nodes k d i in
-      sym (e _ p.0) ∙ h k d i ∙ e _ p.1
-
-  pub Means-grows : Means old.variables (shape_of old) link pairs → Means old.variables (shape_of new) link pairs
+  pub Means-grows : Means old.variables (shape_of old) link es → Means old.variables (shape_of new) link es
   Means-grows means = record {
-    says = λ v h. respects_new v (means.says v (both (label (shape_of new) v) (label (shape_of old) v) (same_label v) h));
-    said = λ v r. both (label (shape_of old) v) (label (shape_of new) v) (λ k h. sym (same_label v k h)) (means.said v (respects_old v r));
+    says = λ v h. respects_new v (means.says v h);
+    said = λ v r. means.said v (respects_old v r);
     alike = λ F r v k term.
         elim (past k) [
           | inl h ↦
@@ -75,23 +69,12 @@ module _ (old new : Arena) (link : ℕ → ℕ) (pairs : List (ℕ × ℕ))
     solves = record { valuation = means.solves.valuation; respects = respects_new (at means.solution) means.solves.respects };
   }
 
-  pub equations-grow : equations_of (shape_of new) pairs ≡ equations_of (shape_of old) pairs
-  equations-grow = by_pairs pairs nodes
-    where
-      by_pairs : (ps : List (ℕ × ℕ)) → All (λ p. IsNodeOf old p.0 × IsNodeOf old p.1) ps → equations_of (shape_of new) ps ≡ equations_of (shape_of old) ps
-      by_pairs [] h = refl
-      by_pairs (p ∷ ps) h =
-          let first = All-head (λ q. IsNodeOf old q.0 × IsNodeOf old q.1) p ps h in
-          ap₂ (λ (e : Equation) (es : List Equation). e ∷ es)
-          (ap₂ (λ (s : Tree) (t : Tree). (s, t)) (same_label Variable p.0 first.0) (same_label Variable p.1 first.1))
-          (by_pairs ps (All-tail (λ q. IsNodeOf old q.0 × IsNodeOf old q.1) p ps h))
-
 inside_longer : (nodes more : List Node) (count k : ℕ) → length nodes ≤ length more → IsInside nodes count k → IsInside more count k
 inside_longer nodes more count k h (inl i) = inl (omega arith)
 inside_longer nodes more count k h (inr i) = inr i
 
 -- links of an arena that has grown, in tables that have grown with it
-pub IsLinked-grown : (old new : Arena) (l m : Links) (pairs : List (ℕ × ℕ)) → IsArena old → IsArena new → Grows old new
+pub IsLinked-grown : (old new : Arena) (l m : Links) → IsArena old → IsArena new → Grows old new
     → AreLinked (shape_of old) (link_of l)
     → ((k : ℕ) → IsNodeOf old k → IsNodeOf old (link_of l k))
     → ((k : ℕ) → HasLinkIn old k ⊎ (link_of l k ≡ k))
@@ -101,7 +84,7 @@ pub IsLinked-grown : (old new : Arena) (l m : Links) (pairs : List (ℕ × ℕ))
     → length m.terms.items ≡ length new.nodes.items
     → length m.variables.items ≡ old.variables
     → IsLinked new m
-IsLinked-grown old new l m pairs arena grown grows linked inside past trail link same terms variables = record {
+IsLinked-grown old new l m arena grown grows linked inside past trail link same terms variables = record {
   arena = grown;
   linked = subst (AreLinked (shape_of new)) (sym (fun_ext link)) (record {
     order = grown.order;
@@ -167,11 +150,13 @@ All-of_map : {X Y : Type 0} (P : Y → Type 0) (f : X → Y) (xs : List X) → A
 All-of_map P f [] h = All-nil (λ x. P (f x))
 All-of_map P f (x ∷ xs) h = All-cons (λ y. P (f y)) x xs (All-head P (f x) (map f xs) h) (All-of_map P f xs (All-tail P (f x) (map f xs) h))
 
--- what holds of all pairs holds in either order
-pub pairs_backward : (P : ℕ × ℕ → Type 0) (added : List Added) → All P (pairs_of added) → All P (pairs_of (reverse added))
-pairs_backward P added h = All-map P (λ e. (e.left, e.right)) (reverse added) (All-reversed (λ e. P (e.left, e.right)) added (All-of_map P (λ e. (e.left, e.right)) added h))
+-- what holds of all equations holds in either order
+pub said_backward : (P : Equation → Type 0) (added : List Added) → All P (said_of added) → All P (said_of (reverse added))
+said_backward P added h =
+    All-map P equation_of (reverse added)
+    (All-reversed (λ e. P (equation_of e)) added (All-of_map P equation_of added h))
 
-pub pairs_forward : (P : ℕ × ℕ → Type 0) (added : List Added) → All P (pairs_of (reverse added)) → All P (pairs_of added)
-pairs_forward P added h =
-    subst (λ xs. All P (pairs_of xs)) (reversed_twice added)
-    (pairs_backward P (reverse added) h)
+pub said_forward : (P : Equation → Type 0) (added : List Added) → All P (said_of (reverse added)) → All P (said_of added)
+said_forward P added h =
+    subst (λ xs. All P (said_of xs)) (reversed_twice added)
+    (said_backward P (reverse added) h)
