@@ -1,2 +1,5 @@
 pub mod Equal
 pub mod Passing
+pub mod Walking
+pub mod Arguments
+pub mod Bound

@@ -4,8 +4,10 @@
 //! Nothing here knows of operations or histories.
 #![tactic(auto)]
 
+mod matching;
 mod search;
 #[cfg(test)]
 mod tests;
 
+pub use matching::does_match;
 pub use search::{oldest_match, oldest_match_of};

@@ -43,7 +43,7 @@ pub fn oldest_match<'a>(
 {
     let mut from = 0;
     while let Some((age, tuple)) = bag.candidate(key, from) {
-        if does_match(store, template, tuple)? {
+        if is_added(store, template, tuple)? {
             return Ok(Some((age, tuple)));
         }
         from = age + 1;
@@ -72,7 +72,7 @@ pub fn oldest_match_of<'a>(
 }
 
 // Whether the template matches a tuple, whose equation then is added.
-fn does_match(store: &mut Store, template: &Term, tuple: &Ground) -> Result<bool, NoMemory>
+fn is_added(store: &mut Store, template: &Term, tuple: &Ground) -> Result<bool, NoMemory>
     requires { var_bound (tree_of template.now) ≤ store.old.vars }
     ensures yes { IfOk result (λ m. IsTrue m
         → Matches store.old.vars store.old.pairs (tree_of template.now) tuple.now) }

@@ -2,7 +2,7 @@ use Rattle.std.proofs.Common.{subst, ◌∙◌}
 use Rattle.tc_term.specs.Equations.{Equations, Solvable}
 use Rattle.tc_term.specs.TreeView.{tree_of}
 use Rattle.tc_search.proofs.Equal.{with_pair-raised, Matches-raised, var_bound-tuple, var_bound-template}
-use Rattle.tc_search.proofs.search.does_match.Goals as goal
+use Rattle.tc_search.proofs.search.is_added.Goals as goal
 
 pub add-requires-clause-left : goal.add-requires-clause-left
 add-requires-clause-left c = var_bound-template (tree_of c.args.template.now) c.args.store.now.vars c.requires

@@ -23,7 +23,7 @@ returns-then-branch-clause-found c =
     (keys before template c.args.key.now c.args.bag.now.now c.requires.key c.in-Some.ensures.tuples)
     c.loop-age.invariant.passed c.in-Some.ensures.found
     (subst (λ (es : Equations). Matches es.vars es.pairs template row.tuple) c.loop-age.invariant.same
-    (c.in_ok-does_match.ensures.yes c.if-branch.true))
+    (c.in_ok-is_added.ensures.yes c.if-branch.true))
 
 pub loop-age-preserved : goal.loop-age-preserved
 loop-age-preserved c =
@@ -32,13 +32,13 @@ loop-age-preserved c =
     let rows = c.args.bag.now.now in
     let row : Row = record { age = c.in-Some.age; tuple = c.in-Some.tuple.now } in
     record {
-      same = c.in_ok-does_match.ensures.same_no c.if-branch.false ∙ c.loop-age.invariant.same;
+      same = c.in_ok-is_added.ensures.same_no c.if-branch.false ∙ c.loop-age.invariant.same;
       passed = passed_more (Matches before.vars before.pairs template) c.args.key.now c.loop-age.from
           c.args.bag.now.next rows row c.in-Some.ensures.rises
           (keys before template c.args.key.now rows c.requires.key c.in-Some.ensures.tuples) c.loop-age.invariant.passed
           c.in-Some.ensures.found
           (subst (λ (es : Equations). Matches es.vars es.pairs template row.tuple → ⊥) c.loop-age.invariant.same
-          (c.in_ok-does_match.ensures.no c.if-branch.false));
+          (c.in_ok-is_added.ensures.no c.if-branch.false));
     }
 
 -- the candidate's age
