@@ -1,11 +1,11 @@
 -- Terms whose variables are 0, 1, .. by first appearance.
-use Rattle.std.proofs.Common.{◌≡◌, ◌<◌, ◌≤◌, ◌+◌, ◌-◌, ◌⊎◌, inl, inr, ℕ, zero, suc, add-one, List, [], ◌∷◌, ◌++◌, length, refl, ap, sym, ◌∙◌, subst, arith}
+use Rattle.std.proofs.Common.{◌≡◌, ◌<◌, ◌≤◌, ◌+◌, ◌-◌, ◌⊎◌, inl, inr, ℕ, zero, suc, add-one, IsTrue, List, [], ◌∷◌, ◌++◌, length, refl, ap, sym, ◌∙◌, subst, arith}
 use Rattle.std.specs.List.{range_with_len}
 use Rattle.std.proofs.lemmas.Bool.{cases_lt}
-use Rattle.tc_term.proofs.Instances.{instance-Variable}
+use Rattle.tc_term.proofs.Instances.{instance-Variable, both_true}
 use Rattle.tc_term.proofs.Places.{Stands, Stands-range, Stands-with_number_back, Stands-with_number_new, place_in-range}
 use Rattle.tc_term.proofs.Renumbering.{Stands-variables_after_all}
-use Rattle.tc_term.specs.Tree.{Tree, Variable, Atomic, Number, Compound, Trees, Last, More}
+use Rattle.tc_term.specs.Tree.{Tree, Variable, Atomic, Number, Compound, Trees, Last, More, is_ground, are_ground, IsTuple}
 use Rattle.tc_term.specs.Variables.{instance, instances, place_in, var_bound, var_bound_of_all, variables_after, variables_after_all, variables, renumbered, IsPattern}
 
 -- only the trees of the variables that stand in a term count
@@ -101,3 +101,29 @@ var_bound-pattern t pattern =
 
 pub range-more : (n : ℕ) → range_with_len 0 (n + 1) ≡ range_with_len 0 n ++ n ∷ []
 range-more n = ap (range_with_len 0) (add-one n) ∙ range-push 0 n ∙ ap (λ m. range_with_len 0 n ++ m ∷ []) (omega arith)
+
+-- a ground term has no variable that wasn't seen
+mutual
+  pub variables_after-ground : (t : Tree) (seen : List ℕ) → IsTrue (is_ground t) → variables_after seen t ≡ seen
+  variables_after-ground (Variable n) seen ground = absurd (cc)
+  variables_after-ground (Atomic name) seen ground = refl
+  variables_after-ground (Number n) seen ground = refl
+  variables_after-ground (Compound name args) seen ground = variables_after_all-ground args seen ground
+
+  pub variables_after_all-ground : (ts : Trees) (seen : List ℕ) → IsTrue (are_ground ts) → variables_after_all seen ts ≡ seen
+  variables_after_all-ground (Last t) seen ground = variables_after-ground t seen ground
+  variables_after_all-ground (More t ts) seen ground =
+      let each = both_true (is_ground t) (are_ground ts) ground in
+      ap (λ s. variables_after_all s ts) (variables_after-ground t seen each.0) ∙ variables_after_all-ground ts seen each.1
+
+pub variables-tuple : (t : Tree) → IsTuple t → variables t ≡ []
+variables-tuple t tuple = variables_after-ground t [] tuple.ground
+
+-- a tuple is a template
+pub IsPattern-tuple : (t : Tree) → IsTuple t → IsPattern t
+IsPattern-tuple t tuple =
+    let none = variables-tuple t tuple in
+    record {
+      template = record { fits = tuple.fits; few = omega (arith, ap length none) };
+      numbered = none ∙ ap (range_with_len 0) (ap length (sym none));
+    }

@@ -3,7 +3,7 @@ use Rattle.std.proofs.Common.{◌≡◌, ◌+◌, ℕ, List, [], length, get_or,
 use Rattle.std.proofs.lemmas.List.FromFn.{length-range_with_len}
 use Rattle.std.specs.List.{range_with_len}
 use Rattle.tc_term.proofs.Places.{Stands, IsOnce, IsOnce-with_number, Stands-with_number, Stands-with_number_new, with_number-map, get_or-place_in, map-place_in}
-use Rattle.tc_term.specs.Tree.{Tree, Variable, Atomic, Number, Compound, Trees, Last, More, nodes, nodes_of_all, depth, depth_of_all, name_bytes, name_bytes_of_all, Fits}
+use Rattle.tc_term.specs.Tree.{Tree, Variable, Atomic, Number, Compound, Trees, Last, More, nodes, nodes_of_all, depth, depth_of_all, name_bytes, name_bytes_of_all, HasIntegers, HaveIntegers, Fits}
 use Rattle.tc_term.specs.Variables.{renamed, all_renamed, place_in, variables_after, variables_after_all, variables, renumbered, IsTemplate, IsPattern}
 
 -- other variables leave the sizes
@@ -40,11 +40,23 @@ mutual
   name_bytes_of_all-renamed g (Last t) = name_bytes-renamed g t
   name_bytes_of_all-renamed g (More t ts) = omega (arith, name_bytes-renamed g t, name_bytes_of_all-renamed g ts)
 
+mutual
+  pub HasIntegers-renamed : (g : ℕ → ℕ) (t : Tree) → HasIntegers t → HasIntegers (renamed g t)
+  HasIntegers-renamed g (Variable n) integers = tt
+  HasIntegers-renamed g (Atomic name) integers = tt
+  HasIntegers-renamed g (Number n) integers = integers
+  HasIntegers-renamed g (Compound name args) integers = HaveIntegers-renamed g args integers
+
+  pub HaveIntegers-renamed : (g : ℕ → ℕ) (ts : Trees) → HaveIntegers ts → HaveIntegers (all_renamed g ts)
+  HaveIntegers-renamed g (Last t) integers = HasIntegers-renamed g t integers
+  HaveIntegers-renamed g (More t ts) integers = (HasIntegers-renamed g t integers.0, HaveIntegers-renamed g ts integers.1)
+
 pub Fits-renamed : (g : ℕ → ℕ) (t : Tree) → Fits t → Fits (renamed g t)
 Fits-renamed g t fits = record {
   nodes = omega (arith, nodes-renamed g t, fits.nodes);
   depth = omega (arith, depth-renamed g t, fits.depth);
   name_bytes = omega (arith, name_bytes-renamed g t, fits.name_bytes);
+  integers = HasIntegers-renamed g t fits.integers;
 }
 
 -- what was seen stands among the variables

@@ -1,11 +1,11 @@
 -- The sizes of arguments, term by term.
-use Rattle.std.proofs.Common.{◌≡◌, ◌<◌, ◌≤◌, ◌+◌, ◌-◌, ◌&&◌, ℕ, Bool, true, max, List, [], ◌∷◌, length, drop, get_or, ap, sym, ◌∙◌, arith}
+use Rattle.std.proofs.Common.{◌≡◌, ◌<◌, ◌≤◌, ◌+◌, ◌-◌, ◌&&◌, ℕ, Bool, true, max, List, [], ◌∷◌, length, drop, get_or, ap, sym, subst, ◌∙◌, arith}
 use Rattle.std.proofs.Math.Bool.{and-true}
 use Rattle.std.proofs.lemmas.List.{at_drop_all, at_drop_more}
 use Rattle.tc_term.specs.declared.limits.Room.{Room}
 use Rattle.tc_term.specs.Room.{IsWithin, IsSpent}
 use Rattle.tc_term.specs.declared.terms.Term.{Term}
-use Rattle.tc_term.specs.Tree.{Tree, Compound, Trees, nodes, nodes_of_all, depth, depth_of_all, name_bytes, name_bytes_of_all, is_ground, are_ground}
+use Rattle.tc_term.specs.Tree.{Tree, Compound, Trees, nodes, nodes_of_all, depth, depth_of_all, name_bytes, name_bytes_of_all, is_ground, are_ground, HasIntegers, HaveIntegers}
 use Rattle.tc_term.specs.TreeView.{tree_of, trees_of}
 
 -- the nodes of all terms
@@ -47,6 +47,27 @@ pub are_ground-trees_of : (ts : List Term) → 0 < length ts → are_ground (tre
 are_ground-trees_of [] some = absurd (omega arith)
 are_ground-trees_of (t ∷ []) some = sym (and-true (is_ground (tree_of t)))
 are_ground-trees_of (t ∷ u ∷ ts) some = ap (λ b. is_ground (tree_of t) && b) (are_ground-trees_of (u ∷ ts) (omega arith))
+
+-- each number in the terms is one of 64 bits
+abbrev pub IntegersIn : List Term → Type 0
+IntegersIn [] = Unit {0}
+IntegersIn (t ∷ ts) = HasIntegers (tree_of t) × IntegersIn ts
+
+HaveIntegers-trees_of : (ts : List Term) → IntegersIn ts → HaveIntegers (trees_of ts)
+HaveIntegers-trees_of [] each = tt
+HaveIntegers-trees_of (t ∷ []) each = each.0
+HaveIntegers-trees_of (t ∷ u ∷ ts) each = (each.0, HaveIntegers-trees_of (u ∷ ts) each.1)
+
+pub HasIntegers-compound : (t : Tree) (name : List ℕ) (args : Trees) (ts : List Term) →
+    t ≡ Compound name args → trees_of ts ≡ args → IntegersIn ts → HasIntegers t
+HasIntegers-compound t name args ts compound seen each =
+    subst HasIntegers (sym compound) (subst HaveIntegers seen (HaveIntegers-trees_of ts each))
+
+-- one term more
+pub IntegersIn-next : (ts : List Term) (i : ℕ) (t : Term) → i < length ts → t ≡ get_or ts i t →
+    HasIntegers (tree_of t) → IntegersIn (drop (i + 1) ts) → IntegersIn (drop i ts)
+IntegersIn-next ts i t inside at integers rest =
+    subst IntegersIn (sym (at_drop_more (λ us. us) ts i t inside ∙ ap (λ u. u ∷ drop (i + 1) ts) (sym at))) (integers, rest)
 
 -- a compound is ground where all its arguments are
 pub is_ground-compound : (t : Tree) (name : List ℕ) (args : Trees) (ts : List Term) →

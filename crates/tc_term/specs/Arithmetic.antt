@@ -5,7 +5,7 @@ use Rattle.std.specs.Int.{int_rem_euclid}
 use Rattle.std.specs.Option.{option_and_then}
 use Rattle.std.specs.Ordering.{int_eq}
 use Rattle.std.specs.Str.{bytes_eq}
-use Rattle.tc_term.specs.Tree.{Tree, Number, Compound, Trees, Last, More}
+use Rattle.tc_term.specs.Tree.{Tree, Number, Compound, Last, More}
 use Rattle.tc_term.specs.declared.comparison.Cmp.{Cmp}
 use Rattle.tc_term.specs.declared.comparison.Cmp.TheVariants as cmp
 

@@ -1,5 +1,6 @@
 -- What the reader answers: the term that the tokens are, or the first fault by the order of the rules.
-use Rattle.std.specs.Prelude.{◌≡◌, ℕ, suc, ◌+◌, ◌-◌, ◌^◌, ◌≤◌, ◌<◌, ◌⊎◌, max, Bool, true, false, if◌then◌else◌, nat_lt, nat_le, nat_eq, List, [], ◌∷◌, ◌++◌, length, Option, Some, None, MatchOption, position, codes, bytes_eq, ℤ, pos, neg_ℤ}
+use Rattle.std.specs.Prelude.{◌≡◌, ℕ, ◌+◌, ◌-◌, ◌^◌, ◌⊎◌, max, Bool, true, false, if◌then◌else◌, nat_lt, nat_le, List, [], ◌∷◌, ◌++◌, length, Option, Some, None, MatchOption, position, codes, bytes_eq, ℤ, pos, neg_ℤ}
+use Rattle.tc_term.specs.Limits.{most_variables, most_brackets}
 use Rattle.tc_term.specs.Tree.{Tree, Trees, Last, More, Atomic, Compound, Fits}
 use Rattle.tc_term.specs.Tree as tree
 use Rattle.tc_term.specs.Tokens.{Lexeme, Word, Variable, Number, Quoted, Symbol, Punctuation, Mark, Open, Close, OpenList, CloseList, Comma, Bar}
@@ -12,7 +13,7 @@ use Rattle.tc_term.specs.Grammar.{Token, Meaning, IsTerm}
 
 -- the known variables and one more
 abbrev pub learned : List (List ℕ) → List ℕ → List (List ℕ)
-learned known name = if nat_le (length known) 256 then known ++ name ∷ [] else known
+learned known name = if nat_le (length known) most_variables then known ++ name ∷ [] else known
 
 -- whether the name is that of a variable of its own
 abbrev pub is_anonymous : List ℕ → Bool
@@ -177,7 +178,7 @@ When false P Q = Q
 -- the fourth to the last rule, for what the tokens are read as
 abbrev pub Judged : ℕ → ℕ → ℕ → Reading → Answer → Type 0
 Judged place behind count r a = MatchOption r.wide
-    (When (nat_lt 256 count)
+    (When (nat_lt most_variables count)
     (a ≡ TooMany place)
     (((a ≡ TooBig place) × (Fits r.term → ⊥)) ⊎ ((a ≡ Found r.term behind) × Fits r.term)))
     (λ wide. a ≡ WideInt wide)
@@ -192,7 +193,7 @@ Parsed place behind ts a =
 -- the second rule and the next ones, for tokens that all begin and end
 abbrev pub Ended : ℕ → List At → Stop → Answer → Type 0
 Ended size ts stop a =
-    When (nat_lt 200 (most_open 0 ts))
+    When (nat_lt most_brackets (most_open 0 ts))
     (a ≡ TooBig (first_place size ts stop))
     (Parsed (first_place size ts stop) (place_behind size stop) ts a)
 

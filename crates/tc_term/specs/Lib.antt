@@ -1,3 +1,4 @@
+pub mod Limits
 pub mod Tree
 pub mod TreeView
 pub mod Same
@@ -5,6 +6,7 @@ pub mod Ground
 pub mod Variables
 pub mod Pattern
 pub mod Equations
+pub mod Bytes
 pub mod Text
 pub mod Room
 pub mod TreeCode

@@ -1,11 +1,8 @@
 -- The bytes that names from the reader may hold.
-use Rattle.std.specs.Prelude.{ℕ, Bool, true, ◌&&◌, ◌||◌, ◌==◌, nat_le}
+use Rattle.std.specs.Prelude.{Bool, true, ◌&&◌}
 use Rattle.std.specs.List.{list_all}
+use Rattle.tc_term.specs.Bytes.{is_name_byte}
 use Rattle.tc_term.specs.Tree.{Tree, Variable, Atomic, Number, Compound, Trees, Last, More}
-
--- a byte that a name from the reader may hold: one from 32 on, a line feed or a tab
-abbrev pub is_name_byte : ℕ → Bool
-is_name_byte b = nat_le 32 b || b == 10 || b == 9
 
 -- whether each name in the term holds such bytes alone
 abbrev mutual

@@ -1,5 +1,7 @@
 -- Why a term is no template.
 use Rattle.std.specs.Prelude.{◌≡◌, ◌<◌, length}
+use Rattle.tc_term.specs.Limits.{most_depth, most_variables}
+use Rattle.tc_term.specs.Room.{whole, IsWithin}
 use Rattle.tc_term.specs.Tree.{Fits}
 use Rattle.tc_term.specs.TreeView.{tree_of}
 use Rattle.tc_term.specs.Variables.{variables}
@@ -9,5 +11,5 @@ use Rattle.tc_term.specs.declared.terms.Term.{Term}
 
 -- the term, given back, is too big, or it fits and has too many variables
 abbrev pub HasExcess : Term → NotPattern → Type 0
-HasExcess t (TooBig u) = (u ≡ t) × (Fits (tree_of t) → ⊥)
-HasExcess t (TooMany u) = (u ≡ t) × Fits (tree_of t) × (256 < length (variables (tree_of t)))
+HasExcess t (TooBig u) = (u ≡ t) × (IsWithin (tree_of t) most_depth whole → ⊥)
+HasExcess t (TooMany u) = (u ≡ t) × Fits (tree_of t) × (most_variables < length (variables (tree_of t)))

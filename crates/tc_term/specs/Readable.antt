@@ -1,22 +1,10 @@
 -- Templates whose canonical text the reader of terms and clauses reads back.
-use Rattle.std.specs.Prelude.{ℕ, ◌+◌, ◌≤◌, max, if◌then◌else◌, IsTrue, FitsSigned}
-use mir.Syntax.{w64}
+use Rattle.std.specs.Prelude.{ℕ, ◌+◌, ◌≤◌, max, if◌then◌else◌, IsTrue}
+use Rattle.tc_term.specs.Limits.{most_brackets}
 use Rattle.tc_term.specs.Text.{Place, Alone, Behind, is_dot, is_nil}
 use Rattle.tc_term.specs.Tree.{Tree, Variable, Atomic, Number, Compound, Trees, Last, More}
 use Rattle.tc_term.specs.Variables.{IsPattern}
 use Rattle.tc_term.specs.NameBytes.{has_read_names}
-
--- each number in the term is one of 64 bits
-abbrev mutual
-  pub HasIntegers : Tree → Type 0
-  HasIntegers (Variable n) = Unit {0}
-  HasIntegers (Atomic name) = Unit {0}
-  HasIntegers (Number z) = FitsSigned w64 z
-  HasIntegers (Compound name args) = HaveIntegers args
-
-  pub HaveIntegers : Trees → Type 0
-  HaveIntegers (Last t) = HasIntegers t
-  HaveIntegers (More t ts) = HasIntegers t × HaveIntegers ts
 
 -- the bracket of a list is open around its elements; behind an element it is open already
 abbrev pub in_list : Place → ℕ → ℕ
@@ -39,10 +27,9 @@ abbrev mutual
   opened_in_all (Last t) = opened Alone t
   opened_in_all (More t ts) = max (opened Alone t) (opened_in_all ts)
 
--- the text of the template has at most 200 brackets open, and no name in it holds a byte below 32
+-- the text of the template has few brackets open, and no name in it holds a byte below 32
 -- but line feeds and tabs
 pub record IsReadable (t : Tree) : Type 0 where
   pub pattern : IsPattern t
-  pub integers : HasIntegers t
-  pub few_open : opened Alone t ≤ 200
+  pub few_open : opened Alone t ≤ most_brackets
   pub names : IsTrue (has_read_names t)

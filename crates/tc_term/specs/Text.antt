@@ -1,20 +1,16 @@
 -- The canonical text of terms, as bytes.
-use Rattle.std.specs.Prelude.{ℕ, ◌==◌, ◌&&◌, ◌||◌, Bool, false, if◌then◌else◌, List, [], ◌∷◌, ◌++◌, codes}
-use Rattle.std.specs.Char.{is_ascii_lowercase, is_ascii_alphanumeric}
+use Rattle.std.specs.Prelude.{ℕ, ◌==◌, ◌&&◌, Bool, false, if◌then◌else◌, List, [], ◌∷◌, ◌++◌, codes}
 use Rattle.std.specs.Fmt.{decimal, signed_decimal}
 use Rattle.std.specs.List.{flat_map, list_all}
 use Rattle.std.specs.Str.{bytes_eq}
+use Rattle.tc_term.specs.Bytes.{is_word, is_name_start}
 use Rattle.tc_term.specs.Tree.{Tree, Variable, Atomic, Number, Compound, Trees, Last, More}
 use Rattle.tc_term.specs.Variables.{renumbered}
-
--- an ASCII letter, a digit or an underscore
-abbrev pub is_word : ℕ → Bool
-is_word b = is_ascii_alphanumeric b || b == 95
 
 -- whether the bytes have the form of a name token: a lower-case letter, then letters, digits and _
 abbrev pub is_name : List ℕ → Bool
 is_name [] = false
-is_name (b ∷ bs) = is_ascii_lowercase b && list_all is_word bs
+is_name (b ∷ bs) = is_name_start b && list_all is_word bs
 
 -- whether the name is that of the empty list
 abbrev pub is_nil : List ℕ → Bool

@@ -1,27 +1,8 @@
-use Rattle.std.specs.Prelude.{◌≡◌, ◌≢◌, ℕ, ◌+◌, ◌-◌, ◌*◌, ◌≤◌, Bool, true, false, if◌then◌else◌, ◌&&◌, ◌||◌, nat_le, ◌==◌, List, [], ◌∷◌, ◌++◌, length, Option, Some, None, codes}
+-- The tokens of a text.
+use Rattle.std.specs.Prelude.{◌≡◌, ◌≢◌, ℕ, ◌+◌, ◌-◌, ◌*◌, ◌≤◌, Bool, true, if◌then◌else◌, ◌==◌, List, [], ◌∷◌, ◌++◌, length, Option, Some, None, codes}
+use Rattle.std.specs.Char.{is_ascii_digit}
 use Rattle.std.specs.List.{AllByRecursion}
-
--- The bytes of tokens.
-
--- a lower-case letter of ASCII
-abbrev pub is_lower : ℕ → Bool
-is_lower b = nat_le 97 b && nat_le b 122
-
--- an upper-case letter of ASCII
-abbrev pub is_upper : ℕ → Bool
-is_upper b = nat_le 65 b && nat_le b 90
-
--- a decimal digit
-abbrev pub is_digit : ℕ → Bool
-is_digit b = nat_le 48 b && nat_le b 57
-
--- a letter, a digit or _ of ASCII
-abbrev pub is_word : ℕ → Bool
-is_word b = is_lower b || is_upper b || is_digit b || b == 95
-
--- what a variable begins with: an upper-case letter or an underscore
-abbrev pub is_variable_start : ℕ → Bool
-is_variable_start b = is_upper b || b == 95
+use Rattle.tc_term.specs.Bytes.{is_word, is_name_start, is_variable_start}
 
 -- the symbols, longer ones first
 pub data Sign : Type 0 where
@@ -86,7 +67,7 @@ IsWordFrom first (b ∷ s) = (first b ≡ true) × AllByRecursion (λ c. is_word
 -- one digit or more
 abbrev pub IsDigits : List ℕ → Type 0
 IsDigits [] = ⊥
-IsDigits (b ∷ s) = (is_digit b ≡ true) × AllByRecursion (λ c. is_digit c ≡ true) s
+IsDigits (b ∷ s) = (is_ascii_digit b ≡ true) × AllByRecursion (λ c. is_ascii_digit c ≡ true) s
 
 -- the number that the digits go on to from n
 abbrev pub decimal_from : ℕ → List ℕ → ℕ
@@ -100,7 +81,7 @@ IsQuoted (b ∷ s) m = (b ≡ 39) × Inside s m
 
 -- the bytes s have the form of the token
 abbrev pub Spells : List ℕ → Lexeme → Type 0
-Spells s (Word w) = (s ≡ w) × IsWordFrom is_lower s
+Spells s (Word w) = (s ≡ w) × IsWordFrom is_name_start s
 Spells s (Variable w) = (s ≡ w) × IsWordFrom is_variable_start s
 Spells s (Number n) = (n ≡ decimal_from 0 s) × IsDigits s
 Spells s (Quoted m) = IsQuoted s m

@@ -1,5 +1,7 @@
 -- Terms as trees: their sizes, and which of them are tuples.
-use Rattle.std.specs.Prelude.{ℕ, ℤ, ◌+◌, ◌≤◌, max, Bool, true, false, ◌&&◌, IsTrue, List, length}
+use Rattle.std.specs.Prelude.{ℕ, ℤ, ◌+◌, ◌≤◌, max, Bool, true, false, ◌&&◌, IsTrue, FitsSigned, List, length}
+use mir.Syntax.{w64}
+use Rattle.tc_term.specs.Limits.{most_nodes, most_depth, most_name_bytes}
 
 mutual
   -- a variable with its number, an atom, a whole number, or a compound: a name with its arguments
@@ -62,11 +64,24 @@ abbrev mutual
   are_ground (Last t) = is_ground t
   are_ground (More t ts) = is_ground t && are_ground ts
 
--- the term is within the limits of a term
+-- each number in the term is one of 64 bits
+abbrev mutual
+  pub HasIntegers : Tree → Type 0
+  HasIntegers (Variable n) = Unit {0}
+  HasIntegers (Atomic name) = Unit {0}
+  HasIntegers (Number z) = FitsSigned w64 z
+  HasIntegers (Compound name args) = HaveIntegers args
+
+  pub HaveIntegers : Trees → Type 0
+  HaveIntegers (Last t) = HasIntegers t
+  HaveIntegers (More t ts) = HasIntegers t × HaveIntegers ts
+
+-- the term is within the limits of a term: its size, and numbers of 64 bits
 pub record Fits (t : Tree) : Type 0 where
-  pub nodes : nodes t ≤ 10000
-  pub depth : depth t ≤ 1000
-  pub name_bytes : name_bytes t ≤ 65535
+  pub nodes : nodes t ≤ most_nodes
+  pub depth : depth t ≤ most_depth
+  pub name_bytes : name_bytes t ≤ most_name_bytes
+  pub integers : HasIntegers t
 
 -- the term is ground and within the limits
 pub record IsTuple (t : Tree) : Type 0 where

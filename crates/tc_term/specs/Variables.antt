@@ -1,6 +1,7 @@
 -- The variables of a term, and the term with other trees in their places.
 use Rattle.std.specs.Prelude.{◌≡◌, ℕ, ◌+◌, ◌≤◌, ◌==◌, if◌then◌else◌, max, List, [], ◌∷◌, ◌++◌, length}
 use Rattle.std.specs.List.{range_with_len}
+use Rattle.tc_term.specs.Limits.{most_variables}
 use Rattle.tc_term.specs.Tree.{Tree, Variable, Atomic, Number, Compound, Trees, Last, More, Fits}
 
 -- the term with each variable replaced by the tree of its number
@@ -71,7 +72,7 @@ renumbered t = renamed (place_in (variables t)) t
 -- the term is within the limits of a template: those of a term, and few different variables
 pub record IsTemplate (t : Tree) : Type 0 where
   pub fits : Fits t
-  pub few : length (variables t) ≤ 256
+  pub few : length (variables t) ≤ most_variables
 
 -- the term is within the limits of a template, and its variables are 0, 1, .. by first appearance
 pub record IsPattern (t : Tree) : Type 0 where

@@ -41,6 +41,11 @@ pub fn renumbering_keeps_matches()
         → Matches m [] (renumbered t) u → Matches n [] t u }
 {}
 
+/// A tuple is a template.
+pub fn tuple_is_a_template()
+    ensures { (t : Tree) → IsTuple t → IsPattern t }
+{}
+
 /// A term that is numbered by first appearance is printed with the numbers that it has.
 pub fn template_keeps_its_numbers()
     ensures same { (t : Tree) → IsPattern t → renumbered t ≡ t }

@@ -4,15 +4,14 @@ ghost use Rattle.std.specs.List.{range_with_len};
 ghost use Rattle.tc_term.specs.TreeView.{tree_of};
 ghost use Rattle.tc_term.specs.Variables.{place_in, variables_after, with_number};
 
+use crate::limits::MAX_VARIABLES;
 use crate::terms::Term;
 use std::marker::Model;
-
-const MAX_VARS: usize = 256;
 
 /// Variable numbers, each once, by first appearance. No memory is taken.
 #[derive(Drop)]
 pub(crate) struct Seen {
-    numbers: [u32; MAX_VARS],
+    numbers: [u32; MAX_VARIABLES],
     count: usize,
 }
 
@@ -31,7 +30,7 @@ impl Seen {
         ensures { result ≡ [] }
     {
         Seen {
-            numbers: [0; MAX_VARS],
+            numbers: [0; MAX_VARIABLES],
             count: 0,
         }
     }
@@ -51,7 +50,7 @@ impl Seen {
         if place(self.numbers(), n) < self.count {
             return true;
         }
-        if self.count == MAX_VARS {
+        if self.count == MAX_VARIABLES {
             return false;
         }
         self.numbers[self.count] = n;

@@ -6,14 +6,20 @@ ghost use Rattle.tc_term.specs.Variables.{var_bound, variables, renumbered, IsTe
 use crate::limits::fits;
 use crate::numbering::{Seen, count_up, note};
 use crate::terms::Term;
+use crate::tuple::Ground;
 use std::alloc::Global;
 use std::marker::Model;
 use tc_lists::NoMemory;
+use thiserror::Error;
 
 /// Why a term is no template. The term is given back.
-#[derive(Debug, Drop)]
+#[derive(Debug, Drop, Error)]
 pub enum NotPattern {
+    /// It has too many nodes, is too deep, or has too many bytes of names.
+    #[error("the term is beyond the limits of a term")]
     TooBig(Term),
+    /// It is within the limits, and has more than 256 different variables.
+    #[error("the term has more than 256 different variables")]
     TooMany(Term),
 }
 
@@ -66,12 +72,30 @@ impl Pattern {
         })
     }
 
+    /// A tuple as a template, which has no variable. No memory is taken.
+    pub fn of_tuple(tuple: Ground) -> Pattern
+        ensures { result ≡ tuple }
+    {
+        Pattern {
+            term: tuple.into_term(),
+            vars: 0,
+        }
+    }
+
     /// The term, with its variables numbered.
     pub fn term(&self) -> &Term
         ensures term { tree_of result.now ≡ self.now }
         ensures pattern { IsPattern self.now }
     {
         &self.term
+    }
+
+    /// The term itself, with its variables numbered. No memory is taken.
+    pub fn into_term(self) -> Term
+        ensures term { tree_of result ≡ self }
+        ensures pattern { IsPattern self }
+    {
+        self.term
     }
 
     /// How many different variables there are.

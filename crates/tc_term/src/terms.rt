@@ -70,6 +70,14 @@ impl Args {
         &self.terms
     }
 
+    /// The arguments themselves. No memory is taken.
+    pub fn into_vec(self) -> Vec<Term>
+        ensures some { 0 < length result.items }
+        ensures trees { trees_of result.items ≡ self }
+    {
+        self.terms
+    }
+
     // Gives each variable its place among these numbers.
     #[cycle(renumber)]
     fn renumber(&mut self, numbers: &[u32])
@@ -81,11 +89,12 @@ impl Args {
         }
     }
 
+    /// Copies of the arguments, in room for exactly these.
     #[cycle(copy)]
     pub fn copy(&self, alloc: Global) -> Result<Args, NoMemory>
         ensures { IfOk result (λ args. args ≡ self.now) }
     {
-        let mut terms = Vec::new(alloc);
+        let mut terms = Vec::with_capacity(alloc, self.terms.len())?;
         for term in &self.terms {
             terms.push(term.copy(alloc)?)?;
         }
@@ -125,6 +134,7 @@ impl Term {
         }
     }
 
+    /// Another term of the same tree. Recurses as deep as the term is.
     #[cycle(copy)]
     pub fn copy(&self, alloc: Global) -> Result<Term, NoMemory>
         ensures { IfOk result (λ term. tree_of term ≡ tree_of self.now) }

@@ -8,11 +8,16 @@ use crate::terms::Term;
 use std::alloc::Global;
 use std::marker::Model;
 use tc_lists::NoMemory;
+use thiserror::Error;
 
 /// Why a term is no tuple. The term is given back.
-#[derive(Debug, Drop)]
+#[derive(Debug, Drop, Error)]
 pub enum NotTuple {
+    /// It has too many nodes, is too deep, or has too many bytes of names.
+    #[error("the term is beyond the limits of a term")]
     TooBig(Term),
+    /// It is within the limits, and has a variable.
+    #[error("the term has a variable")]
     NotGround(Term),
 }
 
@@ -60,6 +65,14 @@ impl Ground {
         ensures tuple { IsTuple self.now }
     {
         &self.term
+    }
+
+    /// The term itself. No memory is taken.
+    pub fn into_term(self) -> Term
+        ensures term { tree_of result ≡ self }
+        ensures tuple { IsTuple self }
+    {
+        self.term
     }
 
     /// Another tuple of the same term.

@@ -11,7 +11,7 @@ seen_all c =
 
 template : (c : goal.After-renumbered) → IsTemplate (tree_of c.args.t)
 template c = record {
-  fits = c.fits.ensures.0 c.if-not-fits.false;
+  fits = c.fits.ensures.exact.0 c.if-not-fits.false;
   few = omega (arith, ap length (seen_all c), c.numbers-numbers.ensures.few);
 }
 
