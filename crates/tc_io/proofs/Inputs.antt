@@ -1,8 +1,8 @@
 -- What a source has left after several reads.
 use Rattle.std.proofs.Common.{◌≡◌, ℕ, ◌+◌, ◌≤◌, List, [], ◌++◌, length, take, drop, Option, None, Some, sym, ap, ap₂, ◌∙◌, refl, append_assoc, append-nil, take-append-drop, length-append, arith}
 use Rattle.std.proofs.Math.Seq.{drop-append_seam}
-use Rattle.tc_lists.proofs.Options.{some_same}
-use Rattle.tc_io.specs.Reading.{Reads, ReadsAll, ReadsPast, ReadsSome}
+use Rattle.std.proofs.lemmas.Option.{same_Some}
+use Rattle.tc_io.specs.Sources.{Reads, ReadsAll, ReadsPast, ReadsSome}
 
 -- these bytes were read from the front of what was left, and the rest is left
 abbrev pub HasRead : Option (List ℕ) → Option (List ℕ) → List ℕ → Type 0
@@ -18,7 +18,7 @@ HasRead-more None None new n bytes buffer before more = more
 HasRead-more None (Some rest) new n bytes buffer before more = absurd (cc)
 HasRead-more (Some left) None new n bytes buffer before more = let impossible = before.2 in absurd (cc)
 HasRead-more (Some left) (Some rest) new n bytes buffer before more =
-    let same : rest ≡ before.0 = some_same rest before.0 before.2 in
+    let same : rest ≡ before.0 = same_Some rest before.0 before.2 in
     let split : rest ≡ take n buffer ++ drop n rest =
     sym (take-append-drop n rest) ∙ ap (λ (l : List ℕ). l ++ drop n rest) (sym more.0.given) in
     (drop n rest, before.1 ∙ ap (λ (l : List ℕ). bytes ++ l) (sym same ∙ split) ∙ sym (append_assoc bytes (take n buffer) (drop n rest)), more.1)
@@ -29,7 +29,7 @@ HasRead-all None None new limit n bytes buffer before more none within = (within
 HasRead-all None (Some rest) new limit n bytes buffer before more none within = absurd (cc)
 HasRead-all (Some left) None new limit n bytes buffer before more none within = let impossible = before.2 in absurd (cc)
 HasRead-all (Some left) (Some rest) new limit n bytes buffer before more none within =
-    let same : rest ≡ before.0 = some_same rest before.0 before.2 in
+    let same : rest ≡ before.0 = same_Some rest before.0 before.2 in
     let end : rest ≡ [] = more.0.end.0 none in
     (within, before.1 ∙ ap (λ (l : List ℕ). bytes ++ l) (sym same ∙ end) ∙ append-nil bytes, more.1 ∙ ap₂ (λ (m : ℕ) (l : List ℕ). Some (drop m l)) none end)
 

@@ -1,6 +1,6 @@
 -- What a sink has taken after several writes.
 use Rattle.std.proofs.Common.{◌≡◌, ℕ, ◌+◌, List, [], ◌++◌, take, drop, Option, None, Some, sym, ap, ◌∙◌, refl, append_assoc, append-nil, take-add, take_all, length, ◌-◌, length-drop, arith}
-use Rattle.tc_io.specs.Writing.{appended}
+use Rattle.tc_io.specs.Sinks.{appended}
 
 pub appended-nil : (taken : Option (List ℕ)) → taken ≡ appended taken []
 appended-nil None = refl

@@ -1,4 +1,4 @@
 pub mod Faults
-pub mod Reading
-pub mod Writing
+pub mod Sources
+pub mod Sinks
 pub mod Memory

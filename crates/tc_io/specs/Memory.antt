@@ -34,10 +34,11 @@ pub record MemReading : Type 0 where
   pub piece : ℕ
   pub calls : Calls
 
--- n bytes are read into the buffer: as many as what is left, the piece and the buffer's room allow
-pub record GivesPiece (old new : MemReading) (n room : ℕ) (buffer : List ℕ) : Type 0 where
-  pub size : n ≡ min (min (length old.left) old.piece) room
-  pub given : take n buffer ≡ take n old.left
+-- n bytes are read to the front of the buffer: as many as what is left, the piece and the buffer's
+-- room allow; behind them it stays
+pub record GivesPiece (old new : MemReading) (n : ℕ) (before buffer : List ℕ) : Type 0 where
+  pub size : n ≡ min (min (length old.left) old.piece) (length before)
+  pub given : buffer ≡ take n old.left ++ drop n before
   pub left : new.left ≡ drop n old.left
   pub some : 0 < old.piece
 

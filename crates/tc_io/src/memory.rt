@@ -57,8 +57,9 @@ impl Source for MemSource {
     fn read(&mut self, into: &mut [u8]) -> Result<usize, Failed>
         ensures call { MakesCall self.old.calls self.new.calls (IsErr result) }
         ensures piece { IfOk result (λ n.
-            GivesPiece self.old self.new n (length into.old) into.new) }
+            GivesPiece self.old self.new n into.old into.new) }
         ensures same { OnErr result (self.new.left ≡ self.old.left) }
+        ensures buffer { OnErr result (into.new ≡ into.old) }
         ensures size { self.new.piece ≡ self.old.piece }
     {
         if self.calls.next_fails() {

@@ -3,15 +3,20 @@ ghost use Rattle.std.specs.Prelude.{◌≡◌, ◌<◌, ◌≤◌, ℕ, Bool, Li
 ghost use Rattle.std.specs.Result.{IsErrOf};
 ghost use Rattle.std.specs.declared.option.Option.{Option};
 ghost use Rattle.tc_io.specs.Faults.{Counts};
-ghost use Rattle.tc_io.specs.Reading.{Reading};
-ghost use Rattle.tc_io.specs.Writing.{appended};
+ghost use Rattle.tc_io.specs.Sources.{SourceState};
+ghost use Rattle.tc_io.specs.Sinks.{appended};
 
 use tc_lists::NoMemory;
+use thiserror::Error;
 
 /// Why nothing was taken.
-#[derive(Debug, Clone, Copy, PartialEq, Eq, Drop)]
+#[derive(Debug, Clone, Copy, PartialEq, Eq, Drop, Error)]
 pub enum SinkFault {
+    /// The write has failed. It is counted.
+    #[error("the output cannot be written")]
     Failed,
+    /// Memory has run out.
+    #[error("memory has run out")]
     NoMemory,
 }
 
@@ -37,7 +42,7 @@ pub trait Sink {
     ghost sure: { Self → Bool };
 
     /// What the same object keeps as a source, where it is one too. No write changes it.
-    ghost other: { Self → Option Reading };
+    ghost other: { Self → Option SourceState };
 
     /// Takes one byte of the piece or more, from its front.
     fn write(&mut self, piece: &[u8]) -> Result<usize, SinkFault>

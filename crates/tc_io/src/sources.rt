@@ -2,11 +2,14 @@
 ghost use Rattle.std.specs.Prelude.{◌≡◌, ◌<◌, ◌≤◌, ℕ, Bool, List, length, IfOk, OnErr, IsOk, IsErr, IsTrue};
 ghost use Rattle.std.specs.declared.option.Option.{Option};
 ghost use Rattle.tc_io.specs.Faults.{Counts};
-ghost use Rattle.tc_io.specs.Reading.{Reads};
-ghost use Rattle.tc_io.specs.Writing.{Writing};
+ghost use Rattle.tc_io.specs.Sources.{Reads};
+ghost use Rattle.tc_io.specs.Sinks.{SinkState};
+
+use thiserror::Error;
 
 /// A read, or a call of a listener, has failed.
-#[derive(Debug, Clone, Copy, PartialEq, Eq, Drop)]
+#[derive(Debug, Clone, Copy, PartialEq, Eq, Drop, Error)]
+#[error("the input cannot be read")]
 pub struct Failed;
 
 /// Bytes that are read one after another.
@@ -21,11 +24,12 @@ pub trait Source {
     ghost sure: { Self → Bool };
 
     /// What the same object keeps as a sink, where it is one too. No read changes it.
-    ghost other: { Self → Option Writing };
+    ghost other: { Self → Option SinkState };
 
     /// Reads some of the bytes that are left into the front of the buffer. `Ok(0)` is their end.
     ///
-    /// What stands in the buffer behind them, or after a failure, is not told.
+    /// What stands in the buffer behind them, or after a failure, is not told here: a reader of the
+    /// outside may have written to it. `MemSource` leaves it as it was.
     fn read(&mut self, into: &mut [u8]) -> Result<usize, Failed>
         requires { 0 < length into.old }
         ensures count { IfOk result (λ n. n ≤ length into.old) }

@@ -2,19 +2,25 @@
 ghost use Rattle.std.specs.Prelude.{◌≡◌, ◌+◌, ◌^◌, ◌<◌, ◌≤◌, length, IfOk, OnOk, OnErr, IsTrue};
 ghost use Rattle.std.specs.Result.{IsErrOf};
 ghost use Rattle.tc_io.specs.Faults.{Counts};
-ghost use Rattle.tc_io.specs.Reading.{ReadsAll, ReadsPast, ReadsSome};
-ghost use Rattle.tc_io.specs.Writing.{appended, AppendsFront};
+ghost use Rattle.tc_io.specs.Sources.{ReadsAll, ReadsPast, ReadsSome};
+ghost use Rattle.tc_io.specs.Sinks.{appended, AppendsFront};
 
 use crate::{Failed, Sink, SinkFault, Source};
 use std::alloc::Global;
 use tc_lists::NoMemory;
+use thiserror::Error;
 
 /// Why an input was not read.
-#[derive(Debug, Clone, Copy, PartialEq, Eq, Drop)]
+#[derive(Debug, Clone, Copy, PartialEq, Eq, Drop, Error)]
 pub enum InputFault {
+    /// A read has failed. It is counted.
+    #[error("the input cannot be read")]
     Failed,
     /// There are more bytes than are allowed.
+    #[error("the input is too long")]
     TooLong,
+    /// Memory has run out.
+    #[error("memory has run out")]
     NoMemory,
 }
 

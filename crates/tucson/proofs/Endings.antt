@@ -1,6 +1,6 @@
 -- How a call ends, from what it read and what it wrote.
 use Rattle.std.proofs.Common.{◌≡◌, ℕ, List, sym, subst, inr}
-use Rattle.tc_io.specs.Writing.{appended}
+use Rattle.tc_io.specs.Sinks.{appended}
 use Rattle.tucson.specs.declared.status.Status.{Status}
 use Rattle.tucson.specs.declared.status.Status.TheVariants.{Ended, WriteFault, Refused, ReadFault, NoMemory, Usage}
 use Rattle.tucson.specs.Answer.{Input, IsRead, IsDue}

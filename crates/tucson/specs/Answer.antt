@@ -8,7 +8,7 @@ use Rattle.tucson.specs.declared.status.Status.TheVariants.{Ended, Refused, Usag
 use Rattle.tucson.specs.Setup.{Setup, Spells}
 use Rattle.tucson.specs.Good.{IsGood}
 use Rattle.tucson.specs.Output.{run_text}
-use Rattle.tc_io.specs.Reading.{ReadsAll, ReadsPast}
+use Rattle.tc_io.specs.Sources.{ReadsAll, ReadsPast}
 
 -- the words of the one command
 abbrev pub run_words : List (List ℕ)

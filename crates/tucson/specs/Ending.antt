@@ -1,8 +1,8 @@
 -- How a call ends, by its status.
 use Rattle.std.specs.Prelude.{◌≡◌, ℕ, ◌⊎◌, false, List}
-use Rattle.tc_io.specs.Faults.{Rises}
-use Rattle.tc_io.specs.Reading.{Reading}
-use Rattle.tc_io.specs.Writing.{Writing, AppendsFront, appended}
+use Rattle.tc_io.specs.Faults.{CountRises}
+use Rattle.tc_io.specs.Sources.{SourceState}
+use Rattle.tc_io.specs.Sinks.{SinkState, AppendsFront, appended}
 use Rattle.tucson.specs.declared.status.Status.{Status}
 use Rattle.tucson.specs.declared.status.Status.TheVariants.{WriteFault, ReadFault, NoMemory}
 use Rattle.tucson.specs.Answer.{run_words, Input, IsRead, IsDue}
@@ -10,10 +10,10 @@ use Rattle.tucson.specs.Answer.{run_words, Input, IsRead, IsDue}
 -- a call: its words, and the source and the sink as it begins and as it ends
 pub record Call : Type 0 where
   pub words : List (List ℕ)
-  pub source : Reading
-  pub source_after : Reading
-  pub sink : Writing
-  pub sink_after : Writing
+  pub source : SourceState
+  pub source_after : SourceState
+  pub sink : SinkState
+  pub sink_after : SinkState
 
 -- the input was read, this status is due, and the whole of its text was taken
 pub record Answers (call : Call) (status : Status) : Type 0 where
@@ -38,13 +38,13 @@ TakesNothing call = call.sink_after.taken ≡ call.sink.taken
 
 -- a write has failed, and a beginning of what is due was taken
 pub record FailsToWrite (call : Call) : Type 0 where
-  pub rises : Rises call.sink.write_faults call.sink_after.write_faults
+  pub rises : CountRises call.sink.write_faults call.sink_after.write_faults
   pub unsure : call.sink.sure ≡ false
   pub begins : BreaksOff call
 
 -- a read has failed, and nothing was taken
 pub record FailsToRead (call : Call) : Type 0 where
-  pub rises : Rises call.source.read_faults call.source_after.read_faults
+  pub rises : CountRises call.source.read_faults call.source_after.read_faults
   pub unsure : call.source.sure ≡ false
   pub run : call.words ≡ run_words
   pub nothing : TakesNothing call
@@ -68,13 +68,13 @@ abbrev pub IsUnlessStopped : Status → Status → Type 0
 IsUnlessStopped due status = (status ≡ due) ⊎ IsStopped status
 
 -- a write has failed, and a beginning of the text was taken
-pub record FailsAmid (text : List ℕ) (sink sink_after : Writing) : Type 0 where
-  pub rises : Rises sink.write_faults sink_after.write_faults
+pub record FailsAmid (text : List ℕ) (sink sink_after : SinkState) : Type 0 where
+  pub rises : CountRises sink.write_faults sink_after.write_faults
   pub unsure : sink.sure ≡ false
   pub taken : AppendsFront sink.taken sink_after.taken text
 
 -- a text was written whole and the status stays, or what stopped the writing came in its place
-abbrev pub Writes : Status → List ℕ → Writing → Writing → Status → Type 0
+abbrev pub Writes : Status → List ℕ → SinkState → SinkState → Status → Type 0
 Writes status text sink sink_after WriteFault = FailsAmid text sink sink_after
 Writes status text sink sink_after ReadFault = ⊥
 Writes status text sink sink_after NoMemory = AppendsFront sink.taken sink_after.taken text

@@ -1,7 +1,7 @@
 //! A call, from its words and its input to what is written.
 ghost use Rattle.std.specs.Prelude.{◌≡◌, ◌↔◌, map, IsTrue};
-ghost use Rattle.tc_io.specs.Faults.{Rises};
-ghost use Rattle.tc_io.specs.Writing.{appended, AppendsFront};
+ghost use Rattle.tc_io.specs.Faults.{CountRises};
+ghost use Rattle.tc_io.specs.Sinks.{appended, AppendsFront};
 ghost use Rattle.tucson.specs.Answer.{run_words, refused_text};
 ghost use Rattle.tucson.specs.Ending.{Ends, IsStopped, Writes};
 

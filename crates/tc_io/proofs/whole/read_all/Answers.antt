@@ -1,14 +1,11 @@
-use Rattle.std.proofs.Common.{ℕ, arith, length-append, length-take, OnErr, Result, Ok, Err}
+use Rattle.std.proofs.Common.{ℕ, arith, length-append, length-take}
+use Rattle.tc_lists.proofs.Results.{OnErr-always}
 use Rattle.tc_io.proofs.Inputs.{HasRead-more, HasRead-count}
 use Rattle.tc_io.proofs.whole.read_all.Goals as goal
-
-told : {T E : Type 0} (r : Result T E) (P : Type 0) → P → OnErr r P
-told (Ok x) P p = tt
-told (Err e) P p = p
 
 pub returns-in_err-extend_from_slice-clause-rest :
     goal.returns-in_err-extend_from_slice-clause-rest
 returns-in_err-extend_from_slice-clause-rest g c =
     let before = c.loop-buffer.invariant in
     let read = HasRead-more _ _ _ c.in_ok-n.n _ _ before.read c.in_ok-n.ensures.bytes in
-    told _ _ (HasRead-count _ _ _ _ read (simp length-append (omega (arith, c.in_ok-n.ensures.count, length-take {A = ℕ}))))
+    OnErr-always _ _ (HasRead-count _ _ _ _ read (simp length-append (omega (arith, c.in_ok-n.ensures.count, length-take {A = ℕ}))))

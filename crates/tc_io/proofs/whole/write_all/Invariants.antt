@@ -1,5 +1,5 @@
 use Rattle.std.proofs.Common.{◌≡◌, ◌≤◌, ◌-◌, length, take}
-use Rattle.tc_io.specs.Writing.{appended}
+use Rattle.tc_io.specs.Sinks.{appended}
 use Rattle.tc_io.proofs.whole.write_all.Given as goal
 
 -- the bytes so far are taken, without a fault

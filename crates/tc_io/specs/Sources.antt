@@ -3,7 +3,7 @@ use Rattle.std.specs.Prelude.{◌≡◌, ℕ, ◌+◌, ◌<◌, ◌≤◌, ◌�
 use Rattle.std.specs.declared.option.Option.{Option}
 
 -- what an object keeps as a source
-pub record Reading : Type 0 where
+pub record SourceState : Type 0 where
   pub left : Option (List ℕ)
   pub read_faults : ℕ
   pub sure : Bool

@@ -4,7 +4,7 @@ use Rattle.std.specs.Option.{option_map}
 use Rattle.std.specs.declared.option.Option.{Option}
 
 -- what an object keeps as a sink
-pub record Writing : Type 0 where
+pub record SinkState : Type 0 where
   pub taken : Option (List ℕ)
   pub write_faults : ℕ
   pub sure : Bool
