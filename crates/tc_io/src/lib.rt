@@ -4,19 +4,20 @@
 //! Nothing here knows what the bytes mean.
 //!
 //! ```
-//! let mut source = StdSource::new(io::stdin());
+//! let mut source = MemSource::new(bytes, 4, Vec::new(alloc));
 //! let text = read_all(alloc, &mut source, 8192)?;
-//! write_all(&mut StdSink::new(io::stdout()), &text)?;
+//! let mut sink = MemSink::new(alloc, 4, Vec::new(alloc));
+//! write_all(&mut sink, &text)?;
 //! ```
 #![tactic(auto)]
 
-mod sources;
-mod sinks;
-mod whole;
-mod outside;
-mod sure;
-mod memory;
 mod calls;
+mod memory;
+mod outside;
+mod sinks;
+mod sources;
+mod sure;
+mod whole;
 
 pub use memory::{MemSink, MemSource};
 pub use outside::{StdSink, StdSource};

@@ -23,11 +23,21 @@ where
 }
 
 #[test]
+fn a_text_goes_through(rt: HostRuntime) -> Result<(), Fail> {
+    let alloc = rt.alloc();
+    let bytes = bytes(alloc)?;
+    let mut source = MemSource::new(bytes, 4, Vec::new(alloc));
+    let text = read_all(alloc, &mut source, 8192)?;
+    let mut sink = MemSink::new(alloc, 4, Vec::new(alloc));
+    write_all(&mut sink, &text)?;
+    assert_eq!(rt; sink.taken(), TEXT);
+    Ok(())
+}
+
+#[test]
 fn every_source_gives_its_bytes(rt: HostRuntime) -> Result<(), Fail> {
     let alloc = rt.alloc();
     gives_the_text(&rt, alloc, SureSource::new(bytes(alloc)?));
-    let none = Vec::new(alloc);
-    gives_the_text(&rt, alloc, MemSource::new(bytes(alloc)?, 0, none));
     gives_the_text(&rt, alloc, StdSource::new(TEXT));
     Ok(())
 }
@@ -36,13 +46,10 @@ fn every_source_gives_its_bytes(rt: HostRuntime) -> Result<(), Fail> {
 fn every_sink_takes_its_bytes(rt: HostRuntime) -> Result<(), Fail> {
     let alloc = rt.alloc();
     let mut sure = SureSink::new(alloc);
-    assert!(rt; write_all(&mut sure, TEXT).is_ok());
+    write_all(&mut sure, TEXT)?;
     assert_eq!(rt; sure.taken(), TEXT);
-    let mut pieces = MemSink::new(alloc, 1, Vec::new(alloc));
-    assert!(rt; write_all(&mut pieces, TEXT).is_ok());
-    assert_eq!(rt; pieces.taken(), TEXT);
     let mut written = Vec::new(alloc);
-    assert!(rt; write_all(&mut StdSink::new(&mut written), TEXT).is_ok());
+    write_all(&mut StdSink::new(&mut written), TEXT)?;
     assert_eq!(rt; written.as_slice(), TEXT);
     Ok(())
 }
@@ -77,7 +84,7 @@ fn the_third_write_fails(rt: HostRuntime) -> Result<(), Fail> {
     Ok(())
 }
 
-// A reader and a writer whose calls fail.
+// A reader whose reads fail, and a writer that takes all bytes and doesn't pass them on.
 #[derive(Drop)]
 struct Broken;
 
@@ -88,12 +95,12 @@ impl Read for Broken {
 }
 
 impl Write for Broken {
-    fn write(&mut self, _buf: &[u8]) -> io::Result<usize> {
-        Ok(0)
+    fn write(&mut self, buf: &[u8]) -> io::Result<usize> {
+        Ok(buf.len())
     }
 
     fn flush(&mut self) -> io::Result<()> {
-        Ok(())
+        Err(io::Error::from(ErrorKind::Other))
     }
 }
 
@@ -101,6 +108,7 @@ impl Write for Broken {
 fn errors_of_the_outside_are_failures(rt: HostRuntime) {
     let read = read_all(rt.alloc(), &mut StdSource::new(Broken), 100);
     assert!(rt; read.is_err_and(|fault| fault == InputFault::Failed));
+    // No clause refuses a write without its flush: std tells nothing of what a flush does.
     let written = write_all(&mut StdSink::new(Broken), TEXT);
     assert!(rt; written.is_err_and(|fault| fault == SinkFault::Failed));
 }
