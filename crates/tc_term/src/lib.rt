@@ -3,6 +3,17 @@
 //! A term is plain data in contracts: a tree of variables, atoms, whole numbers and compounds. What
 //! its text is, and what equations say of its variables, is defined here too. Nothing here knows of
 //! operations or tuple centres.
+//!
+//! ```rattle
+//! let mut args = Vec::new(alloc);
+//! args.push(Term::Int(1))?;
+//! args.push(Term::Var(7))?;
+//! let term = Term::Comp(Name::new(alloc, b"p")?, Args::new(args));
+//! let template = Pattern::of(term)?; // p(1,_0)
+//! assert!(rt; template.vars() == 1);
+//! let tuple = Ground::of(template.into_term());
+//! assert!(rt; matches!(tuple, Err(NotTuple::NotGround(_))));
+//! ```
 #![tactic(auto)]
 
 mod comparison;

@@ -57,14 +57,31 @@ fn different(alloc: Global, count: u32) -> Result<Term, NoMemory> {
 fn fits_up_to_the_limits(rt: HostRuntime) -> Result<(), Fail> {
     let alloc = rt.alloc();
     for (depth, want) in [(1_000, true), (1_001, false)] {
-        assert!(rt; fits(&nested(alloc, depth)?) == want, "depth {depth}");
+        let term = nested(alloc, depth)?;
+        assert!(rt; fits(&term) == want, "depth {depth}");
     }
     for (numbers, want) in [(9_999, true), (10_000, false)] {
-        assert!(rt; fits(&wide(alloc, numbers)?) == want, "{numbers} numbers");
+        let term = wide(alloc, numbers)?;
+        assert!(rt; fits(&term) == want, "{numbers} numbers");
     }
     for (bytes, want) in [(65_531, true), (65_532, false)] {
-        assert!(rt; fits(&named(alloc, bytes)?) == want, "{bytes} bytes");
+        let term = named(alloc, bytes)?;
+        assert!(rt; fits(&term) == want, "{bytes} bytes");
     }
+    Ok(())
+}
+
+#[test]
+fn a_template_is_no_tuple_where_it_has_a_variable(rt: HostRuntime) -> Result<(), Fail> {
+    let alloc = rt.alloc();
+    let mut args = Vec::new(alloc);
+    args.push(Term::Int(1))?;
+    args.push(Term::Var(7))?;
+    let term = Term::Comp(Name::new(alloc, b"p")?, Args::new(args));
+    let template = Pattern::of(term)?; // p(1,_0)
+    assert!(rt; template.vars() == 1);
+    let tuple = Ground::of(template.into_term());
+    assert!(rt; matches!(tuple, Err(NotTuple::NotGround(_))));
     Ok(())
 }
 
@@ -72,7 +89,11 @@ fn fits_up_to_the_limits(rt: HostRuntime) -> Result<(), Fail> {
 fn tuples_are_ground_terms_that_fit(rt: HostRuntime) -> Result<(), Fail> {
     let alloc = rt.alloc();
     let tuple = Ground::of(nested(alloc, 3)?)?.copy(alloc)?;
-    assert!(rt; *tuple.term() == nested(alloc, 3)?);
+    let want = nested(alloc, 3)?;
+    assert!(rt; *tuple.term() == want);
+    let template = Pattern::of_tuple(tuple);
+    assert!(rt; template.vars() == 0);
+    assert!(rt; template.into_term() == want);
     let variable = Ground::of(variables(alloc, &[7])?);
     assert!(rt; matches!(variable, Err(NotTuple::NotGround(_))));
     let big = Ground::of(different(alloc, 10_000)?);
@@ -84,7 +105,8 @@ fn tuples_are_ground_terms_that_fit(rt: HostRuntime) -> Result<(), Fail> {
 fn templates_are_numbered_by_first_appearance(rt: HostRuntime) -> Result<(), Fail> {
     let alloc = rt.alloc();
     let template = Pattern::of(variables(alloc, &[9, 4, 9, u32::MAX])?)?.copy(alloc)?;
-    assert!(rt; *template.term() == variables(alloc, &[0, 1, 0, 2])?);
+    let want = variables(alloc, &[0, 1, 0, 2])?;
+    assert!(rt; *template.term() == want);
     assert_eq!(rt; template.vars(), 3);
     Ok(())
 }
@@ -104,7 +126,8 @@ fn templates_have_few_variables(rt: HostRuntime) -> Result<(), Fail> {
 fn names_are_compared_by_bytes(rt: HostRuntime) -> Result<(), Fail> {
     let alloc = rt.alloc();
     let name = Name::new(alloc, b"ab")?;
-    assert!(rt; name.copy(alloc)? == name);
+    let copy = name.copy(alloc)?;
+    assert!(rt; copy == name);
     let above = Name::new(alloc, b"a\xff")?;
     assert!(rt; name < above);
     Ok(())
