@@ -1,0 +1,4 @@
+pub mod Arities
+pub mod ByName
+pub mod Ranges
+pub mod Remainders

@@ -1,0 +1,26 @@
+//! Arithmetic on tuples, within the whole numbers of 64 bits.
+//!
+//! What a term evaluates to is defined beside terms; here it is computed. No memory is taken.
+//!
+//! ```rattle
+//! let mut args = Vec::new(alloc);
+//! args.push(Term::Int(-7))?;
+//! args.push(Term::Int(2))?;
+//! let term = Term::Comp(Name::new(alloc, b"mod")?, Args::new(args));
+//! let tuple = Ground::of(term)?; // -7 mod 2
+//! assert!(rt; eval(&tuple) == Some(1));
+//! assert!(rt; compare(Cmp::Le, 1, 1));
+//! ```
+#![tactic(auto)]
+
+mod evaluation;
+mod laws;
+mod operators;
+#[cfg(test)]
+mod tests;
+
+pub use evaluation::{compare, eval};
+pub use laws::{
+    least_number_has_no_opposite, nothing_comes_of_overflow, remainder_has_sign_of_divisor,
+};
+pub use operators::{difference, modulo, opposite, product, quotient, sum};
