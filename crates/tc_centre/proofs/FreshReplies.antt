@@ -6,7 +6,7 @@ use Rattle.tc_model.specs.declared.calls.CallId.{CallId}
 use Rattle.tc_model.specs.declared.entries.Entry.{Entry}
 use Rattle.tc_model.specs.declared.entries.Entry.TheVariants.{Called, Gave, Looked}
 use Rattle.tc_model.proofs.Histories.{same_id-below}
-use Rattle.tc_model.proofs.Lists.{All-filter_head, All-filter_tail}
+use Rattle.tc_lists.proofs.Filters.{All-filter_head, All-filter_tail}
 
 pub outcome_in-fresh : (history more : List Entry) (id : CallId)
     → All (λ e. (id_of e).number < id.number) (calls_of id.agent history)

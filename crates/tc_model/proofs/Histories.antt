@@ -20,7 +20,8 @@ use Rattle.tc_model.specs.declared.outcomes.Outcome.TheVariants as outcome
 use Rattle.tc_model.specs.declared.outcomes.Reply.{Reply}
 use Rattle.tc_model.specs.declared.entries.Entry.{Entry}
 use Rattle.tc_model.specs.declared.entries.Entry.TheVariants.{Called, Gave, Looked}
-use Rattle.tc_model.proofs.Lists.{All-filter_head, All-filter_tail, AllPairs-push_if}
+use Rattle.tc_lists.proofs.Filters.{All-filter_head, All-filter_tail}
+use Rattle.tc_lists.proofs.Pairs.{AllPairs-push_if}
 
 pub same_id-self : (id : CallId) → same_id id id ≡ true
 same_id-self id = rw (eq-eqb id.agent id.agent refl, eq-eqb id.number id.number refl) refl

@@ -1,4 +1,3 @@
-pub mod Lists
 pub mod Choosing
 pub mod Following
 pub mod WellFormed

@@ -16,7 +16,7 @@ use Rattle.tc_model.specs.declared.outcomes.Outcome.TheVariants as outcome
 use Rattle.tc_model.specs.declared.entries.Entry.{Entry}
 use Rattle.tc_model.specs.declared.entries.Entry.TheVariants.{Called, Gave, Looked}
 use Rattle.tc_model.proofs.Histories.{same_id-self, same_id-below, outcome_in-push}
-use Rattle.tc_model.proofs.Lists.{All-filter_each}
+use Rattle.tc_lists.proofs.Filters.{All-filter_each}
 
 pub same_id-true : (i j : CallId) → same_id i j ≡ true → i ≡ j
 same_id-true i j same =

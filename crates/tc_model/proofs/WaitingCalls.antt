@@ -24,7 +24,8 @@ use Rattle.tc_model.specs.declared.outcomes.Outcome.{Outcome}
 use Rattle.tc_model.specs.declared.outcomes.Outcome.TheVariants.{Took, Pending, Over}
 use Rattle.tc_model.specs.declared.entries.Entry.{Entry}
 use Rattle.tc_model.specs.declared.entries.Entry.TheVariants.{Called, Gave, Looked}
-use Rattle.tc_model.proofs.Lists.{AllPairs-tail, AllPairs-removed, Contains-remove, All-remove}
+use Rattle.tc_lists.proofs.Elements.{All-remove}
+use Rattle.tc_lists.proofs.Pairs.{AllPairs-tail, AllPairs-removed, Contains-remove}
 use Rattle.tc_model.proofs.NextEntry.{same_id-true, same_id-at, same_id-back, call-id, answer-replies}
 use Rattle.tc_model.proofs.NextEntry.{HasCall-grows, HasCall-push_cases, HasCall-other}
 use Rattle.tc_model.proofs.NextEntry.{reply_in-other, reply_in-called, reply_in-given}
