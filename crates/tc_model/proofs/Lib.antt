@@ -7,3 +7,4 @@ pub mod Waiting
 pub mod NextEntry
 pub mod WaitingCalls
 pub mod Rules
+pub mod Names

@@ -9,6 +9,7 @@ pub mod Triggers
 pub mod Cascades
 pub mod Typed
 pub mod State
+pub mod Origins
 pub mod Calls
 pub mod Replies
 pub mod Tables

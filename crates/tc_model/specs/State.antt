@@ -34,6 +34,16 @@ pub record Origin : Type 0 where
   pub tuples : List Tree
   pub clauses : List Rule
 
+-- these, as what a centre begins with
+abbrev pub origin_from : List ℕ → List (List ℕ) → ℕ → List Tree → List Rule → Origin
+origin_from name agents budget tuples clauses = record {
+  name = name;
+  agents = agents;
+  budget = budget;
+  tuples = tuples;
+  clauses = clauses;
+}
+
 -- the name of a centre or of an agent
 pub record IsName (name : List ℕ) : Type 0 where
   pub bytes : AreBytes name

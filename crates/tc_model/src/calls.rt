@@ -44,6 +44,26 @@ pub struct Request {
 }
 
 impl Op {
+    ghost use Rattle.tc_model.specs.Typed.{IsTypedOp};
+
+    /// Tells contracts what the operation's type promises, and does nothing.
+    pub fn typed(&self)
+        ensures { IsTypedOp self.now }
+    {
+        match self {
+            Op::Out(tuple) => {
+                let _term = tuple.term();
+            }
+            Op::In(template) | Op::Rd(template) | Op::Inp(template) | Op::Rdp(template) => {
+                let _term = template.term();
+            }
+            Op::SetSpec(clauses) => {
+                let _items = clauses.items();
+            }
+            Op::GetSpec => {}
+        }
+    }
+
     /// An equal operation.
     pub fn copy(&self, alloc: Global) -> Result<Op, NoMemory>
         ensures { IfOk result (λ op. op ≡ self.now) }

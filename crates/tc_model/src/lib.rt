@@ -13,6 +13,7 @@ mod goals;
 mod items;
 mod laws;
 mod limits;
+mod origins;
 mod outcomes;
 mod reactions;
 #[cfg(test)]
@@ -31,5 +32,6 @@ pub use laws::{
 pub use limits::{
     MOST_BUDGET, MOST_CLAUSES, MOST_GOALS, MOST_NAME_BYTES, MOST_TUPLES, MOST_WEIGHT,
 };
+pub use origins::{OriginFault, check_origin};
 pub use outcomes::{Outcome, Reply};
 pub use reactions::{Clauses, Reaction};

@@ -1,5 +1,6 @@
 //! Outcomes, which entries record, and replies, which agents get.
 ghost use Rattle.std.specs.Prelude.{◌≡◌, IfOk};
+ghost use Rattle.tc_model.specs.Typed.{AreBytes};
 
 use crate::events::Phase;
 use std::alloc::Global;
@@ -46,6 +47,21 @@ impl Reply {
 }
 
 impl Outcome {
+    ghost use Rattle.tc_model.specs.Typed.{IsTypedOutcome};
+
+    /// Tells contracts what the outcome's type promises, and does nothing.
+    pub fn typed(&self)
+        ensures { IsTypedOutcome self.now }
+    {
+        match self {
+            Outcome::Took(tuple) | Outcome::Over(_, Some(tuple)) => {
+                let _term = tuple.term();
+            }
+            Outcome::Spec(text) => bytes_fit(text.items()),
+            Outcome::Done | Outcome::NoTuple | Outcome::Pending | Outcome::Over(_, None) => {}
+        }
+    }
+
     /// An equal outcome.
     pub fn copy(&self, alloc: Global) -> Result<Outcome, NoMemory>
         ensures { IfOk result (λ outcome. outcome ≡ self.now) }
@@ -62,6 +78,13 @@ impl Outcome {
             }
         }
     }
+}
+
+// Each byte is one.
+fn bytes_fit(bytes: &[u8])
+    ensures { AreBytes bytes.now }
+{
+    let _length = bytes.len();
 }
 
 // The same bytes.
