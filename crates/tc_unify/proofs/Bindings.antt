@@ -2,7 +2,7 @@
 use Rattle.std.proofs.Common.{◌≡◌, ◌≤◌, ◌<◌, ◌⊎◌, inl, inr, ℕ, List, [], ◌∷◌, ◌++◌, length, sym, ap, ◌∙◌, subst, arith, length-append}
 use Rattle.std.specs.Prelude.{Contains}
 use Rattle.std.proofs.Math.Seq.{get_or-append_seam}
-use Rattle.tc_term.specs.Tree.{Tree, Variable, Atomic, Number, Compound, Trees, Last, More, nodes, nodes_of_all, depth, depth_of_all, name_bytes, name_bytes_of_all, IsTuple}
+use Rattle.tc_term.specs.Tree.{Tree, Variable, Atomic, Number, Compound, Trees, Last, More, nodes, nodes_of_all, depth, depth_of_all, name_bytes, name_bytes_of_all, HasIntegers, HaveIntegers, IsTuple}
 use Rattle.tc_term.specs.Equations.{at, under, Equation, Solves, HasValue, Matches}
 use Rattle.tc_term.specs.Variables.{instance, instances, variables, variables_after, variables_after_all, var_bound, IsPattern}
 use Rattle.tc_term.proofs.Instances.{instance-ground}
@@ -14,12 +14,14 @@ record IsNoLarger (s t : Tree) : Type 0 where
   nodes : nodes s ≤ nodes t
   depth : depth s ≤ depth t
   name_bytes : name_bytes s ≤ name_bytes t
+  integers : HasIntegers t → HasIntegers s
 
 -- the same of arguments
 record AreNoLess (s : Tree) (ts : Trees) : Type 0 where
   nodes : nodes s ≤ nodes_of_all ts
   depth : depth s ≤ depth_of_all ts
   name_bytes : name_bytes s ≤ name_bytes_of_all ts
+  integers : HaveIntegers ts → HasIntegers s
 
 -- what stands for a variable is a part of the term
 mutual
@@ -27,7 +29,7 @@ mutual
   part_of f (Variable n) seen i stands =
       elim (Stands-with_number_back seen i n stands) [
         | inl old ↦ inl old
-        | inr same ↦ inr (subst (λ j. IsNoLarger (f i) (f j)) same (record { nodes = omega arith; depth = omega arith; name_bytes = omega arith }))
+        | inr same ↦ inr (subst (λ j. IsNoLarger (f i) (f j)) same (record { nodes = omega arith; depth = omega arith; name_bytes = omega arith; integers = λ h. h }))
       ]
   part_of f (Atomic name) seen i stands = inl stands
   part_of f (Number n) seen i stands = inl stands
@@ -39,6 +41,7 @@ mutual
               nodes = omega (arith, less.nodes);
               depth = omega (arith, less.depth);
               name_bytes = omega (arith, less.name_bytes);
+              integers = less.integers;
             })
       ]
 
@@ -46,7 +49,7 @@ mutual
   part_of_all f (Last t) seen i stands =
       elim (part_of f t seen i stands) [
         | inl old ↦ inl old
-        | inr less ↦ inr (record { nodes = less.nodes; depth = less.depth; name_bytes = less.name_bytes })
+        | inr less ↦ inr (record { nodes = less.nodes; depth = less.depth; name_bytes = less.name_bytes; integers = less.integers })
       ]
   part_of_all f (More t ts) seen i stands =
       elim (part_of_all f ts (variables_after seen t) i stands) [
@@ -58,6 +61,7 @@ mutual
                     nodes = omega (arith, less.nodes);
                     depth = omega (arith, less.depth);
                     name_bytes = omega (arith, less.name_bytes);
+                    integers = λ h. less.integers h.0;
                   })
             ]
         | inr less ↦
@@ -65,6 +69,7 @@ mutual
               nodes = omega (arith, less.nodes);
               depth = omega (arith, less.depth);
               name_bytes = omega (arith, less.name_bytes);
+              integers = λ h. less.integers h.1;
             })
       ]
 
@@ -118,6 +123,7 @@ bound n es t u i tuple stands match =
           nodes = omega (arith, least.nodes, ap nodes made, tuple.fits.nodes);
           depth = omega (arith, least.depth, ap depth made, tuple.fits.depth);
           name_bytes = omega (arith, least.name_bytes, ap name_bytes made, tuple.fits.name_bytes);
+          integers = least.integers (subst HasIntegers (sym made) tuple.fits.integers);
         };
       },
     )

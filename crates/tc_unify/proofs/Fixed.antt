@@ -13,13 +13,14 @@ use Rattle.tc_term.specs.TreeView.{tree_of, trees_of}
 use Rattle.tc_term.specs.Variables.{raised}
 use Rattle.tc_unify.proofs.Copied.{applied_over-of_term}
 use Rattle.tc_unify.specs.declared.links.Links.{Links}
-use Rattle.tc_unify.specs.declared.room.Room.{Room}
+use Rattle.tc_term.specs.declared.limits.Room.{Room}
 use Rattle.tc_unify.specs.Nodes.{applied, applied_over, VariableNode, tree_of_node, label}
 use Rattle.tc_unify.specs.Links.{root}
 use Rattle.tc_unify.specs.Solutions.{IsSolution}
 use Rattle.tc_unify.specs.Arena.{IsNodeOf, shape_of}
 use Rattle.tc_unify.specs.Tables.{link_of}
-use Rattle.tc_unify.specs.Values.{AreSolved, IsFixed, IsWithin, IsSpent, IsValue, of_node, of_term}
+use Rattle.tc_term.specs.Room.{IsWithin, IsSpent}
+use Rattle.tc_unify.specs.Values.{AreSolved, IsFixed, IsValue, of_node, of_term}
 use Rattle.tc_unify.proofs.Labels.{depth-positive, nodes-positive, IsSpine, IsSpine-applied, applied-injective, nodes-applied, depth-applied, name_bytes-applied, label-labels}
 use Rattle.tc_unify.proofs.Roots.{root-tree}
 use Rattle.tc_unify.proofs.Finite.{choice_trees, choice_trees-solve, choice_trees-free}

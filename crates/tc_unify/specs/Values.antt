@@ -1,13 +1,14 @@
 -- Values: what every solution makes of a node or of a term, and the room that it takes.
-use Rattle.std.specs.Prelude.{◌≡◌, ℕ, ◌+◌, ◌≤◌, List, All, reverse, Option, IfSome, IfNone}
+use Rattle.std.specs.Prelude.{◌≡◌, ℕ, List, All, reverse, Option, IfSome, IfNone}
 use Rattle.tc_term.specs.declared.terms.Term.{Term}
 use Rattle.tc_term.specs.Equations.{at, under}
-use Rattle.tc_term.specs.Tree.{Tree, nodes, depth, name_bytes}
+use Rattle.tc_term.specs.Tree.{Tree}
+use Rattle.tc_term.specs.declared.limits.Room.{Room}
+use Rattle.tc_term.specs.Room.{IsWithin, IsSpent}
 use Rattle.tc_term.specs.TreeView.{tree_of}
 use Rattle.tc_term.specs.Variables.{raised}
 use Rattle.tc_unify.specs.declared.nodes.Arena.{Arena}
 use Rattle.tc_unify.specs.declared.links.Links.{Links}
-use Rattle.tc_unify.specs.declared.room.Room.{Room}
 use Rattle.tc_unify.specs.declared.nodes.Spine.{Spine}
 use Rattle.tc_unify.specs.Nodes.{IsAtom, applied_over, label}
 use Rattle.tc_unify.specs.Links.{Respects, LinkedAlike}
@@ -15,18 +16,6 @@ use Rattle.tc_unify.specs.Solutions.{IsSolution}
 use Rattle.tc_unify.specs.Arena.{IsNodeOf, shape_of}
 use Rattle.tc_unify.specs.Tables.{link_of}
 use Rattle.tc_unify.specs.Meeting.{IsLinked}
-
--- the term is at most this deep, and there is room for its nodes and the bytes of its names
-pub record IsWithin (t : Tree) (limit : ℕ) (room : Room) : Type 0 where
-  pub nodes : nodes t ≤ room.nodes
-  pub depth : depth t ≤ limit
-  pub name_bytes : name_bytes t ≤ room.name_bytes
-
--- the term is within the room, and this is left of it
-pub record IsSpent (t : Tree) (limit : ℕ) (room left : Room) : Type 0 where
-  pub nodes : left.nodes + nodes t ≡ room.nodes
-  pub depth : depth t ≤ limit
-  pub name_bytes : left.name_bytes + name_bytes t ≡ room.name_bytes
 
 -- links that have a solution, and whose linked nodes are alike
 pub record AreSolved (a : Arena) (l : Links) : Type 0 where

@@ -1,5 +1,6 @@
 //! Stores for tests: terms are written as text, and each call's condition is looked at first.
 ghost use Rattle.std.specs.Prelude.{◌≡◌, ◌≤◌, IsTrue, length, OnOk};
+ghost use mathlib.Core.List.{IsPrefix};
 ghost use Rattle.tc_term.specs.TreeView.{tree_of};
 ghost use Rattle.tc_term.specs.Variables.{raised, var_bound};
 
@@ -28,7 +29,7 @@ impl Sample {
 
     /// Whether the equation is added.
     pub(crate) fn add(&mut self, s: Part, t: Part) -> Result<bool, Fail>
-        ensures { length self.old.store.pairs ≤ length self.new.store.pairs }
+        ensures { IsPrefix self.old.store.pairs self.new.store.pairs }
     {
         if !is_below(s.term, s.shift, self.vars) || !is_below(t.term, t.shift, self.vars) {
             return Err(Fail::new("a variable past the store"));
@@ -44,21 +45,21 @@ impl Sample {
     }
 
     pub(crate) fn mark(&self) -> StoreMark
-        ensures { result ≡ length self.now.store.pairs }
+        ensures { result ≡ self.now.store.pairs }
     {
         self.store.mark()
     }
 
     pub(crate) fn undo(&mut self, mark: &StoreMark)
-        requires { mark.now ≤ length self.old.store.pairs }
-        ensures { length self.new.store.pairs ≡ mark.now }
+        requires { IsPrefix mark.now self.old.store.pairs }
+        ensures { self.new.store.pairs ≡ mark.now }
     {
         self.store.undo(mark);
     }
 
     /// Adds variables, if their number stays within `u32`.
     pub(crate) fn grow(&mut self, n: u32) -> Result<(), Fail>
-        ensures { length self.old.store.pairs ≤ length self.new.store.pairs }
+        ensures { IsPrefix self.old.store.pairs self.new.store.pairs }
     {
         let Some(vars) = self.vars.checked_add(n) else {
             return Err(Fail::new("too many variables"));

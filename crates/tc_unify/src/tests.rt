@@ -1,5 +1,6 @@
 //! Tables of equations: which are accepted, and which values they give.
-ghost use Rattle.std.specs.Prelude.{◌+◌, ◌<◌, ◌≤◌, length};
+ghost use Rattle.std.specs.Prelude.{◌+◌, ◌<◌};
+ghost use mathlib.Core.List.{IsPrefix};
 
 use crate::Part;
 use crate::samples::{Sample, as_is, compound, repeated, term};
@@ -36,7 +37,7 @@ fn adds(
     right: &str,
     want: bool,
 ) -> Result<(), Fail>
-    ensures { length sample.old.store.pairs ≤ length sample.new.store.pairs }
+    ensures { IsPrefix sample.old.store.pairs sample.new.store.pairs }
 {
     let s = term(alloc, left)?;
     let t = term(alloc, right)?;

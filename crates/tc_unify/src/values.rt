@@ -1,6 +1,8 @@
 //! Values of nodes and terms: what every solution makes of them, where it is within the limits.
-ghost use Rattle.std.specs.Prelude.{◌≡◌, ◌≤◌, ◌<◌, length, IfOk};
-ghost use Rattle.tc_term.specs.Tree.{Atomic, IsTuple};
+ghost use Rattle.std.specs.Prelude.{◌≡◌, ◌≤◌, ◌<◌, length, IfOk, IsTrue};
+ghost use Rattle.tc_term.specs.Limits.{most_depth};
+ghost use Rattle.tc_term.specs.Room.{whole, IsWithin};
+ghost use Rattle.tc_term.specs.Tree.{Atomic, is_ground, IsTuple};
 ghost use Rattle.tc_term.specs.TreeView.{tree_of};
 ghost use Rattle.tc_term.specs.Variables.{raised, var_bound};
 ghost use Rattle.tc_unify.specs.Nodes.{applied_over};
@@ -9,10 +11,9 @@ ghost use Rattle.tc_unify.specs.Values.{AreSolved, IsValue, of_node, of_term};
 
 use crate::links::Links;
 use crate::nodes::{Arena, FIRST_NAME, FIRST_VARIABLE, Node};
-use crate::room::Room;
 use std::alloc::Global;
 use tc_lists::NoMemory;
-use tc_term::{Args, Ground, Name, Term};
+use tc_term::{Args, Ground, Name, Room, Term};
 
 /// The value of a term with raised variables, within so many levels and the room, which it takes.
 ///
@@ -120,10 +121,12 @@ fn with_arguments(name: Name, arguments: Vec<Term>) -> Term
     }
 }
 
-/// The tuple of a term that is known to be one.
+/// The tuple of a ground term of such a size.
 pub(crate) fn tuple_of(term: Term) -> Ground
-    requires { IsTuple (tree_of term) }
-    ensures { result ≡ tree_of term }
+    requires ground { IsTrue (is_ground (tree_of term)) }
+    requires small { IsWithin (tree_of term) most_depth whole }
+    ensures term { result ≡ tree_of term }
+    ensures tuple { IsTuple (tree_of term) }
 {
     match Ground::of(term) {
         Ok(tuple) => tuple,

@@ -4,7 +4,8 @@ use Rattle.tc_term.specs.TreeView.{tree_of}
 use Rattle.tc_term.specs.Equations.{at}
 use Rattle.tc_unify.specs.Nodes.{applied_over, label}
 use Rattle.tc_unify.specs.Arena.{IsNodeOf, shape_of}
-use Rattle.tc_unify.specs.Values.{IsSpent, of_node}
+use Rattle.tc_term.specs.Room.{IsSpent}
+use Rattle.tc_unify.specs.Values.{of_node}
 use Rattle.tc_unify.proofs.Fixed.{Builds}
 use Rattle.tc_unify.proofs.values.+node_value.Given as goal
 

@@ -4,7 +4,8 @@ use Rattle.tc_term.specs.Tree.{Atomic}
 use Rattle.tc_term.specs.TreeView.{tree_of}
 use Rattle.tc_term.specs.Variables.{raised, var_bound}
 use Rattle.tc_unify.specs.Nodes.{applied_over}
-use Rattle.tc_unify.specs.Values.{IsSpent, of_term}
+use Rattle.tc_term.specs.Room.{IsSpent}
+use Rattle.tc_unify.specs.Values.{of_term}
 use Rattle.tc_unify.proofs.Fixed.{Builds}
 use Rattle.tc_unify.proofs.values.+part_value.Given as goal
 
