@@ -104,6 +104,13 @@ impl Bag {
         Some((slot.age, &slot.tuple))
     }
 
+    /// The age that the next tuple that is put will have, above those of all that are there.
+    pub fn next_age(&self) -> u64
+        ensures { result ≡ self.now.next }
+    {
+        self.next
+    }
+
     /// The tuple of this age, where it is there. Takes O(log rows) time.
     pub fn get(&self, age: u64) -> Option<&Ground>
         ensures { option_copied result ≡ tuple_at age self.now.now }

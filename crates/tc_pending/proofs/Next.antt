@@ -1,7 +1,10 @@
 -- Which request is next, of those that a search has come past.
-use Rattle.std.proofs.Common.{◌≡◌, ◌<◌, ◌≤◌, ◌+◌, ℕ, List, [], ◌∷◌, ◌++◌, Some, length, get_or, take, sym, ap, subst, ◌∙◌}
-use Rattle.std.proofs.lemmas.List.{take_more, take_all}
-use Rattle.std.proofs.lemmas.Option.{slice_get-get_or}
+use Rattle.std.proofs.Common.{◌≡◌, ◌<◌, ◌≤◌, ◌+◌, ℕ, List, [], ◌∷◌, ◌++◌, Some, Contains, length, get_or, slice_get, take, sym, ap, subst, ◌∙◌, ⊎_elim, arith}
+use Rattle.std.specs.List.{remove}
+use Rattle.std.proofs.lemmas.Bool.{cases_lt}
+use Rattle.std.proofs.lemmas.List.Edits.{length-remove, get_or-remove_below, get_or-remove_above}
+use Rattle.std.proofs.lemmas.List.{take_more, take_all, length-take, get_or-take}
+use Rattle.std.proofs.lemmas.Option.{slice_get-get_or, slice_get_within, get_or_from_slice_get}
 use Rattle.tc_lists.specs.Firsts.{NoneOf}
 use Rattle.tc_lists.proofs.Firsts.{NoneOf-push}
 use Rattle.tc_term.specs.Tree.{Tree}
@@ -10,7 +13,27 @@ use Rattle.tc_bag.specs.Stock.{Row, tuples_of}
 use Rattle.tc_search.specs.Found.{IsFound}
 use Rattle.tc_model.specs.State.{IsMatch, IsAnswerable}
 use Rattle.tc_model.specs.declared.calls.Request.{Request}
-use Rattle.tc_pending.specs.Answers.{IsNextAnswer}
+use Rattle.tc_pending.specs.Answers.{IsNextAnswer, IsKnown}
+use Rattle.tc_pending.specs.declared.answering.Known.{Known}
+
+-- what stands before a place stands before a later one
+pub contains-earlier : {X : Type 0} (xs : List X) (m n : ℕ) (x : X) → m ≤ n → Contains (take m xs) x → Contains (take n xs) x
+contains-earlier xs m n x less stands =
+    let k : ℕ = stands.0 in
+    let low : k < m = omega (arith, stands.1, length-take m xs) in
+    let high : k < length xs = omega (arith, stands.1, length-take m xs) in (
+      k,
+      omega (arith, low, high, less, length-take n xs),
+      get_or-take n xs k x (omega (arith, low, less)) ∙ sym (get_or-take m xs k x low) ∙ stands.2,
+    )
+
+pub contains-at : {X : Type 0} (xs : List X) (i n : ℕ) (x : X) → i < n → slice_get xs i ≡ Some x → Contains (take n xs) x
+contains-at xs i n x inside at =
+    let within : i < length xs = slice_get_within xs i x at in (
+      i,
+      omega (arith, inside, within, length-take n xs),
+      get_or-take n xs i x inside ∙ get_or_from_slice_get xs i x x at,
+    )
 
 module _ (rows : List Row) (requests : List Request) (place : ℕ) (r : Request) where
   pub is_next : (age : ℕ) (u : Tree) → place < length requests → r ≡ get_or requests place r
@@ -40,3 +63,35 @@ pub none_at_all : (rows : List Row) (requests : List Request) (place : ℕ) → 
     → NoneOf (IsAnswerable (tuples_of rows)) requests
 none_at_all rows requests place past none =
     subst (NoneOf (IsAnswerable (tuples_of rows))) (take_all place requests past) none
+
+-- what stands among the first once the element at a place is gone, stood among the first before
+pub contains-removed : {X : Type 0} (xs : List X) (place m n : ℕ) (x : X) → place < length xs → n ≤ m → (place < m → n + 1 ≤ m)
+    → Contains (take n (remove xs place)) x → Contains (take m xs) x
+contains-removed xs place m n x inside less fewer stands =
+    let k : ℕ = stands.0 in
+    let count = length-remove xs place inside in
+    let low : k < n = omega (arith, stands.1, length-take n (remove xs place)) in
+    let there : k < length (remove xs place) = omega (arith, stands.1, length-take n (remove xs place)) in
+    let is : get_or (remove xs place) k x ≡ x = sym (get_or-take n (remove xs place) k x low) ∙ stands.2 in
+    ⊎_elim
+    (λ (before : k < place). (
+      k,
+      omega (arith, low, less, there, count, length-take m xs),
+      get_or-take m xs k x (omega (arith, low, less)) ∙ sym (get_or-remove_below xs place x k before inside) ∙ is,
+    ))
+    (λ (behind : place ≤ k).
+    let step : n + 1 ≤ m = fewer (omega (arith, behind, low, less)) in (
+      k + 1,
+      omega (arith, low, step, there, count, length-take m xs),
+      get_or-take m xs (k + 1) x (omega (arith, low, step)) ∙ sym (get_or-remove_above xs place x k behind inside) ∙ is,
+    ))
+    (cases_lt k place)
+
+-- what is known stays, where a request goes, and rows
+pub known-without : (known new : Known) (place : ℕ) (rows left : List Row) (requests : List Request)
+    → new.age ≡ known.age → new.requests ≤ known.requests → (place < known.requests → new.requests + 1 ≤ known.requests)
+    → ((row : Row) → Contains left row → Contains rows row) → place < length requests → IsKnown known rows requests
+    → IsKnown new left (remove requests place)
+known-without known new place rows left requests age less fewer stay inside is q row stands there older =
+    is q row (contains-removed requests place known.requests new.requests q inside less fewer stands) (stay row there)
+    (omega (arith, older, age))

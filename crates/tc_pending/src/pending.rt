@@ -1,11 +1,11 @@
 //! The list of requests that wait.
+use crate::answering::{Known, answerable_from, newly_answerable};
 use crate::changes::{Change, go_back, make_room, note};
 use std::alloc::Global;
 use std::marker::Model;
 use tc_bag::Bag;
 use tc_lists::NoMemory;
 use tc_model::Request;
-use tc_search::oldest_match_of;
 
 /// Requests that wait, oldest first; and marks to which the list goes back.
 ///
@@ -39,12 +39,12 @@ impl Model for Pending {
 }
 
 impl Pending {
-    ghost use Rattle.std.specs.Prelude.{◌≡◌, ◌<◌, ◌++◌, ◌∷◌, [], length, remove, IfOk, IfSome, IfNone, OnOk, OnErr};
+    ghost use Rattle.std.specs.Prelude.{◌≡◌, ◌<◌, ◌≤◌, ◌++◌, ◌∷◌, [], length, remove, IfOk, IfSome, IfNone, OnOk, OnErr};
     ghost use Rattle.tc_lists.specs.Firsts.{NoneOf};
     ghost use Rattle.tc_bag.specs.Stock.{tuples_of};
     ghost use Rattle.tc_model.specs.State.{IsAnswerable};
     ghost use Rattle.tc_pending.specs.Waiting.{marked, IsUndone, IsKept};
-    ghost use Rattle.tc_pending.specs.Answers.{IsNextAnswer};
+    ghost use Rattle.tc_pending.specs.Answers.{IsNextAnswer, IsKnown};
 
     /// No request and no mark.
     pub fn new(alloc: Global) -> Pending
@@ -75,12 +75,25 @@ impl Pending {
         ensures none { IfOk result (λ found. IfNone found
             (NoneOf (IsAnswerable (tuples_of bag.now.now)) self.now.now)) }
     {
-        for (place, request) in self.requests.iter().enumerate() {
-            if let Some((age, _)) = oldest_match_of(self.alloc, &request.template, bag)? {
-                return Ok(Some((place, age)));
-            }
+        answerable_from(self.alloc, &self.requests, bag, 0)
+    }
+
+    /// The same as `oldest_answerable`, where it is known what no longer has to be looked at.
+    ///
+    /// Tuples of an age from `known.age` on are new to all requests, and requests from the place
+    /// `known.requests` on are new to all tuples.
+    pub fn next_answerable(&self, bag: &Bag, known: Known) -> Result<Option<(usize, u64)>, NoMemory>
+        requires known { IsKnown known bag.now.now self.now.now }
+        requires inside { known.requests ≤ length self.now.now }
+        ensures found { IfOk result (λ found. IfSome found
+            (λ r. IsNextAnswer bag.now.now self.now.now r.0 r.1)) }
+        ensures none { IfOk result (λ found. IfNone found
+            (NoneOf (IsAnswerable (tuples_of bag.now.now)) self.now.now)) }
+    {
+        if let Some(next) = newly_answerable(&self.requests, bag, known) {
+            return Ok(Some(next));
         }
-        Ok(None)
+        answerable_from(self.alloc, &self.requests, bag, known.requests)
     }
 
     /// Appends a request. Memory is taken for its removal, too, and for its return.

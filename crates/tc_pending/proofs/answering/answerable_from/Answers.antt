@@ -1,0 +1,19 @@
+use Rattle.std.proofs.Common.{sym, subst, arith}
+use Rattle.tc_bag.specs.Stock.{tuples_of}
+use Rattle.tc_lists.proofs.Options.{IfNone-at}
+use Rattle.tc_lists.specs.Firsts.{NoneOf}
+use Rattle.tc_model.specs.State.{IsMatch}
+use Rattle.tc_model.specs.declared.calls.Request.{Request}
+use Rattle.tc_pending.proofs.Next.{none_further, none_at_all}
+use Rattle.tc_pending.proofs.answering.answerable_from.Goals as goal
+
+pub loop-at-preserved : goal.loop-at-preserved
+loop-at-preserved c =
+    none_further c.args.bag.now.now c.args.requests.now c.loop-at.at c.index-requests-at.result (omega (arith, c.loop-at-test.true))
+    c.index-requests-at.is c.loop-at.invariant
+    (subst (λ (q : Request). NoneOf (IsMatch q.template) (tuples_of c.args.bag.now.now)) (sym c.index-requests-at.is)
+    (IfNone-at _ c.in_ok-age.field-0 c.in_default.is c.in_ok-age.ensures.none))
+
+pub returns-clause-none : goal.returns-clause-none
+returns-clause-none c =
+    none_at_all c.args.bag.now.now c.args.requests.now c.loop-at.at (omega (arith, c.loop-at-test.false)) c.loop-at.invariant
