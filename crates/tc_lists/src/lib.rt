@@ -1,6 +1,13 @@
 //! Lists for the fields of public types, and the words on plain lists that several crates want.
 //!
 //! Nothing here knows of terms, tuples or histories.
+//!
+//! ```
+//! let mut text = Vec::new(alloc);
+//! append_number(u64::MAX, &mut text)?;
+//! let read = read_number(b"123", 99);
+//! assert!(rt; read.is_some_and(|r| r.0 == 12 && r.1.len() == 1));
+//! ```
 #![tactic(auto)]
 
 mod numbers;

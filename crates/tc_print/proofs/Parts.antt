@@ -1,8 +1,6 @@
 -- The text of a term from the texts of its parts.
 use Rattle.std.proofs.Common.{◌≡◌, ◌<◌, ℕ, false, List, [], ◌∷◌, ◌++◌, codes, length, refl, ap, sym, ◌∙◌, ap₂, if◌then◌else◌, append-nil, append_assoc, arith}
-use Rattle.std.specs.Str.{bytes_eq}
-use Rattle.std.proofs.lemmas.Bool.{false_from_ne_true}
-use Rattle.std.proofs.lemmas.Slice.Eq.{bytes_eq-Decides}
+use Rattle.tc_lists.proofs.Bools.{bytes_eq-apart}
 use Rattle.tc_print.proofs.Numbers.{place_in-variables_after_all}
 use Rattle.tc_print.specs.Printing.{renamed, text_after, texts_after, IsCell, IsEmptyList, IsNoCell}
 use Rattle.tc_term.proofs.Numbered.{instance-alike}
@@ -37,9 +35,6 @@ text_in-pair place name t u other =
     (λ b. if b then before_element place ++ text_in Alone t ++ text_in Behind u
     else placed place (applied name (text_in Alone t ++ codes "," ++ text_in Alone u)))
     other
-
-pub bytes_eq-apart : (xs ys : List ℕ) → (xs ≡ ys → ⊥) → bytes_eq xs ys ≡ false
-bytes_eq-apart xs ys apart = false_from_ne_true (bytes_eq xs ys) (λ same. apart ((bytes_eq-Decides xs ys).0 same))
 
 is_dot-no_cell : (name : List ℕ) (t u : Tree) → IsNoCell (Compound name (More t (Last u))) → is_dot name ≡ false
 is_dot-no_cell name t u no_cell = bytes_eq-apart name (codes ".") (λ e. no_cell t u (ap (λ n. Compound n (More t (Last u))) e))

@@ -1,7 +1,8 @@
 //! Names as text: plain where they have the form of a name token, else quoted.
 ghost use Rattle.std.specs.Prelude.{◌≡◌, ◌++◌, OnErr, OnOk};
 ghost use Rattle.std.specs.List.{flat_map, list_all};
-ghost use Rattle.tc_term.specs.Text.{atom_text, is_name, is_word, name_text, quoted, quoted_byte};
+ghost use Rattle.tc_term.specs.Bytes.{is_word};
+ghost use Rattle.tc_term.specs.Text.{atom_text, is_name, name_text, quoted, quoted_byte};
 ghost use mathlib.Core.List.{IsPrefix};
 
 use crate::cut::cut_back;
@@ -14,11 +15,7 @@ pub fn print_name(_alloc: Global, n: &Name, into: &mut Vec<u8>) -> Result<(), No
     ensures appended { OnOk result (into.new.items ≡ into.old.items ++ atom_text n.now) }
     ensures same { OnErr result (into.new.items ≡ into.old.items) }
 {
-    if n.bytes() == b"[]".as_slice() {
-        into.extend_from_slice(b"[]")
-    } else {
-        append_name(n.bytes(), into)
-    }
+    append_atom(n.bytes(), into)
 }
 
 /// Appends bytes between quotes.
@@ -27,6 +24,18 @@ pub fn print_quoted(_alloc: Global, bytes: &[u8], into: &mut Vec<u8>) -> Result<
     ensures same { OnErr result (into.new.items ≡ into.old.items) }
 {
     append_quoted(bytes, into)
+}
+
+// A name as an atom's is printed: the name of the empty list is plain.
+pub(crate) fn append_atom(name: &[u8], into: &mut Vec<u8>) -> Result<(), NoMemory>
+    ensures appended { OnOk result (into.new.items ≡ into.old.items ++ atom_text name.now) }
+    ensures same { OnErr result (into.new.items ≡ into.old.items) }
+{
+    if name == b"[]".as_slice() {
+        into.extend_from_slice(b"[]")
+    } else {
+        append_name(name, into)
+    }
 }
 
 // A name as a compound's is printed: the name of the empty list is quoted.

@@ -1,5 +1,5 @@
 //! Terms as text.
-ghost use Rattle.std.specs.Prelude.{◌≡◌, ◌++◌, IfNone, IfSome, IsTrue, ◌↔◌, OnErr, OnOk};
+ghost use Rattle.std.specs.Prelude.{◌≡◌, ◌++◌, ◌∷◌, IfNone, IfSome, IsTrue, ◌↔◌, OnErr, OnOk};
 ghost use mathlib.Core.List.{IsPrefix};
 ghost use Rattle.tc_term.specs.Text.{Alone, Behind, applied, canonical};
 ghost use Rattle.tc_term.specs.Tree.{Fits, Variable};
@@ -8,7 +8,7 @@ ghost use Rattle.tc_term.specs.Variables.{variables_after, variables_after_all};
 ghost use Rattle.tc_print.specs.Printing.{IsCell, IsEmptyList, IsNoCell, text_after, texts_after};
 
 use crate::cut::cut_back;
-use crate::names::{append_name, print_name};
+use crate::names::{append_atom, append_name};
 use crate::numbering::Numbering;
 use std::alloc::Global;
 use tc_lists::{NoMemory, append_integer, append_number};
@@ -25,57 +25,61 @@ pub fn print_term(alloc: Global, t: &Term, into: &mut Vec<u8>) -> Result<(), NoM
 {
     let before = into.len();
     let mut seen = Numbering::new(alloc);
-    let written = write_term(alloc, t, &mut seen, into);
+    let written = write_term(t, &mut seen, into);
     cut_back(written, before, into)
 }
 
 // A term by itself.
 #[cycle(print)]
-fn write_term(
-    alloc: Global,
-    t: &Term,
-    seen: &mut Numbering,
-    into: &mut Vec<u8>,
-) -> Result<(), NoMemory>
+fn write_term(t: &Term, seen: &mut Numbering, into: &mut Vec<u8>) -> Result<(), NoMemory>
     ensures seen { OnOk result (seen.new ≡ variables_after seen.old (tree_of t.now)) }
     ensures appended { OnOk result (into.new.items
         ≡ into.old.items ++ text_after seen.old Alone (tree_of t.now)) }
     ensures kept { IsPrefix into.old.items into.new.items }
 {
     if let Some((head, tail)) = as_cell(t) {
-        into.push(b'[')?;
-        write_term(alloc, head, seen, into)?;
-        return write_tail(alloc, tail, seen, into);
+        write_behind(b'[', head, seen, into)?;
+        return write_tail(tail, seen, into);
     }
     match t {
         Term::Var(n) => write_variable(*n, seen, into),
-        Term::Atom(name) => print_name(alloc, name, into),
+        Term::Atom(name) => append_atom(name.bytes(), into),
         Term::Int(n) => append_integer(*n, into),
-        Term::Comp(name, args) => write_compound(alloc, name, args, seen, into),
+        Term::Comp(name, args) => write_compound(name, args, seen, into),
     }
 }
 
-// A term behind an element of a list, up to the end of the list.
+// A byte, and a term by itself behind it.
 #[cycle(print)]
-fn write_tail(
-    alloc: Global,
+fn write_behind(
+    byte: u8,
     t: &Term,
     seen: &mut Numbering,
     into: &mut Vec<u8>,
 ) -> Result<(), NoMemory>
     ensures seen { OnOk result (seen.new ≡ variables_after seen.old (tree_of t.now)) }
     ensures appended { OnOk result (into.new.items
+        ≡ into.old.items ++ byte ∷ text_after seen.old Alone (tree_of t.now)) }
+    ensures kept { IsPrefix into.old.items into.new.items }
+{
+    into.push(byte)?;
+    write_term(t, seen, into)
+}
+
+// A term behind an element of a list, up to the end of the list.
+#[cycle(print)]
+fn write_tail(t: &Term, seen: &mut Numbering, into: &mut Vec<u8>) -> Result<(), NoMemory>
+    ensures seen { OnOk result (seen.new ≡ variables_after seen.old (tree_of t.now)) }
+    ensures appended { OnOk result (into.new.items
         ≡ into.old.items ++ text_after seen.old Behind (tree_of t.now)) }
     ensures kept { IsPrefix into.old.items into.new.items }
 {
     if let Some((head, tail)) = as_cell(t) {
-        into.push(b',')?;
-        write_term(alloc, head, seen, into)?;
-        return write_tail(alloc, tail, seen, into);
+        write_behind(b',', head, seen, into)?;
+        return write_tail(tail, seen, into);
     }
     if !is_empty_list(t) {
-        into.push(b'|')?;
-        write_term(alloc, t, seen, into)?;
+        write_behind(b'|', t, seen, into)?;
     }
     into.push(b']')?;
     Ok(())
@@ -84,7 +88,6 @@ fn write_tail(
 // A name with arguments, between brackets.
 #[cycle(print)]
 fn write_compound(
-    alloc: Global,
     name: &Name,
     args: &Args,
     seen: &mut Numbering,
@@ -98,8 +101,7 @@ fn write_compound(
     append_name(name.bytes(), into)?;
     let mut separator = b'(';
     for arg in args.items() {
-        into.push(separator)?;
-        write_term(alloc, arg, seen, into)?;
+        write_behind(separator, arg, seen, into)?;
         separator = b',';
     }
     into.push(b')')?;

@@ -6,40 +6,45 @@ use Rattle.tc_term.specs.Variables.{variables_after_all}
 use Rattle.std.proofs.lemmas.Int.{to_z-of_z}
 use mir.Syntax.{w64}
 use mir.Val.{SFits, of_z, to_z}
-use Rattle.tc_print.proofs.terms.+print.Goals.{write_tail-then-not-is_empty_list+in_ok-push-2+in_ok-write_term-2, write_tail-else-not-is_empty_list}
-use Rattle.tc_term.specs.Tree.{Number}
+use Rattle.tc_print.proofs.terms.+print.Goals.{write_tail-then-not-is_empty_list+in_ok-write_behind-2, write_tail-else-not-is_empty_list}
+use Rattle.tc_term.specs.Tree.{Atomic, Number}
 use Rattle.tc_print.proofs.Parts.{separated, separated-texts_after, text_after-empty_list}
-use Rattle.tc_print.proofs.Written.{OnOk-cell, OnOk-compound, applied-joined, text_after-closed}
+use Rattle.tc_print.proofs.Written.{OnOk-behind, OnOk-cell, OnOk-compound, applied-joined, text_after-closed}
 use Rattle.tc_print.specs.Printing.{text_after, texts_after}
 use Rattle.tc_term.specs.Text.{Alone, Behind, name_text, text_in}
 use Rattle.tc_term.specs.TreeView.{tree_of}
 use Rattle.tc_print.proofs.terms.+print.Goals as goal
 
+pub write_behind-returns-clause-appended : goal.write_behind-returns-clause-appended
+write_behind-returns-clause-appended t c =
+    OnOk-behind c.write_term.result c.args.into.now.items c.write_term.new.into.items c.push.new.self.items
+    (text_after c.args.seen.now Alone (tree_of c.args.t.now)) c.args.byte c.in_ok-push.ensures.items c.write_term.ensures.appended
+
 pub write_term-returns-in-Some-clause-appended : goal.write_term-returns-in-Some-clause-appended
 write_term-returns-in-Some-clause-appended t c =
-    OnOk-cell c.write_tail.result c.args.into.now.items c.write_tail.new.into.items Alone c.args.seen.now c.write_term.new.seen
-    c.push.new.self.items c.write_term.new.into.items (tree_of c.args.t.now) (tree_of c.in-Some.head.now) (tree_of c.in-Some.tail.now)
-    c.in-Some.ensures.some c.in_ok-push.ensures.items c.in_ok-write_term.ensures.appended c.in_ok-write_term.ensures.seen
+    OnOk-cell c.write_tail.result c.args.into.now.items c.write_tail.new.into.items Alone 91 c.args.seen.now c.write_behind.new.seen
+    c.write_behind.new.into.items (tree_of c.args.t.now) (tree_of c.in-Some.head.now) (tree_of c.in-Some.tail.now)
+    c.in-Some.ensures.some refl c.in_ok-write_behind.ensures.appended c.in_ok-write_behind.ensures.seen
     c.write_tail.ensures.appended
 
 pub write_tail-returns-in-Some-clause-appended : goal.write_tail-returns-in-Some-clause-appended
 write_tail-returns-in-Some-clause-appended t c =
-    OnOk-cell c.write_tail.result c.args.into.now.items c.write_tail.new.into.items Behind c.args.seen.now c.write_term.new.seen
-    c.push.new.self.items c.write_term.new.into.items (tree_of c.args.t.now) (tree_of c.in-Some.head.now) (tree_of c.in-Some.tail.now)
-    c.in-Some.ensures.some c.in_ok-push.ensures.items c.in_ok-write_term.ensures.appended c.in_ok-write_term.ensures.seen
+    OnOk-cell c.write_tail.result c.args.into.now.items c.write_tail.new.into.items Behind 44 c.args.seen.now c.write_behind.new.seen
+    c.write_behind.new.into.items (tree_of c.args.t.now) (tree_of c.in-Some.head.now) (tree_of c.in-Some.tail.now)
+    c.in-Some.ensures.some refl c.in_ok-write_behind.ensures.appended c.in_ok-write_behind.ensures.seen
     c.write_tail.ensures.appended
 
 pub write_tail-returns-clause-appended : goal.write_tail-returns-clause-appended
 write_tail-returns-clause-appended t c =
     elim c.if-not-is_empty_list.branch [
-      | write_tail-then-not-is_empty_list+in_ok-push-2+in_ok-write_term-2 w ↦
-          text_after-closed c.args.seen.now c.args.into.now.items w.push-then-not-is_empty_list.new.self.items
-          w.write_term-then-not-is_empty_list.new.into.items c.push-2.new.self.items (tree_of c.args.t.now)
+      | write_tail-then-not-is_empty_list+in_ok-write_behind-2 w ↦
+          text_after-closed c.args.seen.now c.args.into.now.items
+          w.write_behind-then-not-is_empty_list.new.into.items c.push.new.self.items (tree_of c.args.t.now)
           (λ empty. let true_false = w.if-not-is_empty_list.ensures.1 empty in absurd (cc)) c.in_default.ensures.none
-          w.in_ok-push-2.ensures.items w.in_ok-write_term-2.ensures.appended
-          (c.in_ok-push-3.ensures.items ∙ ap (λ into. into.items ++ codes "]") w.into-is)
+          w.in_ok-write_behind-2.ensures.appended
+          (c.in_ok-push.ensures.items ∙ ap (λ into. into.items ++ codes "]") w.into-is)
       | write_tail-else-not-is_empty_list w ↦
-          c.in_ok-push-3.ensures.items ∙ ap (λ into. into.items ++ codes "]") w.into-is
+          c.in_ok-push.ensures.items ∙ ap (λ into. into.items ++ codes "]") w.into-is
           ∙ ap (λ text. c.args.into.now.items ++ text)
           (sym (text_after-empty_list c.args.seen.now (tree_of c.args.t.now) (w.if-not-is_empty_list.ensures.0 refl)))
     ]
@@ -47,8 +52,8 @@ write_tail-returns-clause-appended t c =
 pub write_term-returns-in-Atom-clause-appended : goal.write_term-returns-in-Atom-clause-appended
 unfolding text_in
 write_term-returns-in-Atom-clause-appended t c =
-    subst (λ u. OnOk c.print_name.result (c.print_name.new.into.items ≡ c.args.into.now.items ++ text_after c.args.seen.now Alone u))
-    (sym (ap tree_of c.in-Atom.is)) c.print_name.ensures.appended
+    subst (λ u. OnOk c.append_atom.result (c.append_atom.new.into.items ≡ c.args.into.now.items ++ text_after c.args.seen.now Alone u))
+    (ap Atomic c.bytes.ensures ∙ sym (ap tree_of c.in-Atom.is)) c.append_atom.ensures.appended
 
 pub write_term-returns-in-Int-clause-appended : goal.write_term-returns-in-Int-clause-appended
 unfolding text_in
@@ -77,7 +82,7 @@ write_compound-returns-clause-appended t c =
     let nothing_left = at_drop_all (separated c.loop-arg.seen c.loop-arg.separator) ts c.loop-arg.arg-index c.loop-arg-test.false in
     let all = separated-texts_after c.args.seen.now 40 ts c.items-arg-items.ensures.some
     ∙ ap (λ us. codes "(" ++ texts_after c.args.seen.now us) c.items-arg-items.ensures.trees in
-    c.in_ok-push-2.ensures.items
+    c.in_ok-push.ensures.items
     ∙ ap (λ text. text ++ codes ")")
     (sym (append-nil written) ∙ ap (λ text. written ++ text) (sym nothing_left) ∙ c.loop-arg.invariant.text
     ∙ ap (λ text. c.args.into.now.items ++ name_text c.args.name.now ++ text) all)
