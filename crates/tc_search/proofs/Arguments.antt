@@ -4,7 +4,8 @@ use Rattle.tc_term.specs.declared.terms.Term.{Term}
 use Rattle.tc_term.specs.Tree.{Compound, Trees, depth, depth_of_all, is_ground, are_ground}
 use Rattle.tc_term.specs.TreeView.{tree_of, trees_of}
 use Rattle.tc_term.specs.Variables.{raised, var_bound}
-use Rattle.tc_term.proofs.Instances.{raised-zero, both_true}
+use Rattle.tc_lists.proofs.Bools.{and_parts}
+use Rattle.tc_term.proofs.Instances.{raised-zero}
 use Rattle.tc_unify.proofs.Copied.{args_fit}
 
 pub argument_fits : (term : Term) (name : List ℕ) (args : Trees) (items : List Term) (count : ℕ) → tree_of term ≡ Compound name args → trees_of items ≡ args
@@ -21,9 +22,9 @@ ground_at : (items : List Term) → IsTrue (are_ground (trees_of items)) → (i 
 ground_at [] ground i d inside = absurd (omega arith)
 ground_at (t ∷ []) ground zero d inside = ground
 ground_at (t ∷ []) ground (suc i) d inside = absurd (omega arith)
-ground_at (t ∷ u ∷ ts) ground zero d inside = (both_true (is_ground (tree_of t)) (are_ground (trees_of (u ∷ ts))) ground).0
+ground_at (t ∷ u ∷ ts) ground zero d inside = (and_parts (is_ground (tree_of t)) (are_ground (trees_of (u ∷ ts))) ground).0
 ground_at (t ∷ u ∷ ts) ground (suc i) d inside =
-    let rest = (both_true (is_ground (tree_of t)) (are_ground (trees_of (u ∷ ts))) ground).1 in
+    let rest = (and_parts (is_ground (tree_of t)) (are_ground (trees_of (u ∷ ts))) ground).1 in
     ground_at (u ∷ ts) rest i d (omega arith)
 
 pub argument_ground : (term : Term) (name : List ℕ) (args : Trees) (items : List Term) → tree_of term ≡ Compound name args → trees_of items ≡ args

@@ -1,5 +1,6 @@
 -- Terms with other trees in place of their variables.
-use Rattle.std.proofs.Common.{◌≡◌, ◌<◌, ◌≤◌, ◌+◌, ◌&&◌, ℕ, Bool, true, false, IsTrue, refl, ap, ◌∙◌, arith}
+use Rattle.std.proofs.Common.{◌≡◌, ◌<◌, ◌≤◌, ◌+◌, ◌&&◌, ℕ, IsTrue, refl, ap, ◌∙◌, arith}
+use Rattle.tc_lists.proofs.Bools.{and_parts}
 use Rattle.tc_term.specs.Tree.{Tree, Variable, Atomic, Number, Compound, Trees, Last, More, is_ground, are_ground}
 use Rattle.tc_term.specs.Variables.{instance, instances, var_bound, var_bound_of_all, all_renamed, raised}
 
@@ -46,10 +47,6 @@ mutual
       let rest = instances-instances f g ts in
       cc
 
-pub both_true : (a b : Bool) → (a && b) ≡ true → (a ≡ true) × (b ≡ true)
-both_true true b both = (refl, both)
-both_true false b both = absurd (cc)
-
 -- a ground term has no variable
 mutual
   pub var_bound-ground : (t : Tree) → IsTrue (is_ground t) → var_bound t ≡ 0
@@ -61,7 +58,7 @@ mutual
   pub var_bound_of_all-ground : (ts : Trees) → IsTrue (are_ground ts) → var_bound_of_all ts ≡ 0
   var_bound_of_all-ground (Last t) ground = var_bound-ground t ground
   var_bound_of_all-ground (More t ts) ground =
-      let each = both_true (is_ground t) (are_ground ts) ground in
+      let each = and_parts (is_ground t) (are_ground ts) ground in
       omega (arith, var_bound-ground t each.0, var_bound_of_all-ground ts each.1)
 
 pub instance-ground : (f : ℕ → Tree) (t : Tree) → IsTrue (is_ground t) → instance f t ≡ t

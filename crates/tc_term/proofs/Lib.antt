@@ -7,3 +7,4 @@ pub mod Instances
 pub mod Solutions
 pub mod Numbered
 pub mod Matching
+pub mod Causes

@@ -1,8 +1,9 @@
 -- Terms whose variables are 0, 1, .. by first appearance.
-use Rattle.std.proofs.Common.{◌≡◌, ◌<◌, ◌≤◌, ◌+◌, ◌-◌, ◌⊎◌, inl, inr, ℕ, zero, suc, add-one, IsTrue, List, [], ◌∷◌, ◌++◌, length, refl, ap, sym, ◌∙◌, subst, arith}
+use Rattle.std.proofs.Common.{◌≡◌, ◌<◌, ◌≤◌, ◌-◌, ◌⊎◌, inl, inr, ℕ, IsTrue, List, [], length, refl, ap, sym, ◌∙◌, subst, arith}
 use Rattle.std.specs.List.{range_with_len}
 use Rattle.std.proofs.lemmas.Bool.{cases_lt}
-use Rattle.tc_term.proofs.Instances.{instance-Variable, both_true}
+use Rattle.tc_lists.proofs.Bools.{and_parts}
+use Rattle.tc_term.proofs.Instances.{instance-Variable}
 use Rattle.tc_term.proofs.Places.{Stands, Stands-range, Stands-with_number_back, Stands-with_number_new, place_in-range}
 use Rattle.tc_term.proofs.Renumbering.{Stands-variables_after_all}
 use Rattle.tc_term.specs.Tree.{Tree, Variable, Atomic, Number, Compound, Trees, Last, More, is_ground, are_ground, IsTuple}
@@ -74,12 +75,6 @@ renumbered-in_order t numbered =
 pub renumbered-pattern : (t : Tree) → IsPattern t → renumbered t ≡ t
 renumbered-pattern t pattern = renumbered-in_order t pattern.numbered
 
--- one number more
-range-push : (a n : ℕ) → range_with_len a (suc n) ≡ range_with_len a n ++ (a + n) ∷ []
-range-push a zero = ap (λ m. m ∷ []) (omega arith)
-range-push a (suc n) =
-    ap (λ ms. a ∷ ms) (range-push (a + 1) n ∙ ap (λ m. range_with_len (a + 1) n ++ m ∷ []) (omega arith))
-
 -- a template's variables are those below their number
 pub var_bound-pattern : (t : Tree) → IsPattern t → var_bound t ≡ length (variables t)
 var_bound-pattern t pattern =
@@ -99,9 +94,6 @@ var_bound-pattern t pattern =
     ] in
     omega (arith, within, reached)
 
-pub range-more : (n : ℕ) → range_with_len 0 (n + 1) ≡ range_with_len 0 n ++ n ∷ []
-range-more n = ap (range_with_len 0) (add-one n) ∙ range-push 0 n ∙ ap (λ m. range_with_len 0 n ++ m ∷ []) (omega arith)
-
 -- a ground term has no variable that wasn't seen
 mutual
   pub variables_after-ground : (t : Tree) (seen : List ℕ) → IsTrue (is_ground t) → variables_after seen t ≡ seen
@@ -113,7 +105,7 @@ mutual
   pub variables_after_all-ground : (ts : Trees) (seen : List ℕ) → IsTrue (are_ground ts) → variables_after_all seen ts ≡ seen
   variables_after_all-ground (Last t) seen ground = variables_after-ground t seen ground
   variables_after_all-ground (More t ts) seen ground =
-      let each = both_true (is_ground t) (are_ground ts) ground in
+      let each = and_parts (is_ground t) (are_ground ts) ground in
       ap (λ s. variables_after_all s ts) (variables_after-ground t seen each.0) ∙ variables_after_all-ground ts seen each.1
 
 pub variables-tuple : (t : Tree) → IsTuple t → variables t ≡ []

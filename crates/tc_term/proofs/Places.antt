@@ -5,6 +5,7 @@ use Rattle.std.proofs.lemmas.Bool.{cases_lt}
 use Rattle.std.proofs.lemmas.List.{map-append, length-map, get_or_append_left, get_or_push}
 use Rattle.std.proofs.lemmas.List.FromFn.{get_or-range_with_len, length-range_with_len}
 use Rattle.std.specs.List.{range_with_len}
+use Rattle.tc_lists.proofs.Ranges.{map_is_range}
 use Rattle.tc_term.specs.Variables.{place_in, with_number}
 
 -- the number stands in the list
@@ -149,17 +150,8 @@ IsOnce-with_number seen n once =
     ]
 
 -- the places of all numbers of a list
-pub map-range : (g : ℕ → ℕ) (a : ℕ) (ms : List ℕ) →
-    ((k d : ℕ) → k < length ms → g (get_or ms k d) ≡ a + k) → map g ms ≡ range_with_len a (length ms)
-map-range g a [] each = refl
-map-range g a (m ∷ ms) each =
-    let first : g m ≡ a = each 0 0 (omega arith) ∙ omega arith in
-    let rest : map g ms ≡ range_with_len (a + 1) (length ms) =
-    map-range g (a + 1) ms (λ k d inside. each (suc k) d (omega (arith, inside)) ∙ omega arith) in
-    cc
-
 pub map-place_in : (ms : List ℕ) → IsOnce ms → map (place_in ms) ms ≡ range_with_len 0 (length ms)
-map-place_in ms once = map-range (place_in ms) 0 ms (λ k d inside. once k d inside ∙ omega arith)
+map-place_in ms once = map_is_range (place_in ms) 0 ms (λ k d inside. once k d inside ∙ omega arith)
 
 -- what stands in a list with one more number stood in it before, or is that number
 pub Stands-with_number_back : (seen : List ℕ) (m n : ℕ) → Stands (with_number seen n) m → Stands seen m ⊎ (m ≡ n)

@@ -8,7 +8,8 @@ use Rattle.tc_term.specs.declared.template.NotPattern.{NotPattern}
 use Rattle.tc_term.specs.declared.template.NotPattern.TheVariants.{TooBig, TooMany}
 use Rattle.tc_term.specs.Pattern.{HasExcess}
 use Rattle.tc_term.specs.Variables.{place_in, variables_after, variables_after_all, variables, renumbered}
-use Rattle.tc_term.proofs.Instances.{both_true, instance-ground}
+use Rattle.tc_lists.proofs.Bools.{and_parts}
+use Rattle.tc_term.proofs.Instances.{instance-ground}
 use Rattle.tc_term.specs.Tree.{Tree, Variable, Atomic, Number, Compound, Trees, Last, More, nodes, nodes_of_all, name_bytes, name_bytes_of_all, is_ground, are_ground, IsTuple}
 use Rattle.tucson.specs.Setup.{IsPlain, ArePlain}
 use Rattle.tucson.proofs.PlainText.{plain_text, plain_texts}
@@ -80,7 +81,7 @@ mutual
   variables_after_all-ground : (seen : List ℕ) (ts : Trees) → IsTrue (are_ground ts) → variables_after_all seen ts ≡ seen
   variables_after_all-ground seen (Last t) ground = variables_after-ground seen t ground
   variables_after_all-ground seen (More t ts) ground =
-      let both = both_true (is_ground t) (are_ground ts) ground in
+      let both = and_parts (is_ground t) (are_ground ts) ground in
       ap (λ vs. variables_after_all vs ts) (variables_after-ground seen t both.0) ∙ variables_after_all-ground seen ts both.1
 
 -- a tuple is a template too

@@ -1,0 +1,28 @@
+-- What is a template or a tuple is not refused.
+use Rattle.std.proofs.Common.{arith}
+use Rattle.tc_term.specs.Ground.{HasCause}
+use Rattle.tc_term.specs.Limits.{most_depth}
+use Rattle.tc_term.specs.Pattern.{HasExcess}
+use Rattle.tc_term.specs.Room.{whole, IsWithin}
+use Rattle.tc_term.specs.Tree.{Tree, Fits, IsTuple}
+use Rattle.tc_term.specs.TreeView.{tree_of}
+use Rattle.tc_term.specs.Variables.{IsTemplate}
+use Rattle.tc_term.specs.declared.template.NotPattern.{NotPattern}
+use Rattle.tc_term.specs.declared.template.NotPattern.TheVariants as excess
+use Rattle.tc_term.specs.declared.terms.Term.{Term}
+use Rattle.tc_term.specs.declared.tuple.NotTuple.{NotTuple}
+use Rattle.tc_term.specs.declared.tuple.NotTuple.TheVariants as cause
+
+-- there is room for what fits
+pub IsWithin-Fits : (t : Tree) → Fits t → IsWithin t most_depth whole
+IsWithin-Fits t fits = record { nodes = fits.nodes; depth = fits.depth; name_bytes = fits.name_bytes }
+
+-- a tuple has no cause to be none
+pub HasCause-tuple : (t : Term) (why : NotTuple) → IsTuple (tree_of t) → HasCause t why → ⊥
+HasCause-tuple t (cause.TooBig u) tuple because = because.1 (IsWithin-Fits (tree_of t) tuple.fits)
+HasCause-tuple t (cause.NotGround u) tuple because = let ground = tuple.ground in let other = because.2 in absurd (cc)
+
+-- a template has no cause to be none
+pub HasExcess-template : (t : Term) (why : NotPattern) → IsTemplate (tree_of t) → HasExcess t why → ⊥
+HasExcess-template t (excess.TooBig u) template because = because.1 (IsWithin-Fits (tree_of t) template.fits)
+HasExcess-template t (excess.TooMany u) template because = omega (arith, because.2, template.few)
