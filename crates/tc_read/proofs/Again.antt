@@ -1,5 +1,7 @@
 -- The text of a term is read as that term, where there is room for it and nothing goes on it.
 use Rattle.std.proofs.Common.{◌≡◌, ◌∙◌, ◌⊎◌, ◌<◌, ◌≤◌, ◌+◌, ◌==◌, ◌&&◌, ℕ, zero, suc, ℤ, pos, negsuc, Bool, true, false, cond, min, nat_lt, if◌then◌else◌, List, [], ◌∷◌, ◌++◌, codes, length, take, drop, FitsSigned, Some, None, refl, sym, ap, ap₂, inl, inr, subst, append_assoc, arith}
+use Rattle.tc_term.specs.Bytes.{is_word, is_name_start}
+use Rattle.tc_term.specs.Tree.{HasIntegers, HaveIntegers}
 use Rattle.std.proofs.Math.Seq.{take-append_seam, drop-append_seam}
 use Rattle.std.proofs.lemmas.Bool.Decides.{nat_tests}
 use Rattle.std.proofs.lemmas.Slice.Eq.{bytes_eq-Decides}
@@ -11,19 +13,17 @@ use Rattle.tc_lists.proofs.Decimals.{decimal-first, decimal-not_nil, integer_at-
 use Rattle.tc_lists.specs.Decimals.{StartsWithNoDigit, integer_at, number_at}
 use Rattle.tc_term.specs.Text as text
 use Rattle.tc_term.specs.Text.{Place, Alone, Behind, applied, before_element, empty_list, is_dot, is_name, is_nil, name_text, placed, quoted, text_in, texts_of}
-use Rattle.tc_term.specs.Tokens.{is_lower, is_word}
 use Rattle.tc_term.specs.Tree.{Tree, Variable, Atomic, Number, Compound, Trees, Last, More, nodes, nodes_of_all}
-use Rattle.tc_read.proofs.Plain.{is_word-text}
-use Rattle.tc_read.proofs.QuotedBytes.{same_test, test_unlike}
 use Rattle.tc_read.proofs.QuotedFront.{quoted_at-there}
 use Rattle.tc_read.proofs.Spent.{numbered-few, paid-some, spent_all-takes, then_in-some}
-use Rattle.tc_read.proofs.Taken.{both_true, plain_text, quoted_text}
+use Rattle.tc_read.proofs.Taken.{plain_text, quoted_text}
 use Rattle.tc_read.proofs.Texts.{text_in-Variable, text_in-Number, text_in-nil, text_in-Atomic, text_in-cell, text_in-Compound, texts_of-Last, texts_of-More, text_in-barred}
 use Rattle.tc_read.specs.Budget.{numbered, paid, spent, spent_all, then_in}
 use Rattle.tc_read.specs.Canonical.{EndsTerm}
-use Rattle.tc_term.specs.Readable.{HasIntegers, HaveIntegers}
 use Rattle.tc_read.specs.Front.{argument, arguments, atom, barred, before, called, cell, cell_of, compound, element, is_barred, is_cell, leaf, list, name_at, named, named_or_number, nil, node, number, quoted_at, reads, tail, unplain, variable, word_at}
 use Rattle.tc_read.specs.declared.room.Room.{Room}
+use Rattle.std.proofs.lemmas.Bool.{eqb-true, ne_eqb}
+use Rattle.tc_lists.proofs.Bools.{and_parts}
 
 -- no word byte stands here
 abbrev pub NoWord : List ℕ → Type 0
@@ -94,17 +94,17 @@ node-number d b room s first = by (no_letter first) (no_bracket first) (no_quote
     no_quote (inl e) = grind (arith, nat_tests)
     no_quote (inr e) = grind (arith, nat_tests)
 
-    no_lower : (is_ascii_digit b ≡ true) ⊎ (b ≡ 45) → is_lower b ≡ false
+    no_lower : (is_ascii_digit b ≡ true) ⊎ (b ≡ 45) → is_name_start b ≡ false
     no_lower (inl e) = grind (arith, nat_tests)
     no_lower (inr e) = grind (arith, nat_tests)
 
-    by : (b == 95) ≡ false → (b == 91) ≡ false → (b == 39) ≡ false → is_lower b ≡ false → node (reads d) room (b ∷ s) ≡ number room (integer_at (b ∷ s))
+    by : (b == 95) ≡ false → (b == 91) ≡ false → (b == 39) ≡ false → is_name_start b ≡ false → node (reads d) room (b ∷ s) ≡ number room (integer_at (b ∷ s))
     by i j k l =
         ap (λ p. if p then variable room (number_at 255 s)
         else (if b == 91 then list (reads d) room s else named_or_number (reads d) room (b ∷ s) (name_at room.name_bytes (b ∷ s)))) i
         ∙ ap (λ p. if p then list (reads d) room s else named_or_number (reads d) room (b ∷ s) (name_at room.name_bytes (b ∷ s))) j
         ∙ ap (λ p. named_or_number (reads d) room (b ∷ s) (if p then unplain (quoted_at s)
-        else (if is_lower b && nat_lt 0 room.name_bytes then Some (word_at room.name_bytes (b ∷ s)) else None))) k
+        else (if is_name_start b && nat_lt 0 room.name_bytes then Some (word_at room.name_bytes (b ∷ s)) else None))) k
         ∙ ap (λ p. named_or_number (reads d) room (b ∷ s) (if p && nat_lt 0 room.name_bytes then Some (word_at room.name_bytes (b ∷ s)) else None)) l
 
 pub node-integer : (d : ℕ) (room : Room) (z : ℤ) (rest bytes : List ℕ) → FitsSigned w64 z → bytes ≡ signed_decimal z ++ rest →
@@ -128,15 +128,12 @@ pub none_first : (rest : List ℕ) → NoWord rest → prefix_len is_word rest �
 none_first [] apart = refl
 none_first (b ∷ s) apart = ap (λ p. cond p (1 + prefix_len is_word s) 0) apart
 
-pub all_words : (name rest : List ℕ) → list_all text.is_word name ≡ true → NoWord rest → prefix_len is_word (name ++ rest) ≡ length name
+pub all_words : (name rest : List ℕ) → list_all is_word name ≡ true → NoWord rest → prefix_len is_word (name ++ rest) ≡ length name
 all_words [] rest all apart = none_first rest apart
 all_words (b ∷ name) rest all apart =
-    let both = both_true (text.is_word b) (list_all text.is_word name) all in
-    ap (λ p. cond p (1 + prefix_len is_word (name ++ rest)) 0) (is_word-text b ∙ both.0)
+    let both = and_parts (is_word b) (list_all is_word name) all in
+    ap (λ p. cond p (1 + prefix_len is_word (name ++ rest)) 0) (both.0)
     ∙ ap (λ n. 1 + n) (all_words name rest both.1 apart) ∙ omega arith
-
-pub lower_test : (b : ℕ) → is_ascii_lowercase b ≡ true → is_lower b ≡ true
-lower_test b e = grind (arith, nat_tests)
 
 pub lower_no_quote : (b : ℕ) → is_ascii_lowercase b ≡ true → (b == 39) ≡ false
 lower_no_quote b e = grind (arith, nat_tests)
@@ -155,12 +152,12 @@ name_at-plain : (limit : ℕ) (name rest : List ℕ) → is_name name ≡ true �
     name_at limit (name ++ rest) ≡ Some (name, rest)
 name_at-plain limit [] rest plain enough apart = absurd (cc)
 name_at-plain limit (b ∷ s) rest plain enough apart =
-    let both = both_true (is_ascii_lowercase b) (list_all text.is_word s) plain in
+    let both = and_parts (is_ascii_lowercase b) (list_all is_word s) plain in
     let long : prefix_len is_word ((b ∷ s) ++ rest) ≡ length (b ∷ s) =
     ap (λ p. cond p (1 + prefix_len is_word (s ++ rest)) 0) (lower_word b both.0) ∙ ap (λ n. 1 + n) (all_words s rest both.1 apart) ∙ omega arith in
     let from = b ∷ (s ++ rest) in
-    ap (λ p. if p then unplain (quoted_at (s ++ rest)) else (if is_lower b && nat_lt 0 limit then Some (word_at limit from) else None)) (lower_no_quote b both.0)
-    ∙ ap (λ p. if p && nat_lt 0 limit then Some (word_at limit from) else None) (lower_test b both.0)
+    ap (λ p. if p then unplain (quoted_at (s ++ rest)) else (if is_name_start b && nat_lt 0 limit then Some (word_at limit from) else None)) (lower_no_quote b both.0)
+    ∙ ap (λ p. if p && nat_lt 0 limit then Some (word_at limit from) else None) both.0
     ∙ ap (λ p. if true && p then Some (word_at limit from) else None) (some_test limit (omega (arith, enough)))
     ∙ word_at-again limit (b ∷ s) rest enough long
   where
@@ -188,8 +185,8 @@ node-named d room (b ∷ s) name rest e = by (b == 95) (b == 91) refl refl
     no_name c same none = let there : name_at room.name_bytes (c ∷ s) ≡ Some (name, rest) = ap (λ x. name_at room.name_bytes (x ∷ s)) (sym same) ∙ e in absurd (cc)
 
     by : (p q : Bool) → (b == 95) ≡ p → (b == 91) ≡ q → node (reads d) room (b ∷ s) ≡ named (reads d) room name rest
-    by true q i j = absurd (no_name 95 (same_test b 95 i) refl)
-    by false true i j = absurd (no_name 91 (same_test b 91 j) refl)
+    by true q i j = absurd (no_name 95 (eqb-true b 95 i) refl)
+    by false true i j = absurd (no_name 91 (eqb-true b 91 j) refl)
     by false false i j =
         ap (λ p. if p then variable room (number_at 255 s)
         else (if b == 91 then list (reads d) room s else named_or_number (reads d) room (b ∷ s) (name_at room.name_bytes (b ∷ s)))) i
@@ -198,7 +195,7 @@ node-named d room (b ∷ s) name rest e = by (b == 95) (b == 91) refl refl
 
 named-atom : (d : ℕ) (room : Room) (name rest : List ℕ) → EndsTerm rest → named (reads d) room name rest ≡ atom name room rest
 named-atom d room name [] stops = refl
-named-atom d room name (b ∷ s) stops = ap (λ p. if p then called (reads d) name room s else atom name room (b ∷ s)) (test_unlike b 40 stops.1)
+named-atom d room name (b ∷ s) stops = ap (λ p. if p then called (reads d) name room s else atom name room (b ∷ s)) (ne_eqb b 40 stops.1)
 
 pub atom-again : (name : List ℕ) (room left : Room) (rest : List ℕ) → is_nil name ≡ false → paid (length name) room ≡ Some left →
     atom name room rest ≡ Some (Atomic name, left, rest)
@@ -336,7 +333,7 @@ list-element (suc d) mid [] r e room = absurd (cc)
 list-element (suc d) mid (b ∷ s) r e room = by (b == 93) refl
   where
     by : (p : Bool) → (b == 93) ≡ p → list (reads (suc d)) room (b ∷ s) ≡ element (reads (suc d)) room (b ∷ s)
-    by true i = let apart : None ≡ Some r = ap (λ c. node (reads d) mid (c ∷ s)) (sym (same_test b 93 i)) ∙ e in absurd (cc)
+    by true i = let apart : None ≡ Some r = ap (λ c. node (reads d) mid (c ∷ s)) (sym (eqb-true b 93 i)) ∙ e in absurd (cc)
     by false i = ap (λ p. if p then nil room s else element (reads (suc d)) room (b ∷ s)) i
 
 module _ (t u : Tree) (first : Again t) (last : Again u) (d : ℕ) (room left : Room) (rest : List ℕ)

@@ -8,7 +8,7 @@ use Rattle.tc_term.specs.declared.template.Pattern.{Pattern}
 use Rattle.tc_read.specs.Kept.{Kept, kept, kept_of}
 use Rattle.tc_read.specs.Items.{kept_item}
 use Rattle.tc_read.specs.Views.{token_view}
-use Rattle.tc_read.specs.Names.{names_view}
+use Rattle.tc_read.specs.Variables.{names_view}
 use Rattle.tc_read.specs.Scanner.{first_at, Gathers}
 use Rattle.tc_read.specs.Answers.{IsFault, IsTermAnswer, place_by}
 use Rattle.tc_read.specs.declared.fault.ReadFault.{ReadFault}
@@ -55,10 +55,10 @@ module _ (s : Scanner) (size end behind : ℕ) (ts : List At) (stop : Stop) (g :
   pub ended_syntax : s.brackets.too_many ≡ false → ((k : Kept) → IsTerm kept (map token_view s.tokens.items) k → ⊥) → Ended size ts stop (Syntax (place_by s.first end))
   ended_syntax e none = parsed_ended (Syntax (place_by s.first end)) e (inl (refl, λ r d. none_read (numbered [] ts) (λ k x. none k (subst (λ tokens. IsTerm kept tokens k) (sym tokens_are) x)) r d))
 
-  known_is : length (names_view s.names) ≡ length (all_known [] ts)
+  known_is : length (names_view s.variables) ≡ length (all_known [] ts)
   known_is = ap length g.names
 
-  pub ended_judged : (item : Item) (n : ℕ) (result : Result Pattern ReadFault) → s.brackets.too_many ≡ false → ((k : Kept) → IsTerm kept (map token_view s.tokens.items) k ↔ (kept_item item ≡ k)) → n ≡ length (names_view s.names)
+  pub ended_judged : (item : Item) (n : ℕ) (result : Result Pattern ReadFault) → s.brackets.too_many ≡ false → ((k : Kept) → IsTerm kept (map token_view s.tokens.items) k ↔ (kept_item item ≡ k)) → n ≡ length (names_view s.variables)
       → ((behind : ℕ) (r : Reading) → kept_of r ≡ kept_item item → (n ≤ 256 → variables r.term ≡ range_with_len 0 n) → IsTermAnswer (Judged (place_by s.first end) behind n r) behind result)
       → IsTermAnswer (Ended size ts stop) behind result
   ended_judged item n result e only count judged =
@@ -74,10 +74,6 @@ to_read clauses size s ts stop scan narrow a h = (ts, stop, scan, subst (λ o. M
 pub end_within : {clauses : Bool} {size : ℕ} {s : List ℕ} {ts : List At} {place : ℕ} → Scan clauses size s ts (ClauseEnd place) → length s ≤ size → place + 1 ≤ size
 end_within (at_clause_end c l e) h = omega (arith, layout_shorter l)
 end_within (token l t k) h = end_within k (omega (arith, layout_shorter l, front_some t))
-
-pub not_some : (o : Option ℕ) → ((n : ℕ) → o ≡ Some n → ⊥) → o ≡ None
-not_some None h = refl
-not_some (Some n) h = absurd (h n refl)
 
 -- a . ends nothing where a whole text is read
 no_clause_end : {size : ℕ} {s : List ℕ} {ts : List At} {place : ℕ} → Scan false size s ts (ClauseEnd place) → ⊥

@@ -5,16 +5,16 @@ use Rattle.tc_term.specs.Tree.{Tree, Trees, Last}
 use Rattle.tc_term.specs.TreeView.{tree_of, trees_of}
 use Rattle.tc_term.specs.declared.terms.Term.{Term}
 use Rattle.tc_read.proofs.Cells.{prepended, prepended-none, prepended-push, prepended-last}
-use Rattle.tc_read.proofs.QuotedBytes.{test_unlike}
 use Rattle.tc_read.specs.Front.{Read, argument, arguments, before}
 use Rattle.tc_read.specs.Seen.{term_seen}
 use Rattle.tc_read.specs.declared.room.Room.{Room}
+use Rattle.std.proofs.lemmas.Bool.{ne_eqb}
 
 -- what stands behind an argument
 module _ (more : Room → List ℕ → Read Trees) (t : Tree) (room : Room) (s : List ℕ) where
   pub argument-other : (b : ℕ) → b ≢ 41 → b ≢ 44 → argument more (Some (t, room, b ∷ s)) ≡ None
-  argument-other b n m = ap (λ p. if p then Some (Last t, room, s) else (if b == 44 then before t (more room s) else None)) (test_unlike b 41 n)
-      ∙ ap (λ p. if p then before t (more room s) else None) (test_unlike b 44 m)
+  argument-other b n m = ap (λ p. if p then Some (Last t, room, s) else (if b == 44 then before t (more room s) else None)) (ne_eqb b 41 n)
+      ∙ ap (λ p. if p then before t (more room s) else None) (ne_eqb b 44 m)
 
 module _ (read : Room → List ℕ → Read Tree) (items : List Term) (n m : ℕ) (room : Room) (bytes : List ℕ) (whole : Read Trees)
     (kept : prepended items (arguments read n room bytes) ≡ whole) (left : n ≡ suc m)

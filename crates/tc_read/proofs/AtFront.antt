@@ -1,5 +1,7 @@
 -- The template at the front: what is read is one, and none that stands there is longer.
 use Rattle.std.proofs.Common.{◌≡◌, ◌∙◌, ◌≤◌, ◌+◌, ◌-◌, ◌==◌, ◌&&◌, ℕ, ℤ, Bool, true, false, cond, min, nat_lt, if◌then◌else◌, List, [], ◌∷◌, ◌++◌, codes, length, take, drop, Some, None, refl, sym, ap, subst, length-append, length-drop, length-take, append-nil, append_assoc, arith}
+use Rattle.tc_term.specs.Bytes.{is_word, is_name_start}
+use Rattle.tc_term.specs.Tree.{HasIntegers}
 use Rattle.std.proofs.lemmas.Fmt.{decimal_digit}
 use Rattle.std.proofs.lemmas.Bool.Decides.{nat_tests}
 use Rattle.std.proofs.lemmas.Bool.{false_from_ne_true}
@@ -9,31 +11,30 @@ use Rattle.std.specs.Fmt.{decimal, signed_decimal}
 use Rattle.std.specs.List.{list_all, prefix_len}
 use Rattle.std.specs.declared.option.Option.{Option}
 use Rattle.tc_lists.proofs.Decimals.{IsIntegerRead, integer_at-read}
-use Rattle.tc_lists.proofs.Options.{some_same}
 use Rattle.tc_lists.proofs.Prefixes.{append-same}
 use Rattle.std.proofs.Math.Seq.{drop-append_seam}
 use Rattle.tc_lists.specs.Decimals.{integer_at, number_at}
 use Rattle.tc_term.specs.Text as text
 use Rattle.tc_term.specs.Text.{Alone, canonical, is_name, is_nil, name_text, text_in, text_of, texts_of}
-use Rattle.tc_term.specs.Tokens.{is_lower, is_word}
 use Rattle.tc_term.specs.Tree.{Tree, Variable, Atomic, Number, Compound, Trees}
 use Rattle.tc_term.specs.Variables.{IsPattern, renumbered}
 use Rattle.tc_term.proofs.Numbered.{renumbered-pattern}
-use Rattle.tc_read.proofs.Again.{Ends-stops, again, atom-again, lower_no_quote, lower_test, name_at-quoted, node-integer, node-named, reads-alone-again, variable-again}
-use Rattle.tc_read.proofs.Plain.{is_name-word_at, is_word-text}
+use Rattle.tc_read.proofs.Again.{Ends-stops, again, atom-again, lower_no_quote, name_at-quoted, node-integer, node-named, reads-alone-again, variable-again}
+use Rattle.tc_read.proofs.Words.{is_name-word_at}
 use Rattle.tc_read.proofs.Spent.{first-variable, pattern-spent, some-paid, spent-pattern}
-use Rattle.tc_read.proofs.Taken.{IsTook, IsTookAll, arguments-took, both_true, head-took, if_by, name_at-took, plain_text, quoted_text, reads-took}
+use Rattle.tc_read.proofs.Taken.{IsTook, IsTookAll, arguments-took, head-took, if_by, name_at-took, plain_text, quoted_text, reads-took}
 use Rattle.tc_read.proofs.Texts.{text_in-Atomic, text_in-Number, text_in-nil}
 use Rattle.tc_read.specs.Budget.{paid, then_in, whole}
 use Rattle.tc_read.specs.Canonical.{EndsTerm, IsCanonicalAt, IsLongestCanonicalAt}
-use Rattle.tc_term.specs.Readable.{HasIntegers}
 use Rattle.tc_read.specs.Front.{Read, arguments, atom, called, canonical_at, compound, head, is_cell, leaf, name_at, named, number, or_head, quoted_at, reads, unplain, word_at}
 use Rattle.tc_read.specs.declared.room.Room.{Room}
+use Rattle.std.proofs.lemmas.Option.{same_Some}
+use Rattle.tc_lists.proofs.Parts.{append_parts}
+use Rattle.tc_lists.proofs.Bools.{and_parts}
 
 -- the text of this template stands at the front
 pub record Stands (bytes : List ℕ) (t : Tree) (rest : List ℕ) : Type 0 where
   pub pattern : IsPattern t
-  pub integers : HasIntegers t
   pub text : bytes ≡ text_in Alone t ++ rest
 
 abbrev pub IsStanding : List ℕ → Read Tree → Type 0
@@ -43,7 +44,7 @@ IsStanding bytes (Some (t, left, rest)) = Stands bytes t rest
 took-stands : (d : ℕ) (bytes : List ℕ) (found : Read Tree) → d ≤ 1000 → IsTook d Alone whole bytes found → IsStanding bytes found
 took-stands d bytes None deep took = tt
 took-stands d bytes (Some (t, left, rest)) deep took =
-    record { pattern = spent-pattern t d left deep took.spent; integers = took.integers; text = took.text }
+    record { pattern = spent-pattern t d left deep took.spent took.integers; text = took.text }
 
 pub canonical_at-stands : (bytes : List ℕ) → IsStanding bytes (canonical_at bytes)
 canonical_at-stands bytes = by (reads 1000 Alone whole bytes) (reads-took 1000 Alone whole bytes)
@@ -118,11 +119,11 @@ name-longest bytes more at = by (reads 1000 Alone whole bytes) shorter
 
 -- the name of an atom is found, or a longer one
 
-words-front : (name more : List ℕ) → list_all text.is_word name ≡ true → length name ≤ prefix_len is_word (name ++ more)
+words-front : (name more : List ℕ) → list_all is_word name ≡ true → length name ≤ prefix_len is_word (name ++ more)
 words-front [] more all = omega arith
 words-front (b ∷ name) more all =
-    let both = both_true (text.is_word b) (list_all text.is_word name) all in
-    omega (arith, ap (λ p. cond p (1 + prefix_len is_word (name ++ more)) 0) (is_word-text b ∙ both.0), words-front name more both.1)
+    let both = and_parts (is_word b) (list_all is_word name) all in
+    omega (arith, ap (λ p. cond p (1 + prefix_len is_word (name ++ more)) 0) (both.0), words-front name more both.1)
 
 no_nil : (name : List ℕ) → is_name name ≡ true → is_nil name ≡ false
 no_nil name e = false_from_ne_true (is_nil name) (λ nil.
@@ -132,9 +133,9 @@ no_nil name e = false_from_ne_true (is_nil name) (λ nil.
 plain-AtName : (name more : List ℕ) → is_name name ≡ true → length name ≤ 65535 → AtName (name ++ more) more
 plain-AtName [] more plain enough = absurd (cc)
 plain-AtName (b ∷ s) more plain enough =
-    let both = both_true (is_ascii_lowercase b) (list_all text.is_word s) plain in
+    let both = and_parts (is_ascii_lowercase b) (list_all is_word s) plain in
     let bytes = b ∷ (s ++ more) in
-    let lower = lower_test b both.0 in
+    let lower = both.0 in
     let size = min 65535 (prefix_len is_word bytes) in
     let front : length (b ∷ s) ≤ prefix_len is_word bytes = words-front (b ∷ s) more (words b s both.0 both.1) in
     let is_one = is_name-word_at 65535 b (s ++ more) lower refl in
@@ -142,17 +143,17 @@ plain-AtName (b ∷ s) more plain enough =
       name = take size bytes;
       rest = drop size bytes;
       found =
-          ap (λ p. if p then unplain (quoted_at (s ++ more)) else (if is_lower b && nat_lt 0 65535 then Some (word_at 65535 bytes) else None)) (lower_no_quote b both.0)
+          ap (λ p. if p then unplain (quoted_at (s ++ more)) else (if is_name_start b && nat_lt 0 65535 then Some (word_at 65535 bytes) else None)) (lower_no_quote b both.0)
           ∙ ap (λ p. if p && nat_lt 0 65535 then Some (word_at 65535 bytes) else None) lower;
       some = no_nil (take size bytes) is_one;
       enough = omega (arith, length-take size bytes);
       short = omega (arith, length-drop size bytes, length-append (b ∷ s) more, front, enough);
     }
   where
-    words : (b : ℕ) (s : List ℕ) → is_ascii_lowercase b ≡ true → list_all text.is_word s ≡ true → list_all text.is_word (b ∷ s) ≡ true
-    words b s lower all = ap (λ p. p && list_all text.is_word s) (lower_text b lower) ∙ all
+    words : (b : ℕ) (s : List ℕ) → is_ascii_lowercase b ≡ true → list_all is_word s ≡ true → list_all is_word (b ∷ s) ≡ true
+    words b s lower all = ap (λ p. p && list_all is_word s) (lower_text b lower) ∙ all
       where
-        lower_text : (b : ℕ) → is_ascii_lowercase b ≡ true → text.is_word b ≡ true
+        lower_text : (b : ℕ) → is_ascii_lowercase b ≡ true → is_word b ≡ true
         lower_text b e = grind (arith, nat_tests)
 
 text-AtName : (name more : List ℕ) → is_nil name ≡ false → length name ≤ 65535 → AtName (name_text name ++ more) more
@@ -200,19 +201,18 @@ canonical_at-longest (Atomic name) bytes more stands = by (is_nil name) refl
         subst (λ x. LeavesAtMost more (canonical_at x)) (sym (stands.text ∙ ap (λ x. x ++ more) (text_in-Atomic Alone name e)))
         (name-longest (name_text name ++ more) more (text-AtName name more e stands.pattern.template.fits.name_bytes))
 canonical_at-longest (Number z) bytes more stands =
-    number-longest bytes more z stands.integers (stands.text ∙ ap (λ x. x ++ more) (text_in-Number Alone z))
+    number-longest bytes more z stands.pattern.template.fits.integers (stands.text ∙ ap (λ x. x ++ more) (text_in-Number Alone z))
 canonical_at-longest (Compound name args) bytes more stands =
     let (left, e) = pattern-spent (Compound name args) stands.pattern in
     whole-longest bytes more (Compound name args) left
     (ap (reads 1000 Alone whole) stands.text
-    ∙ reads-alone-again (Compound name args) (again (Compound name args)) 1000 whole left more e stands.integers tt)
+    ∙ reads-alone-again (Compound name args) (again (Compound name args)) 1000 whole left more e stands.pattern.template.fits.integers tt)
 
 -- The same in the words of the contract.
 
 pub IsCanonicalAt-stands : (text : List ℕ) (from behind : ℕ) (p : Tree) (at : IsCanonicalAt text from p behind) → Stands (drop from text) p at.rest
 IsCanonicalAt-stands text from behind p at = record {
   pattern = at.pattern;
-  integers = at.integers;
   text = at.stands ∙ ap (λ t. text_of t ++ at.rest) (renumbered-pattern p at.pattern);
 }
 
@@ -220,7 +220,6 @@ stands-IsCanonicalAt : (text : List ℕ) (from behind : ℕ) (p : Tree) (rest : 
     Stands (drop from text) p rest → IsCanonicalAt text from p behind
 stands-IsCanonicalAt text from behind p rest place stands = record {
   pattern = stands.pattern;
-  integers = stands.integers;
   rest = rest;
   stands = stands.text ∙ ap (λ t. text_of t ++ rest) (sym (renumbered-pattern p stands.pattern));
   place = place;
@@ -256,9 +255,9 @@ texts-same p q one other =
     let (left, e) = pattern-spent p one.pattern in
     let (left', f) = pattern-spent q other.pattern in
     let same : Some (p, left, []) ≡ Some (q, left', []) =
-    sym (ap (reads 1000 Alone whole) one.text ∙ reads-alone-again p (again p) 1000 whole left [] e one.integers (Ends-stops p [] tt))
-    ∙ ap (reads 1000 Alone whole) other.text ∙ reads-alone-again q (again q) 1000 whole left' [] f other.integers (Ends-stops q [] tt) in
-    ap (λ r. r.0) (some_same (p, left, []) (q, left', []) same)
+    sym (ap (reads 1000 Alone whole) one.text ∙ reads-alone-again p (again p) 1000 whole left [] e one.pattern.template.fits.integers (Ends-stops p [] tt))
+    ∙ ap (reads 1000 Alone whole) other.text ∙ reads-alone-again q (again q) 1000 whole left' [] f other.pattern.template.fits.integers (Ends-stops q [] tt) in
+    ap (λ r. r.0) (same_Some (p, left, []) (q, left', []) same)
 
 pub IsCanonicalAt-same : (text : List ℕ) (from : ℕ) (p q : Tree) (behind : ℕ) → IsCanonicalAt text from p behind → IsCanonicalAt text from q behind → p ≡ q
 IsCanonicalAt-same text from p q behind at at' =
@@ -267,8 +266,8 @@ IsCanonicalAt-same text from p q behind at at' =
     let long : length at.rest ≡ length at'.rest = omega (arith, at.place, at'.place) in
     let fronts = append-same (text_in Alone p) (text_in Alone q) at.rest at'.rest (sym one.text ∙ other.text) long in
     texts-same p q
-    (record { pattern = at.pattern; integers = at.integers; text = sym (append-nil (text_in Alone p)) })
-    (record { pattern = at'.pattern; integers = at'.integers; text = fronts.0 ∙ sym (append-nil (text_in Alone q)) })
+    (record { pattern = at.pattern; text = sym (append-nil (text_in Alone p)) })
+    (record { pattern = at'.pattern; text = fronts.0 ∙ sym (append-nil (text_in Alone q)) })
 
 pub IsLongestCanonicalAt-same : (text : List ℕ) (from : ℕ) (p q : Tree) (behind end : ℕ) → IsLongestCanonicalAt text from p behind → IsLongestCanonicalAt text from q end →
     (p ≡ q) × (behind ≡ end)
@@ -280,18 +279,18 @@ IsLongestCanonicalAt-same text from p q behind end one other =
 printed-found : (p : Tree) (behind : List ℕ) → Stands (text_in Alone p ++ behind) p behind → EndsTerm behind → (left : Room) × (canonical_at (text_in Alone p ++ behind) ≡ Some (p, left, behind))
 printed-found p behind stands ends =
     let (left, e) = pattern-spent p stands.pattern in
-    (left, ap (or_head (text_in Alone p ++ behind)) (reads-alone-again p (again p) 1000 whole left behind e stands.integers (Ends-stops p behind ends)))
+    (left, ap (or_head (text_in Alone p ++ behind)) (reads-alone-again p (again p) 1000 whole left behind e stands.pattern.template.fits.integers (Ends-stops p behind ends)))
 
-pub printed-longest : (before behind : List ℕ) (p : Tree) → IsPattern p → HasIntegers p → EndsTerm behind →
+pub printed-longest : (before behind : List ℕ) (p : Tree) → IsPattern p → EndsTerm behind →
     IsLongestCanonicalAt (before ++ canonical p ++ behind) (length before) p (length before + length (canonical p))
-printed-longest before behind p pattern integers ends =
+printed-longest before behind p pattern ends =
     let text = before ++ canonical p ++ behind in
     let same : canonical p ≡ text_in Alone p = ap text_of (renumbered-pattern p pattern) in
     let rest : drop (length before) text ≡ text_in Alone p ++ behind =
     ap (drop (length before)) (append_assoc before (canonical p) behind) ∙ drop-append_seam before (canonical p ++ behind) ∙ ap (λ x. x ++ behind) same in
     let size : length text ≡ length before + length (canonical p) + length behind =
     omega (arith, length-append (before ++ canonical p) behind, length-append before (canonical p)) in
-    let stands : Stands (text_in Alone p ++ behind) p behind = record { pattern = pattern; integers = integers; text = refl } in
+    let stands : Stands (text_in Alone p ++ behind) p behind = record { pattern = pattern; text = refl } in
     let (left, e) = printed-found p behind stands ends in
     front-longest text (length before) p left behind (omega (arith, size)) (ap canonical_at rest ∙ e) p (length before + length (canonical p))
     (sym (renumbered-pattern p pattern)) (omega (arith, size))

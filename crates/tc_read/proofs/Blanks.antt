@@ -43,10 +43,6 @@ block_closes b c s e f = subst (λ x. ToBlockEnd (x ∷ c ∷ s) s) (sym e) (sub
 pub no_block : (r : List ℕ) → ToBlockEnd [] r → ⊥
 no_block r t = elim t [ ]
 
--- what begins with no layout
-test_is : (b n : ℕ) → (b == n) ≡ true → b ≡ n
-test_is b n e = grind (arith, nat_tests)
-
 blank_no_line : is_blank 37 ≡ false
 blank_no_line = refl
 

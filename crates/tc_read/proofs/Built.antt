@@ -9,16 +9,7 @@ use Rattle.tc_read.specs.declared.measured.Item.{Item}
 use Rattle.tc_read.specs.Kept.{Large, all_nodes, all_depth, all_name_bytes, fits_by, fits, small_if, whole}
 use Rattle.tc_read.specs.Items.{kept_item, done_of}
 use Rattle.tc_read.proofs.Meanings.{nodes_of_trees, depth_of_trees, name_bytes_of_trees}
-
-pub map-reverse : {A B : Type 0} (f : A → B) (xs : List A) → map f (reverse xs) ≡ reverse (map f xs)
-map-reverse f [] = refl
-map-reverse f (x ∷ xs) = ap (map f) (reverse-append (x ∷ []) xs) ∙ map-append f (reverse xs) (x ∷ []) ∙ ap (λ ys. ys ++ f x ∷ []) (map-reverse f xs) ∙ sym (reverse-append (f x ∷ []) (map f xs))
-
-pub reverse-push : {A : Type 0} (xs : List A) (x : A) → reverse (xs ++ x ∷ []) ≡ x ∷ reverse xs
-reverse-push xs x = reverse-append xs (x ∷ [])
-
-pub reverse-map-push : {A B : Type 0} (f : A → B) (xs : List A) (x : A) → reverse (map f (xs ++ x ∷ [])) ≡ f x ∷ reverse (map f xs)
-reverse-map-push f xs x = ap reverse (map-append f xs (x ∷ [])) ∙ reverse-push (map f xs) (f x)
+use Rattle.tc_lists.proofs.Reversals.{reverse_push, reverse-map_push}
 
 pub trees_same : (t : Term) (ts : List Term) → trees_of (t ∷ ts) ≡ trees (tree_of t) (map tree_of ts)
 trees_same t [] = refl
@@ -49,4 +40,4 @@ whole_long name [] h = refl
 whole_long name (t ∷ ts) h = ap (λ b. small_if b (Compound name (trees t ts))) (let h' : 65535 < name_bytes (Compound name (trees t ts)) = omega arith in long (nodes (Compound name (trees t ts))) (depth (Compound name (trees t ts))) (name_bytes (Compound name (trees t ts))) h')
 
 pub done_push : (items : List Item) (item : Item) → done_of (items ++ item ∷ []) ≡ kept_item item ∷ done_of items
-done_push items item = reverse-map-push kept_item items item
+done_push items item = reverse-map_push kept_item items item

@@ -6,16 +6,6 @@ use Rattle.tc_read.specs.Frames.{below, top, tops, under}
 use Rattle.tc_read.specs.Kept.{Kept, finished, kept, parts}
 use Rattle.tc_read.specs.Machine.{applied, turned}
 
--- the last one comes first, turned round
-pub reverse-last : {A : Type 0} (xs : List A) (i : ℕ) (x : A) → suc i ≡ length xs → slice_get xs i ≡ Some x → (ys : List A) × (reverse xs ≡ x ∷ ys)
-reverse-last [] i x n e = absurd (omega (arith, n))
-reverse-last (y ∷ []) zero x n e = ([], cc)
-reverse-last (y ∷ []) (suc i) x n e = absurd (omega (arith, n))
-reverse-last (y ∷ z ∷ xs) zero x n e = absurd (omega (arith, n))
-reverse-last (y ∷ z ∷ xs) (suc i) x n e =
-    let r = reverse-last (z ∷ xs) i x (omega (arith, n)) e in
-    (r.0 ++ y ∷ [], reverse-append (y ∷ []) (z ∷ xs) ∙ ap (λ l. l ++ y ∷ []) r.1)
-
 one_less : (n : ℕ) → 0 < n → n ≡ suc (n - 1)
 one_less n h = omega arith
 

@@ -4,7 +4,7 @@ use Rattle.tc_term.specs.Faults.{all_known, known_behind, first_wide, most_open,
 use Rattle.tc_read.specs.Scanner.{first_at, open_after, Gathers}
 use Rattle.tc_read.specs.declared.scanner.Scanner.{Scanner}
 use Rattle.tc_read.specs.Brackets.{CountsTo}
-use Rattle.tc_read.specs.Names.{names_view}
+use Rattle.tc_read.specs.Variables.{names_view}
 use Rattle.tc_read.specs.Views.{token_view}
 
 -- What one token more adds.
@@ -46,17 +46,17 @@ none_else None b e = (refl, e)
 none_else (Some n) b e = cc
 
 -- one token more is gathered
-pub gathers_more : (s s' : Scanner) (t : At) → names_view s'.names ≡ known_behind (names_view s.names) t.lexeme
+pub gathers_more : (s s' : Scanner) (t : At) → names_view s'.variables ≡ known_behind (names_view s.variables) t.lexeme
     → ((n most : ℕ) → CountsTo s.brackets n most → CountsTo s'.brackets (open_behind n t.lexeme) (max most (open_behind n t.lexeme)))
     → s'.first ≡ or_else s.first (Some t.place) → s'.wide ≡ or_else s.wide (wide_at t.place t.lexeme)
-    → (wide_at t.place t.lexeme ≡ None → map token_view s'.tokens.items ≡ map token_view s.tokens.items ++ token_of (names_view s.names) t.glued t.place t.lexeme ∷ [])
+    → (wide_at t.place t.lexeme ≡ None → map token_view s'.tokens.items ≡ map token_view s.tokens.items ++ token_of (names_view s.variables) t.glued t.place t.lexeme ∷ [])
     → (before : List At) → Gathers s before → Gathers s' (before ++ t ∷ [])
 gathers_more s s' t names brackets first wide tokens before g = record {
   wide = wide ∙ ap (λ o. or_else o (wide_at t.place t.lexeme)) g.wide ∙ sym (wide_push before t);
   tokens = λ none.
       let n = none_else (first_wide before) (wide_at t.place t.lexeme) (sym (wide_push before t) ∙ none) in
       tokens n.1
-      ∙ ap (λ x. x ++ token_of (names_view s.names) t.glued t.place t.lexeme ∷ []) (g.tokens n.0)
+      ∙ ap (λ x. x ++ token_of (names_view s.variables) t.glued t.place t.lexeme ∷ []) (g.tokens n.0)
       ∙ ap (λ k. numbered [] before ++ token_of k t.glued t.place t.lexeme ∷ []) g.names
       ∙ sym (numbered_push [] before t);
   names = names ∙ ap (λ k. known_behind k t.lexeme) g.names ∙ sym (known_push [] before t);

@@ -3,6 +3,7 @@ use Rattle.std.specs.Prelude.{codes, bytes_eq}
 use Rattle.tc_term.specs.Tokens.{Sign, EqColonEq, EqBackEq, EqLess, GreaterEq, BackEq, SlashSlash, Equal, Less, Greater, Plus, Minus, Star, Ask}
 use Rattle.tc_term.specs.Grammar.{Token, Variable, Integer, Name, Symbol, Open, Close, OpenList, CloseList, Comma, Bar, Operator, infix_of, operator_of, functor_of, NotCalled, NotNumber, Meaning, nil, cell, negated, between, Derives, operand, prefix, infix_term, Operand, variable, integer, negative, atom, compound, no_items, items, group, Arguments, last_argument, more_arguments, Items, last_item, list_tail, more_items, xfx, yfx, xfy}
 use Rattle.tc_read.specs.Machine.{turned, applied, cells}
+use Rattle.std.proofs.lemmas.Option.{same_Some}
 
 -- no list is closed here
 abbrev pub NotClosed : List Token → Type 0
@@ -43,17 +44,14 @@ sound_sign Minus = sound_yfx _ _ (omega arith) (omega arith)
 sound_sign Star = sound_yfx _ _ (omega arith) (omega arith)
 sound_sign SlashSlash = sound_yfx _ _ (omega arith) (omega arith)
 
-pub some : {A : Type 0} {a b : A} → Some a ≡ Some b → a ≡ b
-some e = cc
-
 named_is : (b c : Bool) (op : Operator) → (if b then Some (xfx (codes "is") 700) else (if c then Some (yfx (codes "mod") 400) else None)) ≡ Some op → IsSound op
-named_is true c op e = subst IsSound (some e) (sound_xfx _ _ (omega arith) (omega arith))
-named_is false true op e = subst IsSound (some e) (sound_yfx _ _ (omega arith) (omega arith))
+named_is true c op e = subst IsSound (same_Some _ _ e) (sound_xfx _ _ (omega arith) (omega arith))
+named_is false true op e = subst IsSound (same_Some _ _ e) (sound_yfx _ _ (omega arith) (omega arith))
 named_is false false op e = cc
 
 pub table : (token : Token) (op : Operator) → infix_of token ≡ Some op → IsSound op
-table Comma op e = subst IsSound (some e) (sound_xfy _)
-table (Symbol s) op e = subst IsSound (some e) (sound_sign s)
+table Comma op e = subst IsSound (same_Some _ _ e) (sound_xfy _)
+table (Symbol s) op e = subst IsSound (same_Some _ _ e) (sound_sign s)
 table (Name true name) op e = named_is (bytes_eq name (codes "is")) (bytes_eq name (codes "mod")) op e
 table (Name false name) op e = cc
 table (Variable n) op e = cc
@@ -237,7 +235,7 @@ module _ {A : Type 0} (m : Meaning A) where
     from_compound is (plain variable) h = cc
     from_compound is (plain integer) h = cc
     from_compound is (plain (atom n)) h = absurd n
-    from_compound is (plain (compound e x)) h = from_arguments x (renamed (some (sym e ∙ is)) h)
+    from_compound is (plain (compound e x)) h = from_arguments x (renamed (same_Some _ _ (sym e ∙ is)) h)
     from_compound is (plain (items x)) h = cc
     from_compound is (plain (group x)) h = cc
     from_compound is (minus c n d) h = absurd c
@@ -291,7 +289,7 @@ module _ {A : Type 0} (m : Meaning A) where
 
         goes : {c : A} {after : List Token} → (R a (token ∷ ts) → ⊥) → infix_of token ≡ Some op → Goes p a pa (token ∷ ts) c after → R c after → Wants op.right (InBetween p R op a) ts
         goes back is (stop k) r = absurd (back r)
-        goes back is (on o is' le d g) r = by_other (some (sym is' ∙ is)) d g r
+        goes back is (on o is' le d g) r = by_other (same_Some _ _ (sym is' ∙ is)) d g r
 
     -- no operator that fits follows
     pub at_end : (a : A) (pa : ℕ) (ts : List Token) → pa ≤ p → ((token : Token) (after : List Token) (op : Operator) → ts ≡ token ∷ after → infix_of token ≡ Some op → pa ≤ op.left → op.priority ≤ p → ⊥)

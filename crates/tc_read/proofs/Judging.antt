@@ -7,27 +7,15 @@ use Rattle.tc_term.specs.Variables.{variables, renumbered, IsPattern}
 use Rattle.tc_term.specs.Faults.{Reading, Found, TooMany, TooBig, WideInt, When, Judged}
 use Rattle.tc_term.proofs.Numbered.{renumbered-pattern}
 use Rattle.tc_read.specs.Kept.{Small, fits, fits_by, kept_by, kept_of, small_if}
-
-fits_is : (t : Tree) → fits t ≡ true → Fits t
-fits_is t e = record { nodes = by_nodes (nodes t) (depth t) (name_bytes t) e; depth = by_depth (nodes t) (depth t) (name_bytes t) e; name_bytes = by_bytes (nodes t) (depth t) (name_bytes t) e }
-  where
-    by_nodes : (a b c : ℕ) → fits_by a b c ≡ true → a ≤ 10000
-    by_nodes a b c e = grind (arith, nat_tests)
-
-    by_depth : (a b c : ℕ) → fits_by a b c ≡ true → b ≤ 1000
-    by_depth a b c e = grind (arith, nat_tests)
-
-    by_bytes : (a b c : ℕ) → fits_by a b c ≡ true → c ≤ 65535
-    by_bytes a b c e = grind (arith, nat_tests)
+use Rattle.std.proofs.lemmas.Bool.{le-ltb}
 
 record IsSmall (r : Reading) (t : Tree) : Type 0 where
   pub narrow : r.wide ≡ None
   pub same : r.term ≡ t
-  pub fits : Fits r.term
 
 small_by : (r : Reading) (t : Tree) (o : Option ℕ) (b : Bool) → r.wide ≡ o → fits r.term ≡ b → kept_of r ≡ Small t → IsSmall r t
 small_by r t (Some place) b e f k = let wide = ap (λ o. kept_by o r.term) e in cc
-small_by r t None true e f k = let small : kept_of r ≡ Small r.term = ap (λ o. kept_by o r.term) e ∙ ap (λ b. small_if b r.term) f in record { narrow = e; same = cc; fits = fits_is r.term f }
+small_by r t None true e f k = let small : kept_of r ≡ Small r.term = ap (λ o. kept_by o r.term) e ∙ ap (λ b. small_if b r.term) f in record { narrow = e; same = cc }
 small_by r t None false e f k = let large = ap (λ o. kept_by o r.term) e ∙ ap (λ b. small_if b r.term) f in cc
 
 small : (r : Reading) (t : Tree) → kept_of r ≡ Small t → IsSmall r t
@@ -38,16 +26,14 @@ pattern_read r n f h e =
     let len : length (variables r.term) ≡ n = ap length e ∙ length-range_with_len 0 n in
     record { template = record { fits = f; few = omega arith }; numbered = e ∙ ap (range_with_len 0) (sym len) }
 
-few_test : (n : ℕ) → n ≤ 256 → nat_lt 256 n ≡ false
-few_test n h = grind (arith, nat_tests)
-
-pub judged_ok : (place behind n : ℕ) (r : Reading) (t p : Tree) → kept_of r ≡ Small t → n ≤ 256 → (n ≤ 256 → variables r.term ≡ range_with_len 0 n) → p ≡ renumbered t → Judged place behind n r (Found p behind)
-judged_ok place behind n r t p k h v e =
+pub judged_ok : (place behind n : ℕ) (r : Reading) (t p : Tree) → kept_of r ≡ Small t → Fits t → n ≤ 256 → (n ≤ 256 → variables r.term ≡ range_with_len 0 n) → p ≡ renumbered t → Judged place behind n r (Found p behind)
+judged_ok place behind n r t p k f h v e =
     let s = small r t k in
-    let same : p ≡ r.term = e ∙ ap renumbered (sym s.same) ∙ renumbered-pattern r.term (pattern_read r n s.fits h (v h)) in
+    let fits : Fits r.term = subst Fits (sym s.same) f in
+    let same : p ≡ r.term = e ∙ ap renumbered (sym s.same) ∙ renumbered-pattern r.term (pattern_read r n fits h (v h)) in
     let answer = Found p behind in
     subst (λ o. MatchOption o (When (nat_lt 256 n) (answer ≡ TooMany place) (((answer ≡ TooBig place) × (Fits r.term → ⊥)) ⊎ ((answer ≡ Found r.term behind) × Fits r.term))) (λ wide. answer ≡ WideInt wide)) (sym s.narrow)
-    (subst (λ b. When b (answer ≡ TooMany place) (((answer ≡ TooBig place) × (Fits r.term → ⊥)) ⊎ ((answer ≡ Found r.term behind) × Fits r.term))) (sym (few_test n h)) (inr (ap (λ t. Found t behind) same, s.fits)))
+    (subst (λ b. When b (answer ≡ TooMany place) (((answer ≡ TooBig place) × (Fits r.term → ⊥)) ⊎ ((answer ≡ Found r.term behind) × Fits r.term))) (sym (le-ltb 256 n h)) (inr (ap (λ t. Found t behind) same, fits)))
 
 -- a term with so few variables isn't refused for them
 pub not_too_many : (n : ℕ) (r : Reading) (t : Tree) → kept_of r ≡ Small t → n ≤ 256 → (n ≤ 256 → variables r.term ≡ range_with_len 0 n) → 256 < length (variables t) → ⊥

@@ -8,7 +8,6 @@ pub mod Framed
 pub mod Lexemes
 pub mod Quotes
 pub mod Blanks
-pub mod Answers
 pub mod Better
 pub mod Answering
 pub mod Judging
@@ -21,7 +20,7 @@ pub mod OneLexeme
 pub mod OneReading
 pub mod QuotedBytes
 pub mod ReadNames
-pub mod Plain
+pub mod Words
 pub mod Cells
 pub mod QuotedFront
 pub mod ArgumentLoop
@@ -34,4 +33,3 @@ pub mod AtFront
 pub mod Spelling
 pub mod Printed
 pub mod ReadBack
-pub mod ReadNumbers

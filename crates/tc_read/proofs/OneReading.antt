@@ -3,9 +3,10 @@ use Rattle.tc_term.specs.Tree.{Fits}
 use Rattle.tc_term.specs.Tokens.{Lexeme, Longest, BeginsNone}
 use Rattle.tc_term.specs.Layouts.{ToLineEnd, at_end, at_line_feed, in_line, ToBlockEnd, at_block_end, in_block, Piece, blank, line, block, Layout, no_layout, layout, IsBehindEnd, At, Stop, TextEnd, ClauseEnd, NoToken, Scan, at_text_end, at_clause_end, at_no_token, token}
 use Rattle.tc_term.specs.Faults.{Reading, reading, numbered, all_known, first_wide, most_open, Answer, WideInt, TooMany, TooBig, Found, first_place, place_behind, When, Judged, Parsed, Ended, Unended, Stopped, Answers, IsRead}
-use Rattle.tc_read.proofs.Lexemes.{heads, tails, none_empty}
+use Rattle.tc_read.proofs.Lexemes.{none_empty}
 use Rattle.tc_read.proofs.OneLexeme.{longest_same, dot_begins_none}
 use Rattle.tc_read.proofs.Unique.{one_term}
+use Rattle.tc_lists.proofs.Parts.{cons_head, cons_tail}
 
 -- A text has one reading at most.
 
@@ -46,7 +47,7 @@ both : (ts : List At) (stop : Stop) → Same ts ts stop stop
 both ts stop = record { tokens = refl; stops = refl }
 
 clause_or_none : {clauses : Bool} {after : List ℕ} {b : ℕ} {rest : List ℕ} → clauses ≡ true → IsBehindEnd after → (clauses ≡ true → b ≡ 46 → IsBehindEnd rest → ⊥) → 46 ∷ after ≡ b ∷ rest → ⊥
-clause_or_none {after = after} c end none e = none c (sym (heads e)) (subst IsBehindEnd (tails e) end)
+clause_or_none {after = after} c end none e = none c (sym (cons_head e)) (subst IsBehindEnd (cons_tail e) end)
 
 end_or_token : {after mid front rest : List ℕ} {lexeme : Lexeme} → 46 ∷ after ≡ mid → Longest mid front lexeme rest → ⊥
 end_or_token {after = after} {front = front} {rest = rest} {lexeme = lexeme} e l = dot_begins_none after front rest lexeme (e ∙ l.split) l.spelled
@@ -63,12 +64,12 @@ scan_same (at_text_end l) (at_clause_end c k e) = let same = layout_same l k in 
 scan_same (at_text_end l) (at_no_token k n e) = let same = layout_same l k in cc
 scan_same (at_text_end l) (token k t h) = absurd (empty_or_token (layout_same l k) t)
 scan_same (at_clause_end c l e) (at_text_end k) = let same = layout_same l k in cc
-scan_same {size = size} (at_clause_end c l e) (at_clause_end d k f) = record { tokens = refl; stops = ap (λ n. ClauseEnd (size - suc (length n))) (tails (layout_same l k)) }
+scan_same {size = size} (at_clause_end c l e) (at_clause_end d k f) = record { tokens = refl; stops = ap (λ n. ClauseEnd (size - suc (length n))) (cons_tail (layout_same l k)) }
 scan_same (at_clause_end c l e) (at_no_token k n f) = absurd (clause_or_none c e f (layout_same l k))
 scan_same (at_clause_end c l e) (token k t h) = absurd (end_or_token (layout_same l k) t)
 scan_same (at_no_token l n e) (at_text_end k) = let same = layout_same l k in cc
 scan_same (at_no_token l n e) (at_clause_end d k f) = absurd (clause_or_none d f e (layout_same k l))
-scan_same {size = size} (at_no_token l n e) (at_no_token k m f) = record { tokens = refl; stops = ap (λ x. NoToken (size - suc (length x))) (tails (layout_same l k)) }
+scan_same {size = size} (at_no_token l n e) (at_no_token k m f) = record { tokens = refl; stops = ap (λ x. NoToken (size - suc (length x))) (cons_tail (layout_same l k)) }
 scan_same (at_no_token l n e) (token k t h) = absurd (none_or_token (layout_same l k) n t)
 scan_same (token l t h) (at_text_end k) = absurd (empty_or_token (layout_same k l) t)
 scan_same (token l t h) (at_clause_end d k f) = absurd (end_or_token (layout_same k l) t)

@@ -11,6 +11,8 @@ use Rattle.tc_term.specs.Layouts.{At}
 use Rattle.tc_term.specs.Grammar.{Token, Operator, infix_of, functor_of, Derives, operand, prefix, infix_term, Operand, variable, integer, negative, atom, compound, no_items, items, group, Arguments, last_argument, more_arguments, Items, last_item, list_tail, more_items, IsTerm}
 use Rattle.tc_term.specs.Grammar as grammar
 use Rattle.tc_term.specs.Faults.{Reading, reading, trees, terms, all_known, known_behind, known_after, known_by, learned, is_anonymous, number_of, number_by, numbered, token_of, mark_of}
+use Rattle.tc_lists.proofs.Ranges.{range_with_len_suc}
+use Rattle.tc_lists.proofs.Positions.{position_within}
 
 -- The variables of a term appear in the order of its tokens.
 
@@ -71,10 +73,6 @@ mutual
 
 -- Numbered by first appearance, they are 0, 1, ..
 
-range_more : (a k : ℕ) → range_with_len a (suc k) ≡ range_with_len a k ++ (a + k) ∷ []
-range_more a zero = ap (λ n. n ∷ []) (let e : a ≡ a + 0 = omega arith in e)
-range_more a (suc k) = ap (λ ns. a ∷ ns) (range_more (a + 1) k ∙ ap (λ n. range_with_len (a + 1) k ++ n ∷ []) (let e : a + 1 + k ≡ a + suc k = omega arith in e))
-
 place_below : (a k n : ℕ) → n < k → place_in (range_with_len a k) (a + n) ≡ n
 place_below a zero n h = absurd (omega arith)
 place_below a (suc k) zero h = by (a == a + 0) refl
@@ -116,7 +114,7 @@ with_new k =
     ap (λ b. if b then range_with_len 0 k ++ k ∷ [] else range_with_len 0 k)
     (test_same (place_in (range_with_len 0 k) k) k (length (range_with_len 0 k)) (place_of k k k (place_beyond 0 k k (omega arith))) (length-range_with_len 0 k))
     ∙ ap (λ n. range_with_len 0 k ++ n ∷ []) (let z : k ≡ 0 + k = omega arith in z)
-    ∙ sym (range_more 0 k)
+    ∙ sym (range_with_len_suc 0 k)
 
 learned_length : (known : List (List ℕ)) (name : List ℕ) → length (learned known name) ≤ 256 → length (learned known name) ≡ suc (length known)
 learned_length known name h = by (nat_le (length known) 256) refl h
@@ -154,9 +152,6 @@ known_behind_grows known (Punctuation t) = omega arith
 all_known_grows : (known : List (List ℕ)) (ts : List At) → length known ≤ length (all_known known ts)
 all_known_grows known [] = omega arith
 all_known_grows known (t ∷ ts) = omega (arith, known_behind_grows known t.lexeme, all_known_grows (known_behind known t.lexeme) ts)
-
-position_within : (p : List ℕ → Bool) (xs : List (List ℕ)) (i : ℕ) → position p xs ≡ Some i → i < length xs
-position_within p xs i e = grind (arith, nat_tests)
 
 new_variable : (known : List (List ℕ)) (name : List ℕ) → length (learned known name) ≤ 256 → with_number (range_with_len 0 (length known)) (length known) ≡ range_with_len 0 (length (learned known name))
 new_variable known name h = with_new (length known) ∙ ap (range_with_len 0) (sym (learned_length known name h))

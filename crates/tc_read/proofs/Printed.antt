@@ -1,5 +1,7 @@
 -- The canonical text of a term is scanned to tokens that are that term.
 use Rattle.std.proofs.Common.{◌≡◌, ◌∙◌, ◌<◌, ◌≤◌, ◌+◌, ◌-◌, ◌^◌, ◌&&◌, ℕ, zero, suc, ℤ, pos, negsuc, Bool, true, false, max, nat_lt, if◌then◌else◌, List, [], ◌∷◌, ◌++◌, codes, length, FitsSigned, Some, None, refl, sym, ap, ap₂, subst, append_assoc, eq-eqb, arith}
+use Rattle.tc_term.specs.Bytes.{is_word, is_name_byte}
+use Rattle.tc_term.specs.Tree.{HasIntegers, HaveIntegers}
 use Rattle.std.proofs.lemmas.Bool.Decides.{nat_tests}
 use Rattle.std.proofs.lemmas.Slice.Eq.{bytes_eq-Decides}
 use Rattle.std.specs.Char.{is_ascii_digit, is_ascii_lowercase}
@@ -20,15 +22,15 @@ use Rattle.tc_read.proofs.Blanks.{no_piece}
 use Rattle.tc_read.proofs.Lexemes.{begins_mark, begins_sign}
 use Rattle.tc_read.proofs.Spelling.{Follows, Follows-word, known-new, known-old, number-new, number-old, spells_number, spells_quoted, spells_variable, spells_word, variable_name, variable_names}
 use Rattle.tc_read.proofs.Spent.{Numbered, numbered-some, old, new, paid-some, spent-takes, then_in-some}
-use Rattle.tc_read.proofs.Taken.{both_true, plain_text, quoted_text}
+use Rattle.tc_read.proofs.Taken.{plain_text, quoted_text}
 use Rattle.tc_read.proofs.Texts.{text_in-Variable, text_in-Number, text_in-nil, text_in-Atomic, text_in-cell, text_in-Compound, texts_of-Last, texts_of-More, text_in-barred}
 use Rattle.tc_read.specs.Budget.{numbered as in_room, paid, spent, spent_all, then_in}
-use Rattle.tc_term.specs.Readable.{HasIntegers, HaveIntegers}
 use Rattle.tc_read.specs.Front.{is_barred, is_cell}
 use Rattle.tc_read.specs.Lexing.{Begins}
-use Rattle.tc_term.specs.NameBytes.{has_read_names, have_read_names, is_name_byte}
+use Rattle.tc_term.specs.NameBytes.{has_read_names, have_read_names}
 use Rattle.tc_term.specs.Readable.{opened, opened_in_all}
 use Rattle.tc_read.specs.declared.room.Room.{Room}
+use Rattle.tc_lists.proofs.Bools.{and_parts}
 
 -- a term that is read, with no integer too wide
 abbrev pub plain : Tree → Reading
@@ -75,7 +77,7 @@ no_layout_decimal n rest (b ∷ s) small e = no_layout_digit b s (decimal-first 
 
 no_layout_name : (name rest : List ℕ) → is_name name ≡ true → NoPiece (name ++ rest)
 no_layout_name [] rest e = absurd (cc)
-no_layout_name (b ∷ s) rest e = no_layout_word b (s ++ rest) (both_true (is_ascii_lowercase b) (list_all text.is_word s) e).0
+no_layout_name (b ∷ s) rest e = no_layout_word b (s ++ rest) (and_parts (is_ascii_lowercase b) (list_all is_word s) e).0
 
 -- the number of a variable, and what is known behind it
 variable-known : (n : ℕ) (room left : Room) → then_in (in_room n room) (paid 0) ≡ Some left → room.variables ≤ 256 →
@@ -369,7 +371,7 @@ module _ (clauses : Bool) (size : ℕ) (stop : Stop) where
   arguments-spelt (More t ts) each d room left e small integers all rest us scan =
       let (mid, there, more) = then_in-some (spent d room t) (λ now. spent_all d now ts) left e in
       let taken = spent-takes t d room mid there in
-      let both = both_true (has_read_names t) (have_read_names ts) all in
+      let both = and_parts (has_read_names t) (have_read_names ts) all in
       let after = texts_of ts ++ 41 ∷ rest in
       let last = arguments-spelt ts each.1 d mid left more (taken.few small) integers.1 both.1 rest us scan in
       let comma = at (size - length (44 ∷ after)) (Punctuation Comma) in
@@ -396,7 +398,7 @@ module _ (clauses : Bool) (size : ℕ) (stop : Stop) where
       let (mid, there, more) = then_in-some (paid (length name) room) (λ now. spent_all d now ts) left e in
       let first_paid = paid-some (length name) room mid there in
       let same : room.variables ≡ mid.variables = ap (λ r. r.variables) first_paid.is in
-      let both = both_true (list_all is_name_byte name) (have_read_names ts) all in
+      let both = and_parts (list_all is_name_byte name) (have_read_names ts) all in
       let inside = texts_of ts ++ 41 ∷ rest in
       let last = arguments-spelt ts each d mid left more (omega (arith, small, same)) integers both.1 rest us scan in
       let open_bracket = at (size - length (40 ∷ inside)) (Punctuation spelled.Open) in
@@ -480,7 +482,7 @@ module _ (clauses : Bool) (size : ℕ) (stop : Stop) where
       let same : start.variables ≡ room.variables = sym (ap (λ r. r.variables) (paid-some 1 room start at_start).is) in
       let few : start.variables ≤ 256 = omega (arith, small, same) in
       let taken = spent-takes t d start mid at_first in
-      let both = both_true (has_read_names t) (has_read_names u) all in
+      let both = and_parts (has_read_names t) (has_read_names u) all in
       let behind = other.behind d mid left at_last (taken.few few) integers.1 both.1 rest ts scan in
       let last = behind.spelt in
       let head = one.alone d start mid at_first few integers.0 both.0 (text_in Behind u ++ rest) last.tokens behind.follows behind.not_called last.scan in

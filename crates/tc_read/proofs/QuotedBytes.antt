@@ -8,18 +8,10 @@ use Rattle.tc_term.specs.Tokens.{escape}
 use Rattle.tc_term.specs.Text.{quoted, quoted_byte}
 use Rattle.tc_read.specs.Views.{meant}
 use Rattle.tc_read.specs.Written.{IsQuotedAt}
-use Rattle.tc_read.proofs.Lexemes.{heads, tails}
+use Rattle.std.proofs.lemmas.Bool.{eqb-true, eqb-false, ne_eqb}
+use Rattle.tc_lists.proofs.Parts.{cons_head, cons_tail}
 
 -- How a byte is written between quotes.
-
-pub same_test : (b n : ℕ) → (b == n) ≡ true → b ≡ n
-same_test b n e = grind (arith, nat_tests)
-
-pub unlike_test : (b n : ℕ) → (b == n) ≡ false → b ≢ n
-unlike_test b n e = grind (arith, nat_tests)
-
-pub test_unlike : (b n : ℕ) → b ≢ n → (b == n) ≡ false
-test_unlike b n e = grind (arith, nat_tests)
 
 -- behind a backslash, or as it is
 pub data Form (b : ℕ) : Type 0 where
@@ -33,16 +25,16 @@ pub form : (b : ℕ) → Form b
 form b = by (b == 39) (b == 92) (b == 10) (b == 9) refl refl refl refl
   where
     by : (p q r s : Bool) → (b == 39) ≡ p → (b == 92) ≡ q → (b == 10) ≡ r → (b == 9) ≡ s → Form b
-    by true q r s i j k l = at_byte b 39 (same_test b 39 i) (escaped 39 refl refl refl)
-    by false true r s i j k l = at_byte b 92 (same_test b 92 j) (escaped 92 refl refl refl)
-    by false false true s i j k l = at_byte b 10 (same_test b 10 k) (escaped 110 refl refl refl)
-    by false false false true i j k l = at_byte b 9 (same_test b 9 l) (escaped 116 refl refl refl)
+    by true q r s i j k l = at_byte b 39 (eqb-true b 39 i) (escaped 39 refl refl refl)
+    by false true r s i j k l = at_byte b 92 (eqb-true b 92 j) (escaped 92 refl refl refl)
+    by false false true s i j k l = at_byte b 10 (eqb-true b 10 k) (escaped 110 refl refl refl)
+    by false false false true i j k l = at_byte b 9 (eqb-true b 9 l) (escaped 116 refl refl refl)
     by false false false false i j k l = plain
         (ap (λ t. if t then codes "\\'" else (if b == 92 then codes "\\\\" else (if b == 10 then codes "\\n" else (if b == 9 then codes "\\t" else b ∷ [])))) i
         ∙ ap (λ t. if t then codes "\\\\" else (if b == 10 then codes "\\n" else (if b == 9 then codes "\\t" else b ∷ []))) j
         ∙ ap (λ t. if t then codes "\\n" else (if b == 9 then codes "\\t" else b ∷ [])) k
         ∙ ap (λ t. if t then codes "\\t" else b ∷ []) l)
-        (unlike_test b 39 i) (unlike_test b 92 j) (unlike_test b 10 k) (unlike_test b 9 l)
+        (eqb-false b 39 i) (eqb-false b 92 j) (eqb-false b 10 k) (eqb-false b 9 l)
 
 -- the front of a written byte
 front : (b : ℕ) (s r : List ℕ) → quoted_byte b ≡ s → quoted_byte b ++ r ≡ s ++ r
@@ -52,15 +44,15 @@ pub no_quote : (b : ℕ) (r t : List ℕ) → 39 ∷ t ≡ quoted_byte b ++ r �
 no_quote b r t e = by (form b)
   where
     by : Form b → ⊥
-    by (escaped c q m k) = let x = heads (e ∙ front b (92 ∷ c ∷ []) r q) in omega arith
-    by (plain q n w x y) = n (sym (heads (e ∙ front b (b ∷ []) r q)))
+    by (escaped c q m k) = let x = cons_head (e ∙ front b (92 ∷ c ∷ []) r q) in omega arith
+    by (plain q n w x y) = n (sym (cons_head (e ∙ front b (b ∷ []) r q)))
 
 pub plain_byte : (b : ℕ) → b ≢ 39 → b ≢ 92 → b ≢ 10 → b ≢ 9 → quoted_byte b ≡ b ∷ []
 plain_byte b i j k l =
-    ap (λ t. if t then codes "\\'" else (if b == 92 then codes "\\\\" else (if b == 10 then codes "\\n" else (if b == 9 then codes "\\t" else b ∷ [])))) (test_unlike b 39 i)
-    ∙ ap (λ t. if t then codes "\\\\" else (if b == 10 then codes "\\n" else (if b == 9 then codes "\\t" else b ∷ []))) (test_unlike b 92 j)
-    ∙ ap (λ t. if t then codes "\\n" else (if b == 9 then codes "\\t" else b ∷ [])) (test_unlike b 10 k)
-    ∙ ap (λ t. if t then codes "\\t" else b ∷ []) (test_unlike b 9 l)
+    ap (λ t. if t then codes "\\'" else (if b == 92 then codes "\\\\" else (if b == 10 then codes "\\n" else (if b == 9 then codes "\\t" else b ∷ [])))) (ne_eqb b 39 i)
+    ∙ ap (λ t. if t then codes "\\\\" else (if b == 10 then codes "\\n" else (if b == 9 then codes "\\t" else b ∷ []))) (ne_eqb b 92 j)
+    ∙ ap (λ t. if t then codes "\\n" else (if b == 9 then codes "\\t" else b ∷ [])) (ne_eqb b 10 k)
+    ∙ ap (λ t. if t then codes "\\t" else b ∷ []) (ne_eqb b 9 l)
 
 pub escaped_byte : (c : ℕ) → is_some (escape c) ≡ true → quoted_byte (meant c) ≡ 92 ∷ c ∷ []
 escaped_byte c e = by (c == 39) (c == 92) (c == 110) (c == 116) refl refl refl refl e
@@ -70,10 +62,10 @@ escaped_byte c e = by (c == 39) (c == 92) (c == 110) (c == 116) refl refl refl r
 
     by : (p q r s : Bool) → (c == 39) ≡ p → (c == 92) ≡ q → (c == 110) ≡ r → (c == 116) ≡ s
         → is_some {T = ℕ} (if p then Some 39 else (if q then Some 92 else (if r then Some 10 else (if s then Some 9 else None)))) ≡ true → quoted_byte (meant c) ≡ 92 ∷ c ∷ []
-    by true q r s i j k l e = at 39 (same_test c 39 i) refl
-    by false true r s i j k l e = at 92 (same_test c 92 j) refl
-    by false false true s i j k l e = at 110 (same_test c 110 k) refl
-    by false false false true i j k l e = at 116 (same_test c 116 l) refl
+    by true q r s i j k l e = at 39 (eqb-true c 39 i) refl
+    by false true r s i j k l e = at 92 (eqb-true c 92 j) refl
+    by false false true s i j k l e = at 110 (eqb-true c 110 k) refl
+    by false false false true i j k l e = at 116 (eqb-true c 116 l) refl
     by false false false false i j k l e = cc
 
 -- behind a backslash stands a byte that may be escaped
@@ -81,24 +73,24 @@ pub backslash : (b c : ℕ) (r t : List ℕ) → 92 ∷ c ∷ t ≡ quoted_byte 
 backslash b c r t e = by (form b)
   where
     by : Form b → is_some (escape c) ≡ true
-    by (escaped d q m k) = let x : c ≡ d = heads (tails (e ∙ front b (92 ∷ d ∷ []) r q)) in ap (λ y. is_some (escape y)) x ∙ k
-    by (plain q n w x y) = absurd (w (sym (heads (e ∙ front b (b ∷ []) r q))))
+    by (escaped d q m k) = let x : c ≡ d = cons_head (cons_tail (e ∙ front b (92 ∷ d ∷ []) r q)) in ap (λ y. is_some (escape y)) x ∙ k
+    by (plain q n w x y) = absurd (w (sym (cons_head (e ∙ front b (b ∷ []) r q))))
 
 pub backslash_end : (b : ℕ) (r : List ℕ) → 92 ∷ [] ≡ quoted_byte b ++ r → ⊥
 backslash_end b r e = by (form b)
   where
     by : Form b → ⊥
-    by (escaped d q m k) = let x = tails (e ∙ front b (92 ∷ d ∷ []) r q) in cc
-    by (plain q n w x y) = w (sym (heads (e ∙ front b (b ∷ []) r q)))
+    by (escaped d q m k) = let x = cons_tail (e ∙ front b (92 ∷ d ∷ []) r q) in cc
+    by (plain q n w x y) = w (sym (cons_head (e ∙ front b (b ∷ []) r q)))
 
 -- a line feed and a tab aren't written as they are
 pub no_raw : (a b : ℕ) (r t : List ℕ) → (a ≡ 10) ⊎ (a ≡ 9) → a ∷ t ≡ quoted_byte b ++ r → ⊥
 no_raw a b r t h e = by (form b) h
   where
     by : Form b → (a ≡ 10) ⊎ (a ≡ 9) → ⊥
-    by (escaped d q m k) h = let x = heads (e ∙ front b (92 ∷ d ∷ []) r q) in omega arith
-    by (plain q n w x y) (inl i) = x (sym (heads (e ∙ front b (b ∷ []) r q)) ∙ i)
-    by (plain q n w x y) (inr i) = y (sym (heads (e ∙ front b (b ∷ []) r q)) ∙ i)
+    by (escaped d q m k) h = let x = cons_head (e ∙ front b (92 ∷ d ∷ []) r q) in omega arith
+    by (plain q n w x y) (inl i) = x (sym (cons_head (e ∙ front b (b ∷ []) r q)) ∙ i)
+    by (plain q n w x y) (inr i) = y (sym (cons_head (e ∙ front b (b ∷ []) r q)) ∙ i)
 
 pub empty_byte : (b : ℕ) (r : List ℕ) → [] ≡ quoted_byte b ++ r → ⊥
 empty_byte b r e = by (form b)
@@ -112,10 +104,10 @@ pub written_same : (b d : ℕ) (r t : List ℕ) → quoted_byte b ++ r ≡ quote
 written_same b d r t e = by (form b) (form d)
   where
     by : Form b → Form d → r ≡ t
-    by (escaped c q m k) (escaped c' q' m' k') = tails (tails (sym (front b (92 ∷ c ∷ []) r q) ∙ e ∙ front d (92 ∷ c' ∷ []) t q'))
-    by (escaped c q m k) (plain q' n w x y) = absurd (w (sym (heads (sym (front b (92 ∷ c ∷ []) r q) ∙ e ∙ front d (d ∷ []) t q'))))
-    by (plain q n w x y) (escaped c' q' m' k') = absurd (w (heads (sym (front b (b ∷ []) r q) ∙ e ∙ front d (92 ∷ c' ∷ []) t q')))
-    by (plain q n w x y) (plain q' n' w' x' y') = tails (sym (front b (b ∷ []) r q) ∙ e ∙ front d (d ∷ []) t q')
+    by (escaped c q m k) (escaped c' q' m' k') = cons_tail (cons_tail (sym (front b (92 ∷ c ∷ []) r q) ∙ e ∙ front d (92 ∷ c' ∷ []) t q'))
+    by (escaped c q m k) (plain q' n w x y) = absurd (w (sym (cons_head (sym (front b (92 ∷ c ∷ []) r q) ∙ e ∙ front d (d ∷ []) t q'))))
+    by (plain q n w x y) (escaped c' q' m' k') = absurd (w (cons_head (sym (front b (b ∷ []) r q) ∙ e ∙ front d (92 ∷ c' ∷ []) t q')))
+    by (plain q n w x y) (plain q' n' w' x' y') = cons_tail (sym (front b (b ∷ []) r q) ∙ e ∙ front d (d ∷ []) t q')
 
 -- What the loop keeps: the bytes so far are written before the rest, and any bytes that are written there go on with it.
 pub record Unquotes (text rest bytes : List ℕ) : Type 0 where
@@ -154,4 +146,4 @@ quoted_at text after bytes rest from behind h e u p =
     record { rest = rest; stands = stands; place = omega (arith, ap length stands, length-append (quoted bytes) rest, length-drop from text) }
 
 pub quote_first : (bytes r after : List ℕ) → 39 ∷ after ≡ quoted bytes ++ r → after ≡ flat_map quoted_byte bytes ++ 39 ∷ r
-quote_first bytes r after e = tails (e ∙ quoted_split bytes r)
+quote_first bytes r after e = cons_tail (e ∙ quoted_split bytes r)

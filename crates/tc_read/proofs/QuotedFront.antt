@@ -4,19 +4,20 @@ use Rattle.std.proofs.Math.Seq.{drop-append_seam}
 use Rattle.std.specs.Prelude.{is_some}
 use Rattle.std.specs.declared.option.Option.{Option}
 use Rattle.std.specs.List.{flat_map}
-use Rattle.tc_lists.proofs.Options.{some_same}
 use Rattle.tc_term.specs.Text.{is_name, quoted, quoted_byte}
 use Rattle.tc_term.specs.Tokens.{escape}
-use Rattle.tc_read.proofs.QuotedBytes.{Form, escaped, plain, form, same_test, unlike_test, test_unlike, escaped_byte, plain_byte, quote_first, quoted_split}
+use Rattle.tc_read.proofs.QuotedBytes.{Form, escaped, plain, form, escaped_byte, plain_byte, quote_first, quoted_split}
 use Rattle.tc_read.specs.Front.{escaped_at, quoted_at, unplain, with_byte}
 use Rattle.tc_read.specs.Views.{meant}
+use Rattle.std.proofs.lemmas.Bool.{eqb-true, eqb-false, ne_eqb}
+use Rattle.std.proofs.lemmas.Option.{same_Some}
 
 -- what is found behind a byte
 with_byte-some : (b : ℕ) (r : Option (List ℕ × List ℕ)) (bytes rest : List ℕ) → with_byte b r ≡ Some (bytes, rest)
     → (more : List ℕ) × (r ≡ Some (more, rest)) × (b ∷ more ≡ bytes)
 with_byte-some b None bytes rest e = absurd (cc)
 with_byte-some b (Some (more, other)) bytes rest e =
-    let same = some_same (b ∷ more, other) (bytes, rest) e in
+    let same = same_Some (b ∷ more, other) (bytes, rest) e in
     (more, ap (λ x. Some (more, x)) (ap (λ p. p.1) same), ap (λ p. p.0) same)
 
 -- what is found is written so
@@ -40,11 +41,11 @@ Takes-first b s more behind = by (b == 39) (b == 92) (b == 10) (b == 9) refl ref
 
     by : (p q r u : Bool) → (b == 39) ≡ p → (b == 92) ≡ q → (b == 10) ≡ r → (b == 9) ≡ u → Takes (b ∷ s) (quoted_at (b ∷ s))
     by true q r u i j k l = λ bytes rest e.
-        let same = some_same ([], s) (bytes, rest) (sym (ap (λ t. first t (b == 92) (b == 10 || b == 9)) i) ∙ e) in
-        ap (λ x. x ∷ s) (same_test b 39 i) ∙ ap (λ x. 39 ∷ x) (ap (λ p. p.1) same)
+        let same = same_Some ([], s) (bytes, rest) (sym (ap (λ t. first t (b == 92) (b == 10 || b == 9)) i) ∙ e) in
+        ap (λ x. x ∷ s) (eqb-true b 39 i) ∙ ap (λ x. 39 ∷ x) (ap (λ p. p.1) same)
         ∙ ap (λ x. flat_map quoted_byte x ++ 39 ∷ rest) (ap (λ p. p.0) same)
     by false true r u i j k l = λ bytes rest e.
-        ap (λ x. x ∷ s) (same_test b 92 j) ∙ behind bytes rest (sym (ap (λ t. first t (b == 92) (b == 10 || b == 9)) i ∙ ap (λ t. first false t (b == 10 || b == 9)) j) ∙ e)
+        ap (λ x. x ∷ s) (eqb-true b 92 j) ∙ behind bytes rest (sym (ap (λ t. first t (b == 92) (b == 10 || b == 9)) i ∙ ap (λ t. first false t (b == 10 || b == 9)) j) ∙ e)
     by false false true u i j k l = λ bytes rest e.
         Takes-none (b ∷ s) bytes rest
         (sym (ap (λ t. first t (b == 92) (b == 10 || b == 9)) i ∙ ap (λ t. first false t (b == 10 || b == 9)) j ∙ ap (λ t. first false false (t || b == 9)) k) ∙ e)
@@ -53,7 +54,7 @@ Takes-first b s more behind = by (b == 39) (b == 92) (b == 10) (b == 9) refl ref
         (sym (ap (λ t. first t (b == 92) (b == 10 || b == 9)) i ∙ ap (λ t. first false t (b == 10 || b == 9)) j ∙ ap (λ t. first false false (t || b == 9)) k
         ∙ ap (λ t. first false false (false || t)) l) ∙ e)
     by false false false false i j k l = λ bytes rest e.
-        Takes-byte b (b ∷ []) s (quoted_at s) (plain_byte b (unlike_test b 39 i) (unlike_test b 92 j) (unlike_test b 10 k) (unlike_test b 9 l)) more bytes rest
+        Takes-byte b (b ∷ []) s (quoted_at s) (plain_byte b (eqb-false b 39 i) (eqb-false b 92 j) (eqb-false b 10 k) (eqb-false b 9 l)) more bytes rest
         (sym (ap (λ t. first t (b == 92) (b == 10 || b == 9)) i ∙ ap (λ t. first false t (b == 10 || b == 9)) j ∙ ap (λ t. first false false (t || b == 9)) k
         ∙ ap (λ t. first false false (false || t)) l) ∙ e)
 
@@ -83,10 +84,10 @@ quoted_at-byte b s = by (form b)
     by : Form b → quoted_at (quoted_byte b ++ s) ≡ with_byte b (quoted_at s)
     by (escaped c q m k) = ap (λ x. quoted_at (x ++ s)) q ∙ ap (λ t. if t then with_byte (meant c) (quoted_at s) else None) k ∙ ap (λ x. with_byte x (quoted_at s)) m
     by (plain q n w x y) = ap (λ x. quoted_at (x ++ s)) q
-        ∙ ap (λ t. if t then Some ([], s) else (if b == 92 then escaped_at s else (if b == 10 || b == 9 then None else with_byte b (quoted_at s)))) (test_unlike b 39 n)
-        ∙ ap (λ t. if t then escaped_at s else (if b == 10 || b == 9 then None else with_byte b (quoted_at s))) (test_unlike b 92 w)
-        ∙ ap (λ t. if t || b == 9 then None else with_byte b (quoted_at s)) (test_unlike b 10 x)
-        ∙ ap (λ t. if false || t then None else with_byte b (quoted_at s)) (test_unlike b 9 y)
+        ∙ ap (λ t. if t then Some ([], s) else (if b == 92 then escaped_at s else (if b == 10 || b == 9 then None else with_byte b (quoted_at s)))) (ne_eqb b 39 n)
+        ∙ ap (λ t. if t then escaped_at s else (if b == 10 || b == 9 then None else with_byte b (quoted_at s))) (ne_eqb b 92 w)
+        ∙ ap (λ t. if t || b == 9 then None else with_byte b (quoted_at s)) (ne_eqb b 10 x)
+        ∙ ap (λ t. if false || t then None else with_byte b (quoted_at s)) (ne_eqb b 9 y)
 
 -- what is written up to a closing quote is found
 pub quoted_at-again : (bytes rest : List ℕ) → quoted_at (flat_map quoted_byte bytes ++ 39 ∷ rest) ≡ Some (bytes, rest)
@@ -105,12 +106,6 @@ quoted_at-none s none = by (quoted_at s) refl
     by : (found : Option (List ℕ × List ℕ)) → quoted_at s ≡ found → found ≡ None
     by None e = refl
     by (Some (bytes, rest)) e = absurd (none bytes rest (ap (λ x. 39 ∷ x) (quoted_at-takes s bytes rest e) ∙ sym (quoted_split bytes rest)))
-
--- what stands behind a text whose end has this place
-pub drop-behind : (bytes text rest : List ℕ) (end : ℕ) → bytes ≡ text ++ rest → end + length rest ≡ length bytes → drop end bytes ≡ rest
-drop-behind bytes text rest end stands place =
-    let same : length text ≡ end = omega (arith, length-append text rest, ap length stands, place) in
-    ap (drop end) stands ∙ ap (λ n. drop n (text ++ rest)) (sym same) ∙ drop-append_seam text rest
 
 -- the name that is found, unless it has the form of a name token
 pub unplain-found : (bytes s name rest : List ℕ) → bytes ≡ 39 ∷ s → bytes ≡ quoted name ++ rest →

@@ -9,39 +9,11 @@ use Rattle.tc_lists.proofs.Prefixes.{IsPrefix-append, IsPrefix-trans, IsPrefix-w
 use Rattle.tc_term.proofs.Places.{Stands-range, map-range, place_in-range, with_number_cases}
 use Rattle.tc_term.specs.Tree.{Tree, Variable, Atomic, Number, Compound, Trees, Last, More}
 use Rattle.tc_term.specs.Variables.{with_number, variables_after, variables_after_all}
+use Rattle.tc_lists.proofs.Ranges.{range_with_len_more, is_range, get_or-range, range_with_len_same}
 
 map-same : (ms : List ℕ) → map (λ k. k) ms ≡ ms
 map-same [] = refl
 map-same (m ∷ ms) = ap (λ l. m ∷ l) (map-same ms)
-
--- a list whose item at each place is the place
-is_range : (ms : List ℕ) → ((k d : ℕ) → k < length ms → get_or ms k d ≡ k) → ms ≡ range_with_len 0 (length ms)
-is_range ms each = sym (map-same ms) ∙ map-range (λ k. k) 0 ms (λ k d inside. each k d inside ∙ omega arith)
-
-at_range : (n i d : ℕ) → i < n → get_or (range_with_len 0 n) i d ≡ i
-at_range n i d inside = get_or-range_with_len 0 n i d inside ∙ omega arith
-
-pub range-push : (n : ℕ) → range_with_len 0 n ++ n ∷ [] ≡ range_with_len 0 (n + 1)
-range-push n =
-    let ms = range_with_len 0 n ++ n ∷ [] in
-    let long : length ms ≡ n + 1 = omega (arith, length-append (range_with_len 0 n) (n ∷ []), length-range_with_len 0 n) in
-    is_range ms (λ k d inside.
-    elim (cases_lt k n) [
-      | inl before ↦ get_or_append_left (range_with_len 0 n) (n ∷ []) d k (omega (arith, before, length-range_with_len 0 n)) ∙ at_range n k d before
-      | inr behind ↦
-          let last : n ≡ k = omega (arith, behind, inside, long) in
-          get_or_push (range_with_len 0 n) n d k (length-range_with_len 0 n ∙ last) ∙ last
-    ])
-    ∙ ap (range_with_len 0) long
-
-pub range-front : (ms : List ℕ) (n : ℕ) → IsPrefix ms (range_with_len 0 n) → ms ≡ range_with_len 0 (length ms)
-range-front ms n front =
-    is_range ms (λ k d inside.
-    sym (get_or-IsPrefix ms (range_with_len 0 n) k d front inside)
-    ∙ at_range n k d (omega (arith, inside, length-IsPrefix ms (range_with_len 0 n) front, length-range_with_len 0 n)))
-
-pub range-same : (m n : ℕ) → range_with_len 0 m ≡ range_with_len 0 n → m ≡ n
-range-same m n e = sym (length-range_with_len 0 m) ∙ ap length e ∙ length-range_with_len 0 n
 
 -- a number below the end is there
 pub with_number-old : (v n : ℕ) → n < v → with_number (range_with_len 0 v) n ≡ range_with_len 0 v
@@ -56,7 +28,7 @@ pub with_number-new : (v : ℕ) → with_number (range_with_len 0 v) v ≡ range
 with_number-new v =
     elim (with_number_cases (range_with_len 0 v) v) [
       | inl old ↦ absurd (omega (arith, (place_in-range v v old.0).1))
-      | inr new ↦ new.1 ∙ range-push v
+      | inr new ↦ new.1 ∙ sym (range_with_len_more v)
     ]
 
 -- no other number goes on with them
@@ -64,11 +36,11 @@ pub with_number-range : (v n k : ℕ) → with_number (range_with_len 0 v) n ≡
     ((n < v) × (k ≡ v)) ⊎ ((n ≡ v) × (k ≡ v + 1))
 with_number-range v n k e =
     elim (with_number_cases (range_with_len 0 v) n) [
-      | inl old ↦ inl ((place_in-range v n old.0).1, range-same k v (sym e ∙ old.1))
+      | inl old ↦ inl ((place_in-range v n old.0).1, range_with_len_same 0 k v (sym e ∙ old.1))
       | inr new ↦
           let pushed : range_with_len 0 v ++ n ∷ [] ≡ range_with_len 0 k = sym new.1 ∙ e in
           let long : k ≡ v + 1 = omega (arith, ap length pushed, length-append (range_with_len 0 v) (n ∷ []), length-range_with_len 0 v, length-range_with_len 0 k) in
-          let at : n ≡ v = sym (get_or_push (range_with_len 0 v) n 0 v (length-range_with_len 0 v)) ∙ ap (λ l. get_or l v 0) pushed ∙ at_range k v 0 (omega (arith, long)) in
+          let at : n ≡ v = sym (get_or_push (range_with_len 0 v) n 0 v (length-range_with_len 0 v)) ∙ ap (λ l. get_or l v 0) pushed ∙ get_or-range k v 0 (omega (arith, long)) in
           inr (at, long)
     ]
 

@@ -55,7 +55,7 @@ spelt-read : (clauses : Bool) (size : ℕ) (stop : Stop) (rest : List ℕ) → F
 spelt-read clauses size stop rest follows scan t readable =
     let (left, e) = pattern-spent t readable.pattern in
     let out = spelled_out clauses size stop t in
-    (left, (spent-takes t 1000 whole left e).few (omega arith), out.alone 1000 whole left e (omega arith) readable.integers (readable_names t readable) rest [] follows (λ known. tt) scan)
+    (left, (spent-takes t 1000 whole left e).few (omega arith), out.alone 1000 whole left e (omega arith) readable.pattern.template.fits.integers (readable_names t readable) rest [] follows (λ known. tt) scan)
   where
     readable_names : (t : Tree) → IsReadable t → has_read_names t ≡ true
     readable_names t r = r.names

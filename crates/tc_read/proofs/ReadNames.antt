@@ -1,24 +1,21 @@
 use Rattle.std.proofs.Common.{◌≡◌, ℕ, ◌-◌, ◌≤◌, Bool, true, false, ◌&&◌, ◌==◌, if◌then◌else◌, List, [], ◌∷◌, length, Option, Some, None, refl, ◌∙◌, ap, subst, arith, ◌⊎◌, inl, inr, nat_lt, MatchOption}
+use Rattle.tc_term.specs.Bytes.{is_word, is_name_byte, is_name_start}
 use Rattle.std.specs.Prelude.{codes, bytes_eq}
 use Rattle.std.specs.List.{list_all, AllByRecursion}
 use Rattle.std.proofs.lemmas.Bool.Decides.{nat_tests}
 use Rattle.tc_term.specs.Tree.{Tree, Fits}
-use Rattle.tc_term.specs.Tokens.{is_lower, is_word, Sign, EqColonEq, EqBackEq, EqLess, GreaterEq, BackEq, SlashSlash, Equal, Less, Greater, Plus, Minus, Star, Ask, sign_bytes, Lexeme, Word, Variable, Number, Quoted, Symbol, Punctuation, Mark, Inside, closed, doubled, escaped, plain, escape, Spells, Longest}
+use Rattle.tc_term.specs.Tokens.{Sign, EqColonEq, EqBackEq, EqLess, GreaterEq, BackEq, SlashSlash, Equal, Less, Greater, Plus, Minus, Star, Ask, sign_bytes, Lexeme, Word, Variable, Number, Quoted, Symbol, Punctuation, Mark, Inside, closed, doubled, escaped, plain, escape, Spells, Longest}
 use Rattle.tc_term.specs.Tokens as spelled
 use Rattle.tc_term.specs.Layouts.{At, Stop, TextEnd, ClauseEnd, NoToken, Scan, at_text_end, at_clause_end, at_no_token, token}
 use Rattle.tc_term.specs.Grammar.{Token, Operator, infix_of, operator_of, functor_of, xfx, yfx, Derives, operand, prefix, infix_term, Operand, variable, integer, negative, atom, compound, no_items, items, group, Arguments, last_argument, more_arguments, Items, last_item, list_tail, more_items, IsTerm}
 use Rattle.tc_term.specs.Grammar as grammar
 use Rattle.tc_term.specs.Faults as faults
 use Rattle.tc_term.specs.Faults.{Reading, reading, trees, terms, numbered, all_known, known_behind, token_of, mark_of, first_wide, most_open, first_place, place_behind, WideInt, TooMany, TooBig, Found, When, Parsed, Unended, Stopped}
-use Rattle.tc_term.specs.NameBytes.{is_name_byte, has_read_names, have_read_names}
+use Rattle.tc_term.specs.NameBytes.{has_read_names, have_read_names}
+use Rattle.std.proofs.lemmas.Bool.{and_from}
+use Rattle.std.proofs.lemmas.Option.{same_Some}
 
 -- The names of a term that is read.
-
-and_true : (a b : Bool) → a ≡ true → b ≡ true → (a && b) ≡ true
-and_true a b e f = ap (λ x. x && b) e ∙ f
-
-some : {A : Type 0} {a b : A} → Some a ≡ Some b → a ≡ b
-some e = cc
 
 abbrev IsRead : List ℕ → Type 0
 IsRead name = list_all is_name_byte name ≡ true
@@ -62,7 +59,7 @@ operator_named Star = refl
 operator_named Ask = refl
 
 along : (op o : Operator) → IsRead o.name → Some o ≡ Some op → IsRead op.name
-along op o h e = subst (λ (q : Operator). IsRead q.name) (some e) h
+along op o h e = subst (λ (q : Operator). IsRead q.name) (same_Some _ _ e) h
 
 word_operator_named : (b c : Bool) (op : Operator) → (if b then Some (xfx (codes "is") 700) else (if c then Some (yfx (codes "mod") 400) else None)) ≡ Some op → IsRead op.name
 word_operator_named true c op e = along op (xfx (codes "is") 700) refl e
@@ -83,8 +80,8 @@ infix_named grammar.CloseList op e = cc
 infix_named grammar.Bar op e = cc
 
 functor_named : (t : Token) (name : List ℕ) → IsNamed t → functor_of t ≡ Some name → IsRead name
-functor_named (grammar.Name b n) name h e = subst IsRead (some e) h
-functor_named (grammar.Symbol s) name h e = subst IsRead (some e) (sign_named s)
+functor_named (grammar.Name b n) name h e = subst IsRead (same_Some _ _ e) h
+functor_named (grammar.Symbol s) name h e = subst IsRead (same_Some _ _ e) (sign_named s)
 functor_named (grammar.Variable n) name h e = cc
 functor_named (grammar.Integer g n p) name h e = cc
 functor_named (grammar.Open g) name h e = cc
@@ -110,7 +107,7 @@ mutual
   named (infix_term {token = t} {a = a} {b = b} op is le l r) h =
       let n = named l h in
       let m = named r n.left.1 in
-      record { names = and_true (list_all is_name_byte op.name) (has_read_names a.term && has_read_names b.term) (infix_named t op is) (and_true (has_read_names a.term) (has_read_names b.term) n.names m.names); left = m.left }
+      record { names = and_from (list_all is_name_byte op.name) (has_read_names a.term && has_read_names b.term) (infix_named t op is) (and_from (has_read_names a.term) (has_read_names b.term) n.names m.names); left = m.left }
 
   named_operand : {ts rest : List Token} {r : Reading} → Operand reading ts r rest → AreNamed ts → Named r rest
   named_operand variable h = record { names = refl; left = h.1 }
@@ -119,7 +116,7 @@ mutual
   named_operand (atom c) h = record { names = h.0; left = h.1 }
   named_operand (compound {token = t} {name = name} {a = a} {more = more} is x) h =
       let n = named_arguments x h.1.1 in
-      record { names = and_true (list_all is_name_byte name) (have_read_names (trees a.term (terms more))) (functor_named t name h.0 is) n.names; left = n.left }
+      record { names = and_from (list_all is_name_byte name) (have_read_names (trees a.term (terms more))) (functor_named t name h.0 is) n.names; left = n.left }
   named_operand no_items h = record { names = refl; left = h.1.1 }
   named_operand (items x) h = named_items x h.1
   named_operand (group d) h = let n = named d h.1 in record { names = n.names; left = n.left.1 }
@@ -129,25 +126,25 @@ mutual
   named_arguments (more_arguments {a = a} {b = b} {more = more} d x) h =
       let n = named d h in
       let m = named_arguments x n.left.1 in
-      record { names = and_true (has_read_names a.term) (have_read_names (trees b.term (terms more))) n.names m.names; left = m.left }
+      record { names = and_from (has_read_names a.term) (have_read_names (trees b.term (terms more))) n.names m.names; left = m.left }
 
   named_items : {ts rest : List Token} {r : Reading} → Items reading ts r rest → AreNamed ts → Named r rest
-  named_items (last_item {a = a} d) h = let n = named d h in record { names = and_true (has_read_names a.term) true n.names refl; left = n.left.1 }
+  named_items (last_item {a = a} d) h = let n = named d h in record { names = and_from (has_read_names a.term) true n.names refl; left = n.left.1 }
   named_items (list_tail {a = a} {b = b} d e) h =
       let n = named d h in
       let m = named e n.left.1 in
-      record { names = and_true (has_read_names a.term) (has_read_names b.term) n.names m.names; left = m.left.1 }
+      record { names = and_from (has_read_names a.term) (has_read_names b.term) n.names m.names; left = m.left.1 }
   named_items (more_items {a = a} {b = b} d x) h =
       let n = named d h in
       let m = named_items x n.left.1 in
-      record { names = and_true (has_read_names a.term) (has_read_names b.term) n.names m.names; left = m.left }
+      record { names = and_from (has_read_names a.term) (has_read_names b.term) n.names m.names; left = m.left }
 
 -- The names of tokens.
 
 word_byte : (b : ℕ) → is_word b ≡ true → is_name_byte b ≡ true
 word_byte b h = grind (arith, nat_tests)
 
-lower_byte : (b : ℕ) → is_lower b ≡ true → is_name_byte b ≡ true
+lower_byte : (b : ℕ) → is_name_start b ≡ true → is_name_byte b ≡ true
 lower_byte b h = grind (arith, nat_tests)
 
 high_byte : (b : ℕ) → 32 ≤ b → is_name_byte b ≡ true
@@ -155,17 +152,17 @@ high_byte b h = grind (arith, nat_tests)
 
 words_named : (s : List ℕ) → AllByRecursion (λ c. is_word c ≡ true) s → IsRead s
 words_named [] h = refl
-words_named (b ∷ s) h = and_true (is_name_byte b) (list_all is_name_byte s) (word_byte b h.0) (words_named s h.1)
+words_named (b ∷ s) h = and_from (is_name_byte b) (list_all is_name_byte s) (word_byte b h.0) (words_named s h.1)
 
-word_named : (s : List ℕ) → spelled.IsWordFrom is_lower s → IsRead s
+word_named : (s : List ℕ) → spelled.IsWordFrom is_name_start s → IsRead s
 word_named [] h = absurd h
-word_named (b ∷ s) h = and_true (is_name_byte b) (list_all is_name_byte s) (lower_byte b h.0) (words_named s h.1)
+word_named (b ∷ s) h = and_from (is_name_byte b) (list_all is_name_byte s) (lower_byte b h.0) (words_named s h.1)
 
 escape_byte : (b c : ℕ) → escape b ≡ Some c → is_name_byte c ≡ true
 escape_byte b c e = by (b == 39) (b == 92) (b == 110) (b == 116) e
   where
     at : (n : ℕ) → Some n ≡ Some c → is_name_byte n ≡ true → is_name_byte c ≡ true
-    at n f h = subst (λ x. is_name_byte x ≡ true) (some f) h
+    at n f h = subst (λ x. is_name_byte x ≡ true) (same_Some _ _ f) h
 
     by : (p q r s : Bool) → (if p then Some 39 else (if q then Some 92 else (if r then Some 10 else (if s then Some 9 else None)))) ≡ Some c → is_name_byte c ≡ true
     by true q r s e = at 39 e refl
@@ -177,8 +174,8 @@ escape_byte b c e = by (b == 39) (b == 92) (b == 110) (b == 116) e
 inside_named : {s m : List ℕ} → Inside s m → IsRead m
 inside_named closed = refl
 inside_named (doubled {m = m} x) = inside_named x
-inside_named (escaped {b = b} {c = c} {m = m} e x) = and_true (is_name_byte c) (list_all is_name_byte m) (escape_byte b c e) (inside_named x)
-inside_named (plain {b = b} {m = m} h q w x) = and_true (is_name_byte b) (list_all is_name_byte m) (high_byte b h) (inside_named x)
+inside_named (escaped {b = b} {c = c} {m = m} e x) = and_from (is_name_byte c) (list_all is_name_byte m) (escape_byte b c e) (inside_named x)
+inside_named (plain {b = b} {m = m} h q w x) = and_from (is_name_byte b) (list_all is_name_byte m) (high_byte b h) (inside_named x)
 
 quoted_named : (s m : List ℕ) → spelled.IsQuoted s m → IsRead m
 quoted_named [] m h = absurd h

@@ -1,8 +1,10 @@
 -- The tokens that the parts of canonical text are.
 use Rattle.std.proofs.Common.{◌≡◌, ◌≢◌, ◌∙◌, ◌<◌, ◌≤◌, ◌+◌, ◌-◌, ◌*◌, ◌^◌, ◌==◌, ◌||◌, ℕ, suc, Bool, true, false, cond, not, nat_lt, nat_le, if◌then◌else◌, List, [], ◌∷◌, ◌++◌, codes, length, take, drop, get_or, map, Some, None, refl, sym, ap, inl, inr, subst, append_assoc, length-append, arith}
+use Rattle.tc_term.specs.Bytes.{is_word, is_name_byte}
+use Rattle.std.specs.Char.{is_ascii_digit}
 use Rattle.std.proofs.Math.Seq.{take-append_seam, drop-append_seam}
 use Rattle.std.proofs.lemmas.Bool.Decides.{eqb_tells, nat_tests}
-use Rattle.std.proofs.lemmas.Bool.{cases_lt, false_from_ne_true}
+use Rattle.std.proofs.lemmas.Bool.{cases_lt, false_from_ne_true, ne_eqb}
 use Rattle.std.proofs.lemmas.Fmt.{decimal_is_IsNumeral, decimal_injective}
 use Rattle.std.proofs.lemmas.Slice.Eq.{bytes_eq-Decides}
 use Rattle.std.proofs.lemmas.List.{length-map, map-append}
@@ -19,18 +21,19 @@ use Rattle.tc_term.proofs.Places.{Stands-range, place_in-range, place_in_cases}
 use Rattle.tc_term.specs.Faults.{is_anonymous, known_after, known_by, learned, number_by, number_of}
 use Rattle.tc_term.specs.Text as text
 use Rattle.tc_term.specs.Text.{is_name, name_text, quoted, quoted_byte}
-use Rattle.tc_term.specs.Tokens.{Lexeme, Word, Number, Quoted, Symbol, Punctuation, Minus, Mark, decimal_from, escape, is_digit, is_lower, is_word, mark_byte}
+use Rattle.tc_term.specs.Tokens.{Lexeme, Word, Number, Quoted, Symbol, Punctuation, Minus, Mark, decimal_from, escape, mark_byte}
 use Rattle.tc_term.specs.Tokens as spelled
 use Rattle.tc_term.specs.Variables.{place_in}
-use Rattle.tc_read.proofs.Again.{NoWord, all_words, lower_test}
-use Rattle.tc_read.proofs.Lexemes.{begins_number, begins_variable, begins_word, tails}
+use Rattle.tc_read.proofs.Again.{NoWord, all_words}
+use Rattle.tc_read.proofs.Lexemes.{begins_number, begins_variable, begins_word}
 use Rattle.tc_read.proofs.Quotes.{begins_quoted}
-use Rattle.tc_read.proofs.QuotedBytes.{Form, escaped, plain, form, test_unlike}
-use Rattle.tc_read.proofs.Ranges.{range-push}
-use Rattle.tc_read.proofs.Taken.{both_true}
+use Rattle.tc_read.proofs.QuotedBytes.{Form, escaped, plain, form}
+use Rattle.tc_lists.proofs.Ranges.{range_with_len_more}
 use Rattle.tc_read.specs.Lexing.{Begins, at_backslash, at_quote, further, or_one, quoted_end}
-use Rattle.tc_term.specs.NameBytes.{is_name_byte}
 use Rattle.tc_read.specs.Views.{unquoted, unquoted_from}
+use Rattle.tc_lists.proofs.Parts.{cons_tail}
+use Rattle.tc_lists.proofs.Bools.{and_parts}
+use Rattle.tc_lists.proofs.Runs.{split-prefix_len}
 
 -- nothing stands here that goes on a token of a term: no word byte and no quote
 abbrev pub Follows : List ℕ → Type 0
@@ -50,35 +53,28 @@ are_digits : (n : ℕ) → n < 2 ^ 64 → AreDigits (decimal n)
 unfolding AreDigits
 are_digits n small k inside = digit_at (decimal n) k (decimal_is_IsNumeral n small).0.1 inside
 
-digit_word : (b : ℕ) → IsInRange 48 57 b → (is_word b ≡ true) × (is_digit b ≡ true)
+digit_word : (b : ℕ) → IsInRange 48 57 b → (is_word b ≡ true) × (is_ascii_digit b ≡ true)
 digit_word b h = (grind (arith, nat_tests), grind (arith, nat_tests))
 
-word_no_digit : (b : ℕ) → is_word b ≡ false → is_digit b ≡ false
+word_no_digit : (b : ℕ) → is_word b ≡ false → is_ascii_digit b ≡ false
 word_no_digit b h = grind (arith, nat_tests)
 
-digits_words : (ds rest : List ℕ) → AreDigits ds → NoWord rest → (prefix_len is_word (ds ++ rest) ≡ length ds) × (prefix_len is_digit (ds ++ rest) ≡ length ds)
+digits_words : (ds rest : List ℕ) → AreDigits ds → NoWord rest → (prefix_len is_word (ds ++ rest) ≡ length ds) × (prefix_len is_ascii_digit (ds ++ rest) ≡ length ds)
 unfolding AreDigits
 digits_words [] [] are none = (refl, refl)
-digits_words [] (b ∷ s) are none = (ap (λ p. cond p (1 + prefix_len is_word s) 0) none, ap (λ p. cond p (1 + prefix_len is_digit s) 0) (word_no_digit b none))
+digits_words [] (b ∷ s) are none = (ap (λ p. cond p (1 + prefix_len is_word s) 0) none, ap (λ p. cond p (1 + prefix_len is_ascii_digit s) 0) (word_no_digit b none))
 digits_words (d ∷ ds) rest are none =
     let first = digit_word d (are 0 (omega arith)) in
     let more = digits_words ds rest (λ k inside. are (suc k) (omega (arith, inside))) none in (
       ap (λ p. cond p (1 + prefix_len is_word (ds ++ rest)) 0) first.0 ∙ ap (λ n. 1 + n) more.0 ∙ omega arith,
-      ap (λ p. cond p (1 + prefix_len is_digit (ds ++ rest)) 0) first.1 ∙ ap (λ n. 1 + n) more.1 ∙ omega arith,
+      ap (λ p. cond p (1 + prefix_len is_ascii_digit (ds ++ rest)) 0) first.1 ∙ ap (λ n. 1 + n) more.1 ∙ omega arith,
     )
-
--- a front of this length
-front-is : (p : ℕ → Bool) (xs rest : List ℕ) → prefix_len p (xs ++ rest) ≡ length xs → (take (prefix_len p (xs ++ rest)) (xs ++ rest) ≡ xs) × (drop (prefix_len p (xs ++ rest)) (xs ++ rest) ≡ rest)
-front-is p xs rest e = (
-  ap (λ n. take n (xs ++ rest)) e ∙ take-append_seam xs rest,
-  ap (λ n. drop n (xs ++ rest)) e ∙ drop-append_seam xs rest,
-)
 
 -- a variable
 pub spells_variable : (n : ℕ) (rest : List ℕ) → n < 2 ^ 64 → NoWord rest → Begins (95 ∷ decimal n ++ rest) (spelled.Variable (95 ∷ decimal n)) rest
 spells_variable n rest small none =
     let size = digits_words (decimal n) rest (are_digits n small) none in
-    let front = front-is is_word (decimal n) rest size.0 in
+    let front = split-prefix_len is_word (decimal n) rest size.0 in
     subst (λ r. Begins (95 ∷ decimal n ++ rest) (spelled.Variable (95 ∷ decimal n)) r) front.1
     (subst (λ w. Begins (95 ∷ decimal n ++ rest) (spelled.Variable (95 ∷ w)) (drop (prefix_len is_word (decimal n ++ rest)) (decimal n ++ rest))) front.0
     (begins_variable 95 (decimal n ++ rest) refl))
@@ -97,9 +93,9 @@ unfolding AreDigits
 spells_digits n [] rest some are value none = absurd (omega (arith, some))
 spells_digits n (d ∷ ds) rest some are value none =
     let size = digits_words ds rest (λ k inside. are (suc k) (omega (arith, inside))) none in
-    let front = front-is is_digit ds rest size.1 in
+    let front = split-prefix_len is_ascii_digit ds rest size.1 in
     subst (λ r. Begins (d ∷ ds ++ rest) (Number n) r) front.1
-    (subst (λ m. Begins (d ∷ ds ++ rest) (Number m) (drop (prefix_len is_digit (ds ++ rest)) (ds ++ rest)))
+    (subst (λ m. Begins (d ∷ ds ++ rest) (Number m) (drop (prefix_len is_ascii_digit (ds ++ rest)) (ds ++ rest)))
     (ap (λ w. decimal_from 0 (d ∷ w)) front.0 ∙ sym value)
     (begins_number d (ds ++ rest) (digit_word d (are 0 (omega arith))).1))
 
@@ -112,11 +108,11 @@ spells_number n rest small none =
 pub spells_word : (name rest : List ℕ) → is_name name ≡ true → NoWord rest → Begins (name ++ rest) (Word name) rest
 spells_word [] rest e none = absurd (cc)
 spells_word (b ∷ s) rest e none =
-    let both = both_true (is_ascii_lowercase b) (list_all text.is_word s) e in
-    let front = front-is is_word s rest (all_words s rest both.1 none) in
+    let both = and_parts (is_ascii_lowercase b) (list_all is_word s) e in
+    let front = split-prefix_len is_word s rest (all_words s rest both.1 none) in
     subst (λ r. Begins (b ∷ s ++ rest) (Word (b ∷ s)) r) front.1
     (subst (λ w. Begins (b ∷ s ++ rest) (Word (b ∷ w)) (drop (prefix_len is_word (s ++ rest)) (s ++ rest))) front.0
-    (begins_word b (s ++ rest) (lower_test b both.0)))
+    (begins_word b (s ++ rest) both.0))
 
 -- a quoted name
 
@@ -130,19 +126,19 @@ end-byte b s e = by (form b)
     by (escaped c q m k) = ap (λ x. quoted_end (x ++ s)) q ∙ ap (λ t. if t then further 2 (quoted_end s) else None) k
         ∙ ap (λ x. further (length x) (quoted_end s)) (sym q)
     by (plain q n w x y) = ap (λ x. quoted_end (x ++ s)) q
-        ∙ ap (λ t. if t then at_quote s else (if b == 92 then at_backslash s else (if nat_le 32 b then further 1 (quoted_end s) else None))) (test_unlike b 39 n)
-        ∙ ap (λ t. if t then at_backslash s else (if nat_le 32 b then further 1 (quoted_end s) else None)) (test_unlike b 92 w)
+        ∙ ap (λ t. if t then at_quote s else (if b == 92 then at_backslash s else (if nat_le 32 b then further 1 (quoted_end s) else None))) (ne_eqb b 39 n)
+        ∙ ap (λ t. if t then at_backslash s else (if nat_le 32 b then further 1 (quoted_end s) else None)) (ne_eqb b 92 w)
         ∙ ap (λ t. if t then further 1 (quoted_end s) else None) (plain_large b e x y)
         ∙ ap (λ z. further (length z) (quoted_end s)) (sym q)
 
 closing-end : (rest : List ℕ) → Follows rest → quoted_end (39 ∷ rest) ≡ Some 1
 closing-end [] follows = refl
-closing-end (b ∷ s) follows = ap (λ t. if t then or_one (quoted_end s) else Some 1) (test_unlike b 39 follows.1)
+closing-end (b ∷ s) follows = ap (λ t. if t then or_one (quoted_end s) else Some 1) (ne_eqb b 39 follows.1)
 
 name-end : (name rest : List ℕ) → list_all is_name_byte name ≡ true → Follows rest → quoted_end (flat_map quoted_byte name ++ 39 ∷ rest) ≡ Some (length (flat_map quoted_byte name) + 1)
 name-end [] rest all follows = closing-end rest follows
 name-end (b ∷ name) rest all follows =
-    let both = both_true (is_name_byte b) (list_all is_name_byte name) all in
+    let both = and_parts (is_name_byte b) (list_all is_name_byte name) all in
     let inside = flat_map quoted_byte name in
     let size : length (quoted_byte b) + (length inside + 1) ≡ length (quoted_byte b ++ inside) + 1 = omega (arith, length-append (quoted_byte b) inside) in
     ap quoted_end (append_assoc (quoted_byte b) inside (39 ∷ rest)) ∙ end-byte b (inside ++ 39 ∷ rest) both.0
@@ -154,8 +150,8 @@ unquoted-byte b s = by (form b)
     by : Form b → unquoted (quoted_byte b ++ s) ≡ b ∷ unquoted s
     by (escaped c q m k) = ap (λ x. unquoted (x ++ s)) q ∙ ap (λ x. x ∷ unquoted s) m
     by (plain q n w x y) = ap (λ x. unquoted (x ++ s)) q
-        ∙ ap (λ t. if t || b == 92 then unquoted_from true s else b ∷ unquoted_from false s) (test_unlike b 39 n)
-        ∙ ap (λ t. if false || t then unquoted_from true s else b ∷ unquoted_from false s) (test_unlike b 92 w)
+        ∙ ap (λ t. if t || b == 92 then unquoted_from true s else b ∷ unquoted_from false s) (ne_eqb b 39 n)
+        ∙ ap (λ t. if false || t then unquoted_from true s else b ∷ unquoted_from false s) (ne_eqb b 92 w)
 
 unquoted-name : (name : List ℕ) → unquoted (flat_map quoted_byte name) ≡ name
 unquoted-name [] = refl
@@ -202,7 +198,7 @@ names-eq m n small small' =
       | inl same ↦ (bytes_eq-Decides (variable_name n) (variable_name m)).1 (ap variable_name (sym same.1)) ∙ sym same.0
       | inr other ↦
           false_from_ne_true (bytes_eq (variable_name n) (variable_name m)) (λ e.
-          other.1 (sym (decimal_injective n m small' small (tails ((bytes_eq-Decides (variable_name n) (variable_name m)).0 e)))))
+          other.1 (sym (decimal_injective n m small' small (cons_tail ((bytes_eq-Decides (variable_name n) (variable_name m)).0 e)))))
           ∙ sym other.0
     ]
 
@@ -214,7 +210,7 @@ position-place (m ∷ ms) n small below =
     ap (λ b. cond (not b) (1 + position_or_len (bytes_eq (variable_name n)) (map variable_name ms)) 0) (names-eq m n (small 0 0 (omega arith)) below)
     ∙ elim (place_in_cases m ms n) [
       | inl here ↦ ap (λ b. cond (not b) (1 + position_or_len (bytes_eq (variable_name n)) (map variable_name ms)) 0) (equal m n here.0) ∙ sym here.1
-      | inr behind ↦ ap (λ b. cond (not b) (1 + position_or_len (bytes_eq (variable_name n)) (map variable_name ms)) 0) (test_unlike m n behind.0)
+      | inr behind ↦ ap (λ b. cond (not b) (1 + position_or_len (bytes_eq (variable_name n)) (map variable_name ms)) 0) (ne_eqb m n behind.0)
           ∙ omega (arith, more, behind.1)
     ]
   where
@@ -256,7 +252,7 @@ module _ (k n : ℕ) (few : k ≤ 256) (below : n < 2 ^ 64) where
   no_anonymous : is_anonymous (variable_name n) ≡ false
   no_anonymous =
       false_from_ne_true (is_anonymous (variable_name n)) (λ e.
-      let none : decimal n ≡ [] = tails ((bytes_eq-Decides (variable_name n) (codes "_")).0 e) in
+      let none : decimal n ≡ [] = cons_tail ((bytes_eq-Decides (variable_name n) (codes "_")).0 e) in
       omega (arith, (decimal_is_IsNumeral n below).0.0, ap length none))
 
   pub number-old : n < k → number_of (variable_names k) (variable_name n) ≡ n
@@ -280,7 +276,7 @@ module _ (k n : ℕ) (few : k ≤ 256) (below : n < 2 ^ 64) where
       ∙ ap (known_by (variable_names k) (variable_name n)) (position-new same)
       ∙ ap (λ b. if b then variable_names k ++ variable_name n ∷ [] else variable_names k) (within (length (variable_names k)) (omega (arith, few, length-variable_names)))
       ∙ ap (λ j. variable_names j ++ variable_name n ∷ []) (sym same)
-      ∙ sym (map-append variable_name (range_with_len 0 n) (n ∷ [])) ∙ ap (map variable_name) (range-push n)
+      ∙ sym (map-append variable_name (range_with_len 0 n) (n ∷ [])) ∙ ap (map variable_name) (sym (range_with_len_more n))
     where
       within : (i : ℕ) → i ≤ 256 → nat_le i 256 ≡ true
       within i h = grind (arith, nat_tests)

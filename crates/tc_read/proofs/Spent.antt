@@ -6,12 +6,13 @@ use Rattle.std.specs.List.{range_with_len}
 use Rattle.std.proofs.lemmas.List.FromFn.{length-range_with_len}
 use mathlib.Core.List.{IsPrefix}
 use Rattle.tc_lists.proofs.Prefixes.{length-IsPrefix}
-use Rattle.tc_lists.proofs.Options.{some_same}
-use Rattle.tc_term.specs.Tree.{Tree, Variable, Atomic, Number, Compound, Trees, Last, More, nodes, nodes_of_all, depth, depth_of_all, name_bytes, name_bytes_of_all}
+use Rattle.tc_term.specs.Tree.{HasIntegers, Tree, Variable, Atomic, Number, Compound, Trees, Last, More, nodes, nodes_of_all, depth, depth_of_all, name_bytes, name_bytes_of_all}
 use Rattle.tc_term.specs.Variables.{variables_after, variables_after_all, variables, IsPattern}
-use Rattle.tc_read.proofs.Ranges.{IsPrefix-variables_after_all, range-front, with_number-new, with_number-old, with_number-range}
+use Rattle.tc_read.proofs.Ranges.{IsPrefix-variables_after_all, with_number-new, with_number-old, with_number-range}
 use Rattle.tc_read.specs.Budget.{numbered, paid, spent, spent_all, then_in, whole}
 use Rattle.tc_read.specs.declared.room.Room.{Room}
+use Rattle.std.proofs.lemmas.Option.{same_Some}
+use Rattle.tc_lists.proofs.Ranges.{IsPrefix-range}
 
 -- the room behind a node
 pub record Paid (size : ℕ) (room left : Room) : Type 0 where
@@ -31,7 +32,7 @@ paid-some size room left e = by (nat_eq room.nodes 0) (nat_lt room.name_bytes si
     by false false i j = record {
       some = grind (arith, nat_tests);
       enough = grind (arith, nat_tests);
-      is = some_same next left (sym (ap (λ b. if b || nat_lt room.name_bytes size then None else Some next) i ∙ ap (λ b. if false || b then None else Some next) j) ∙ e);
+      is = same_Some next left (sym (ap (λ b. if b || nat_lt room.name_bytes size then None else Some next) i ∙ ap (λ b. if false || b then None else Some next) j) ∙ e);
     }
 
 pub some-paid : (size : ℕ) (room : Room) → 1 ≤ room.nodes → size ≤ room.name_bytes →
@@ -60,9 +61,9 @@ numbered-some n room left e = by (nat_le 256 n) (nat_lt room.variables n) (nat_l
     by true q r i j k = let none : None ≡ Some left = sym (ap (λ b. first b (nat_lt room.variables n) (nat_lt n room.variables)) i) ∙ e in absurd (cc)
     by false true r i j k = let none : None ≡ Some left = sym (ap (λ b. first b (nat_lt room.variables n) (nat_lt n room.variables)) i ∙ ap (λ b. first false b (nat_lt n room.variables)) j) ∙ e in absurd (cc)
     by false false true i j k = old (grind (arith, nat_tests)) (grind (arith, nat_tests))
-        (some_same room left (sym (ap (λ b. first b (nat_lt room.variables n) (nat_lt n room.variables)) i ∙ ap (λ b. first false b (nat_lt n room.variables)) j ∙ ap (λ b. first false false b) k) ∙ e))
+        (same_Some room left (sym (ap (λ b. first b (nat_lt room.variables n) (nat_lt n room.variables)) i ∙ ap (λ b. first false b (nat_lt n room.variables)) j ∙ ap (λ b. first false false b) k) ∙ e))
     by false false false i j k = new (grind (arith, nat_tests)) (grind (arith, nat_tests))
-        (some_same next left (sym (ap (λ b. first b (nat_lt room.variables n) (nat_lt n room.variables)) i ∙ ap (λ b. first false b (nat_lt n room.variables)) j ∙ ap (λ b. first false false b) k) ∙ e))
+        (same_Some next left (sym (ap (λ b. first b (nat_lt room.variables n) (nat_lt n room.variables)) i ∙ ap (λ b. first false b (nat_lt n room.variables)) j ∙ ap (λ b. first false false b) k) ∙ e))
 
 pub numbered-few : (n : ℕ) (room left : Room) → numbered n room ≡ Some left → n ≤ 255
 numbered-few n room left e = by (numbered-some n room left e)
@@ -224,7 +225,7 @@ mutual
   room-spent_all (More t ts) d room k h =
       let seen = variables_after (range_with_len 0 room.variables) t in
       let front = subst (IsPrefix seen) h.variables (IsPrefix-variables_after_all ts seen) in
-      let numbered_so_far : seen ≡ range_with_len 0 (length seen) = range-front seen k front in
+      let numbered_so_far : seen ≡ range_with_len 0 (length seen) = IsPrefix-range seen k front in
       let some : length seen ≤ k = omega (arith, length-IsPrefix seen (range_with_len 0 k) front, length-range_with_len 0 k) in
       let first = room-spent t d room (length seen) (record {
         nodes = omega (arith, h.nodes);
@@ -255,13 +256,13 @@ pattern-spent t pattern =
       few = pattern.template.few;
     })
 
-pub spent-pattern : (t : Tree) (d : ℕ) (left : Room) → d ≤ 1000 → spent d whole t ≡ Some left → IsPattern t
-spent-pattern t d left deep e =
+pub spent-pattern : (t : Tree) (d : ℕ) (left : Room) → d ≤ 1000 → spent d whole t ≡ Some left → HasIntegers t → IsPattern t
+spent-pattern t d left deep e integers =
     let taken = spent-takes t d whole left e in
     let count : length (variables t) ≡ left.variables = ap length taken.variables ∙ length-range_with_len 0 left.variables in
     record {
       template = record {
-        fits = record { nodes = omega (arith, taken.nodes); depth = omega (arith, taken.depth, deep); name_bytes = omega (arith, taken.name_bytes) };
+        fits = record { nodes = omega (arith, taken.nodes); depth = omega (arith, taken.depth, deep); name_bytes = omega (arith, taken.name_bytes); integers = integers };
         few = omega (arith, count, taken.few (omega arith));
       };
       numbered = taken.variables ∙ ap (range_with_len 0) (sym count);

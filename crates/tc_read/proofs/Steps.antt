@@ -3,7 +3,9 @@ use Rattle.std.proofs.lemmas.Bool.Decides.{nat_tests}
 use Rattle.tc_term.specs.Tokens.{Sign, Minus, sign_bytes}
 use Rattle.tc_term.specs.Grammar.{Token, Variable, Integer, Name, Symbol, Open, Close, OpenList, CloseList, Comma, Bar, Operator, infix_of, NotCalled, Meaning, nil, cell, between, Derives, Arguments, last_argument, more_arguments, Items, last_item, list_tail, more_items}
 use Rattle.tc_read.specs.Machine.{Frame, Between, Negated, Group, Args, Elements, Tail, limit, Standing, Awaits, Holds, Ends, Move, Refused, Goes_to, turned, applied, cells, named, minus, unbracketed, signed, listed, close_group, close_argument, close_element, close_tail, close_all, close, fitting_operator, go_on_by, go_on, start}
-use Rattle.tc_read.proofs.Grammar.{IsSound, table, apart, some, Goes, stop, on, Wants, Has, MoreArguments, no_more, one_more, MoreItems, no_more_items, tail_only, one_more_item, InBetween, InNegated, InGroup, InArgs, InElements, InTail, none_empty, none_close, none_close_list, none_comma, none_bar, none_sign, at_variable, at_integer, at_atom, at_negative, at_prefix, at_compound, at_group, at_no_items, at_list, at_nothing, at_infix, at_end}
+use Rattle.tc_read.proofs.Grammar.{IsSound, table, apart, Goes, stop, on, Wants, Has, MoreArguments, no_more, one_more, MoreItems, no_more_items, tail_only, one_more_item, InBetween, InNegated, InGroup, InArgs, InElements, InTail, none_empty, none_close, none_close_list, none_comma, none_bar, none_sign, at_variable, at_integer, at_atom, at_negative, at_prefix, at_compound, at_group, at_no_items, at_list, at_nothing, at_infix, at_end}
+use Rattle.std.proofs.lemmas.Option.{same_Some}
+use Rattle.tc_lists.proofs.Parts.{cons_head}
 
 fits_left : (a b c d : ℕ) → (nat_le a b && nat_le c d) ≡ true → a ≤ b
 fits_left a b c d e = grind (arith, nat_tests)
@@ -16,9 +18,6 @@ fits_not a b c d e h k = grind (arith, nat_tests)
 
 not_fits : (pa : ℕ) (op o : Operator) (p : ℕ) → (nat_le pa op.left && nat_le op.priority p) ≡ false → op ≡ o → pa ≤ o.left → o.priority ≤ p → ⊥
 not_fits pa op o p e same h k = fits_not pa o.left o.priority p (subst (λ (q : Operator). (nat_le pa q.left && nat_le q.priority p) ≡ false) same e) h k
-
-first : {A : Type 0} {a b : A} {xs ys : List A} → a ∷ xs ≡ b ∷ ys → a ≡ b
-first e = cc
 
 -- What stands open, and what the tokens that are left make of it.
 
@@ -81,12 +80,12 @@ module _ {A : Type 0} (m : Meaning A) where
 
   no_argument : {x : List A} {ts mid : List Token} (token : Token) (op : Operator) → infix_of token ≡ Some op → op.priority ≤ 999 → MoreArguments m (token ∷ ts) x mid → ⊥
   no_argument token op is le no_more = cc
-  no_argument token op is le (one_more x) = let e : op.priority ≡ 1000 = ap (λ (o : Operator). o.priority) (sym (some is)) in omega arith
+  no_argument token op is le (one_more x) = let e : op.priority ≡ 1000 = ap (λ (o : Operator). o.priority) (sym (same_Some _ _ is)) in omega arith
 
   no_item : {x : A} {ts mid : List Token} (token : Token) (op : Operator) → infix_of token ≡ Some op → op.priority ≤ 999 → MoreItems m (token ∷ ts) x mid → ⊥
   no_item token op is le no_more_items = cc
   no_item token op is le (tail_only x) = cc
-  no_item token op is le (one_more_item x) = let e : op.priority ≡ 1000 = ap (λ (o : Operator). o.priority) (sym (some is)) in omega arith
+  no_item token op is le (one_more_item x) = let e : op.priority ≡ 1000 = ap (λ (o : Operator). o.priority) (sym (same_Some _ _ is)) in omega arith
 
   -- where an operator fits into the open place, no term ends before it
   not_back : (t : A) (s : List (Frame A)) (b : A) (token : Token) (ts : List Token) (op : Operator) → Sound s → infix_of token ≡ Some op → op.priority ≤ limit s → Returns t s b (token ∷ ts) → ⊥
@@ -95,7 +94,7 @@ module _ {A : Type 0} (m : Meaning A) where
     where
       ends : {c : A} {after : List Token} → Goes m (limit s) (between m o a b) o.priority (token ∷ ts) c after → Returns t s c after → ((c : A) → Returns t s c (token ∷ ts) → ⊥) → ⊥
       ends (stop k) back ih = ih _ back
-      ends (on p is' le' d g) back ih = apart op o (table token op is) h.0 le (subst (λ (q : Operator). o.priority ≤ q.left) (some (sym is' ∙ is)) le')
+      ends (on p is' le' d g) back ih = apart op o (table token op is) h.0 le (subst (λ (q : Operator). o.priority ≤ q.left) (same_Some _ _ (sym is' ∙ is)) le')
   not_back t (Negated ∷ s) b token ts op h is le r = let k = table token op is in omega (arith, k.low, k.high, k.left)
   not_back t (Group ∷ s) b token ts op h is le r = closed token is r.1
     where
@@ -290,11 +289,11 @@ module _ {A : Type 0} (m : Meaning A) where
         shorter = omega arith;
         same = λ t. at_infix m (limit s) (Returns t s) token op a pa ts is left fits (λ r. not_back t s a token ts op h is fits r);
       }
-  by_test s h a pa token ts op placed is false e = closes_at s h a pa (token ∷ ts) placed (λ token' after op' same is' left fits. not_fits pa op op' (limit s) e (some (sym is ∙ ap infix_of (first same) ∙ is')) left fits)
+  by_test s h a pa token ts op placed is false e = closes_at s h a pa (token ∷ ts) placed (λ token' after op' same is' left fits. not_fits pa op op' (limit s) e (same_Some _ _ (sym is ∙ ap infix_of (cons_head same) ∙ is')) left fits)
 
   by_operator : (s : List (Frame A)) → Sound s → (a : A) (pa : ℕ) (token : Token) (ts : List Token) → pa ≤ limit s → (o : Option Operator) → infix_of token ≡ o
       → Moves s (Holds a pa) (token ∷ ts) (go_on_by m (fitting_operator (limit s) pa o) s a (token ∷ ts))
-  by_operator s h a pa token ts placed None is = closes_at s h a pa (token ∷ ts) placed (λ token' after op' same is' left fits. let e = sym is ∙ ap infix_of (first same) ∙ is' in cc)
+  by_operator s h a pa token ts placed None is = closes_at s h a pa (token ∷ ts) placed (λ token' after op' same is' left fits. let e = sym is ∙ ap infix_of (cons_head same) ∙ is' in cc)
   by_operator s h a pa token ts placed (Some op) is = by_test s h a pa token ts op placed is (nat_le pa op.left && nat_le op.priority (limit s)) refl
 
   pub goes : (s : List (Frame A)) → Sound s → (a : A) (pa : ℕ) (ts : List Token) → pa ≤ limit s → Moves s (Holds a pa) ts (go_on m s a pa ts)

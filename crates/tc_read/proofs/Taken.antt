@@ -1,30 +1,27 @@
 -- What is read at the front stands there, and what is left of the room is what its nodes leave.
 use Rattle.std.proofs.Common.{◌≡◌, ◌∙◌, ℕ, zero, suc, ℤ, Bool, true, false, ◌==◌, ◌&&◌, nat_lt, if◌then◌else◌, List, [], ◌∷◌, ◌++◌, codes, length, Some, None, refl, sym, ap, append_assoc, arith, min, take-append-drop, subst}
+use Rattle.tc_term.specs.Bytes.{is_word, is_name_start}
+use Rattle.tc_term.specs.Tree.{HasIntegers, HaveIntegers}
 use Rattle.std.specs.declared.option.Option.{Option}
 use Rattle.std.specs.List.{prefix_len}
 use Rattle.tc_lists.proofs.Decimals.{IsNumberRead, IsIntegerRead, number_at-read, integer_at-read}
 use Rattle.tc_lists.specs.Decimals.{integer_at, number_at}
 use Rattle.tc_term.specs.Text.{Place, Alone, Behind, before_element, empty_list, is_name, is_nil, name_text, quoted, text_in, texts_of}
-use Rattle.tc_term.specs.Tokens.{is_lower, is_word}
 use Rattle.tc_term.specs.Tree.{Tree, Variable, Atomic, Number, Compound, Trees, Last}
-use Rattle.tc_read.proofs.Plain.{is_name-word_at}
-use Rattle.tc_read.proofs.QuotedBytes.{same_test, quoted_split}
+use Rattle.tc_read.proofs.Words.{is_name-word_at}
+use Rattle.tc_read.proofs.QuotedBytes.{quoted_split}
 use Rattle.tc_read.proofs.QuotedFront.{quoted_at-takes}
 use Rattle.tc_read.proofs.Texts.{text_in-Variable, text_in-Number, text_in-nil, text_in-Atomic, text_in-cell, text_in-Compound, texts_of-Last, texts_of-More, text_in-barred}
 use Rattle.tc_read.specs.Budget.{numbered, paid, spent, spent_all, then_in, whole}
-use Rattle.tc_term.specs.Readable.{HasIntegers, HaveIntegers}
 use Rattle.tc_read.specs.Front.{Read, argument, arguments, atom, barred, before, called, cell, cell_of, compound, element, head, is_barred, is_cell, leaf, list, name_at, named, named_or_number, nil, node, number, quoted_at, reads, tail, unplain, variable, word_at}
 use Rattle.tc_read.specs.declared.room.Room.{Room}
+use Rattle.std.proofs.lemmas.Bool.{eqb-true}
+use Rattle.tc_lists.proofs.Bools.{and_parts}
 
 -- both outcomes of a test
 pub if_by : {X : Type 0} (P : X → Type 0) (p : Bool) (x y : X) → (p ≡ true → P x) → (p ≡ false → P y) → P (if p then x else y)
 if_by P true x y f g = f refl
 if_by P false x y f g = g refl
-
-pub both_true : (p q : Bool) → (p && q) ≡ true → (p ≡ true) × (q ≡ true)
-both_true true true e = (refl, refl)
-both_true true false e = absurd (cc)
-both_true false q e = absurd (cc)
 
 pub record Took (d : ℕ) (place : Place) (room : Room) (bytes : List ℕ) (t : Tree) (left : Room) (rest : List ℕ) : Type 0 where
   pub text : bytes ≡ text_in place t ++ rest
@@ -97,7 +94,7 @@ unplain-took s (Some (name, rest)) e =
     (λ other.
     ap (λ x. 39 ∷ x) (quoted_at-takes s name rest e) ∙ sym (quoted_split name rest) ∙ ap (λ x. x ++ rest) (sym (quoted_text name other)))
 
-word-took : (limit b : ℕ) (s : List ℕ) → is_lower b ≡ true → nat_lt 0 limit ≡ true → IsNameAt (b ∷ s) (Some (word_at limit (b ∷ s)))
+word-took : (limit b : ℕ) (s : List ℕ) → is_name_start b ≡ true → nat_lt 0 limit ≡ true → IsNameAt (b ∷ s) (Some (word_at limit (b ∷ s)))
 word-took limit b s lower some =
     let word = word_at limit (b ∷ s) in
     sym (take-append-drop (min limit (prefix_len is_word (b ∷ s))) (b ∷ s))
@@ -106,11 +103,11 @@ word-took limit b s lower some =
 pub name_at-took : (limit : ℕ) (bytes : List ℕ) → IsNameAt bytes (name_at limit bytes)
 name_at-took limit [] = tt
 name_at-took limit (b ∷ s) =
-    if_by (IsNameAt (b ∷ s)) (b == 39) (unplain (quoted_at s)) (if is_lower b && nat_lt 0 limit then Some (word_at limit (b ∷ s)) else None)
-    (λ quote. at_quote (same_test b 39 quote))
+    if_by (IsNameAt (b ∷ s)) (b == 39) (unplain (quoted_at s)) (if is_name_start b && nat_lt 0 limit then Some (word_at limit (b ∷ s)) else None)
+    (λ quote. at_quote (eqb-true b 39 quote))
     (λ other.
-    if_by (IsNameAt (b ∷ s)) (is_lower b && nat_lt 0 limit) (Some (word_at limit (b ∷ s))) None
-    (λ both. let tests = both_true (is_lower b) (nat_lt 0 limit) both in word-took limit b s tests.0 tests.1)
+    if_by (IsNameAt (b ∷ s)) (is_name_start b && nat_lt 0 limit) (Some (word_at limit (b ∷ s))) None
+    (λ both. let tests = and_parts (is_name_start b) (nat_lt 0 limit) both in word-took limit b s tests.0 tests.1)
     (λ none. tt))
   where
     at_quote : b ≡ 39 → IsNameAt (b ∷ s) (unplain (quoted_at s))
@@ -137,7 +134,7 @@ argument-took d room bytes more sound (Some (t, next, [])) took = tt
 argument-took d room bytes more sound (Some (t, next, b ∷ s)) took =
     if_by (IsTookAll d room bytes) (b == 41) (Some (Last t, next, s)) (if b == 44 then before t (more next s) else None)
     (λ last. record {
-      text = took.text ∙ ap (λ c. text_in Alone t ++ c ∷ s) (same_test b 41 last) ∙ ap (λ x. x ++ 41 ∷ s) (sym (texts_of-Last t));
+      text = took.text ∙ ap (λ c. text_in Alone t ++ c ∷ s) (eqb-true b 41 last) ∙ ap (λ x. x ++ 41 ∷ s) (sym (texts_of-Last t));
       spent = took.spent;
       integers = took.integers;
     })
@@ -145,7 +142,7 @@ argument-took d room bytes more sound (Some (t, next, b ∷ s)) took =
     if_by (IsTookAll d room bytes) (b == 44) (before t (more next s)) None
     (λ comma.
     before-took d room bytes s t next (more next s)
-    (record { text = took.text ∙ ap (λ c. text_in Alone t ++ c ∷ s) (same_test b 44 comma); spent = took.spent; integers = took.integers })
+    (record { text = took.text ∙ ap (λ c. text_in Alone t ++ c ∷ s) (eqb-true b 44 comma); spent = took.spent; integers = took.integers })
     (sound next s))
     (λ none. tt))
 
@@ -190,7 +187,7 @@ module _ (d : ℕ) (sound : (place : Place) (room : Room) (bytes : List ℕ) →
   named-took room bytes name [] text = atom-took d room bytes name [] text
   named-took room bytes name (b ∷ s) text =
       if_by (IsTook (suc d) Alone room bytes) (b == 40) (called (reads d) name room s) (atom name room (b ∷ s))
-      (λ open_bracket. called-took room bytes name s (text ∙ ap (λ c. name_text name ++ c ∷ s) (same_test b 40 open_bracket)))
+      (λ open_bracket. called-took room bytes name s (text ∙ ap (λ c. name_text name ++ c ∷ s) (eqb-true b 40 open_bracket)))
       (λ other. atom-took d room bytes name (b ∷ s) text)
 
   cell_of-took : (place : Place) (room : Room) (bytes : List ℕ) (head_room : Room) (from : List ℕ) (t : Tree) (next : Room) (s : List ℕ) (found : Read Tree) →
@@ -227,7 +224,7 @@ module _ (d : ℕ) (sound : (place : Place) (room : Room) (bytes : List ℕ) →
   list-took room [] = tt
   list-took room (b ∷ s) =
       if_by (IsTook (suc d) Alone room (91 ∷ b ∷ s)) (b == 93) (nil room s) (element (reads d) room (b ∷ s))
-      (λ end. nil-took d Alone room (91 ∷ b ∷ s) s (ap (λ c. 91 ∷ c ∷ s) (same_test b 93 end)))
+      (λ end. nil-took d Alone room (91 ∷ b ∷ s) s (ap (λ c. 91 ∷ c ∷ s) (eqb-true b 93 end)))
       (λ other. element-took Alone room (91 ∷ b ∷ s) (b ∷ s) refl)
 
   named_or_number-took : (room : Room) (bytes : List ℕ) (found : Option (List ℕ × List ℕ)) → IsNameAt bytes found →
@@ -241,11 +238,11 @@ module _ (d : ℕ) (sound : (place : Place) (room : Room) (bytes : List ℕ) →
       if_by (IsTook (suc d) Alone room (b ∷ s)) (b == 95) (variable room (number_at 255 s))
       (if b == 91 then list (reads d) room s else named_or_number (reads d) room (b ∷ s) (name_at room.name_bytes (b ∷ s)))
       (λ underscore.
-      subst (λ c. IsTook (suc d) Alone room (c ∷ s) (variable room (number_at 255 s))) (sym (same_test b 95 underscore))
+      subst (λ c. IsTook (suc d) Alone room (c ∷ s) (variable room (number_at 255 s))) (sym (eqb-true b 95 underscore))
       (variable-took d room s (number_at 255 s) (number_at-read 255 s (omega arith) (omega arith))))
       (λ other.
       if_by (IsTook (suc d) Alone room (b ∷ s)) (b == 91) (list (reads d) room s) (named_or_number (reads d) room (b ∷ s) (name_at room.name_bytes (b ∷ s)))
-      (λ bracket. subst (λ c. IsTook (suc d) Alone room (c ∷ s) (list (reads d) room s)) (sym (same_test b 91 bracket)) (list-took room s))
+      (λ bracket. subst (λ c. IsTook (suc d) Alone room (c ∷ s) (list (reads d) room s)) (sym (eqb-true b 91 bracket)) (list-took room s))
       (λ neither. named_or_number-took room (b ∷ s) (name_at room.name_bytes (b ∷ s)) (name_at-took room.name_bytes (b ∷ s))))
 
   barred-took : (room : Room) (s : List ℕ) (found : Read Tree) → IsTook (suc d) Alone room s found →
@@ -254,8 +251,8 @@ module _ (d : ℕ) (sound : (place : Place) (room : Room) (bytes : List ℕ) →
   barred-took room s (Some (t, left, [])) took = tt
   barred-took room s (Some (t, left, b ∷ rest)) took =
       if_by (IsTook (suc d) Behind room (124 ∷ s)) (b == 93 && is_barred t) (Some (t, left, rest)) None
-      (λ both. let tests = both_true (b == 93) (is_barred t) both in record {
-        text = ap (λ x. 124 ∷ x) (took.text ∙ ap (λ c. text_in Alone t ++ c ∷ rest) (same_test b 93 tests.0))
+      (λ both. let tests = and_parts (b == 93) (is_barred t) both in record {
+        text = ap (λ x. 124 ∷ x) (took.text ∙ ap (λ c. text_in Alone t ++ c ∷ rest) (eqb-true b 93 tests.0))
             ∙ ap (λ x. 124 ∷ x) (sym (append_assoc (text_in Alone t) (codes "]") rest)) ∙ ap (λ x. x ++ rest) (sym (text_in-barred t tests.1));
         spent = took.spent;
         integers = took.integers;
@@ -267,13 +264,13 @@ module _ (d : ℕ) (sound : (place : Place) (room : Room) (bytes : List ℕ) →
   tail-took room (b ∷ s) =
       if_by (IsTook (suc d) Behind room (b ∷ s)) (b == 93) (nil room s)
       (if b == 44 then element (reads d) room s else (if b == 124 then barred (node (reads d) room s) else None))
-      (λ end. nil-took d Behind room (b ∷ s) s (ap (λ c. c ∷ s) (same_test b 93 end)))
+      (λ end. nil-took d Behind room (b ∷ s) s (ap (λ c. c ∷ s) (eqb-true b 93 end)))
       (λ no_end.
       if_by (IsTook (suc d) Behind room (b ∷ s)) (b == 44) (element (reads d) room s) (if b == 124 then barred (node (reads d) room s) else None)
-      (λ comma. element-took Behind room (b ∷ s) s (ap (λ c. c ∷ s) (same_test b 44 comma)))
+      (λ comma. element-took Behind room (b ∷ s) s (ap (λ c. c ∷ s) (eqb-true b 44 comma)))
       (λ no_comma.
       if_by (IsTook (suc d) Behind room (b ∷ s)) (b == 124) (barred (node (reads d) room s)) None
-      (λ bar. subst (λ c. IsTook (suc d) Behind room (c ∷ s) (barred (node (reads d) room s))) (sym (same_test b 124 bar))
+      (λ bar. subst (λ c. IsTook (suc d) Behind room (c ∷ s) (barred (node (reads d) room s))) (sym (eqb-true b 124 bar))
       (barred-took room s (node (reads d) room s) (node-took room s)))
       (λ none. tt)))
 

@@ -1,8 +1,7 @@
 -- The canonical text of templates in a text.
 use Rattle.std.specs.Prelude.{◌≡◌, ◌≢◌, ℕ, ◌+◌, ◌≤◌, false, List, [], ◌∷◌, ◌++◌, drop, length}
+use Rattle.tc_term.specs.Bytes.{is_word}
 use Rattle.tc_term.specs.Text.{canonical}
-use Rattle.tc_term.specs.Tokens.{is_word}
-use Rattle.tc_term.specs.Readable.{HasIntegers}
 use Rattle.tc_term.specs.Tree.{Tree}
 use Rattle.tc_term.specs.Variables.{IsPattern}
 
@@ -10,7 +9,6 @@ use Rattle.tc_term.specs.Variables.{IsPattern}
 -- behind it
 pub record IsCanonicalAt (text : List ℕ) (from : ℕ) (p : Tree) (behind : ℕ) : Type 0 where
   pub pattern : IsPattern p
-  pub integers : HasIntegers p
   pub rest : List ℕ
   pub stands : drop from text ≡ canonical p ++ rest
   pub place : behind + length rest ≡ length text

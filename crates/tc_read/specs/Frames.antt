@@ -2,7 +2,7 @@
 use Rattle.std.specs.Prelude.{◌≡◌, ℕ, zero, suc, List, [], ◌∷◌, map, reverse, Option, Some, None}
 use Rattle.tc_term.specs.Grammar as grammar
 use Rattle.tc_read.specs.Machine as machine
-use Rattle.tc_read.specs.Kept.{Kept, Large}
+use Rattle.tc_read.specs.Kept.{Kept, Large, kept}
 use Rattle.tc_read.specs.Views.{operator_view, token_view}
 use Rattle.tc_read.specs.Items.{done_of}
 use Rattle.tc_read.specs.declared.frames.Frame.{Frame}
@@ -72,6 +72,11 @@ abbrev pub standing : State → Stack → machine.Standing Kept
 standing Awaits stack = machine.Awaits
 standing (Holds priority) stack = machine.Holds (top (items_of stack)) priority
 standing Ends stack = machine.Ends (top (items_of stack))
+
+-- the step where the last item is whole, inside this frame, which was taken off
+abbrev pub close_in : Frame → Stack → List grammar.Token → machine.Move Kept
+close_in frame stack ts = machine.close kept
+    (framed (frame ∷ frames_of stack) (below (items_of stack))) (top (items_of stack)) ts
 
 -- the tokens that are left
 abbrev pub tokens_left : Step → List grammar.Token

@@ -1,11 +1,12 @@
 -- The canonical text of a term at the front of bytes, as the reader finds it: greedily, within the
 -- room, and with no way back.
 use Rattle.std.specs.Prelude.{ℕ, ℤ, zero, suc, Bool, true, false, if◌then◌else◌, ◌&&◌, ◌||◌, ◌==◌, nat_lt, min, List, [], ◌∷◌, length, take, drop, Some, None, codes, is_some}
+use Rattle.tc_term.specs.Bytes.{is_word, is_name_start}
 use Rattle.std.specs.declared.option.Option.{Option}
 use Rattle.std.specs.List.{prefix_len}
 use Rattle.tc_lists.specs.Decimals.{number_at, integer_at}
 use Rattle.tc_term.specs.Text.{Place, Alone, Behind, is_name, is_nil, is_dot}
-use Rattle.tc_term.specs.Tokens.{escape, is_lower, is_word}
+use Rattle.tc_term.specs.Tokens.{escape}
 use Rattle.tc_term.specs.Tree.{Tree, Variable, Atomic, Number, Compound, Trees, Last, More}
 use Rattle.tc_read.specs.Budget.{paid, numbered, then_in, whole}
 use Rattle.tc_read.specs.Views.{meant}
@@ -60,7 +61,7 @@ unplain (Some (name, rest)) = if is_name name then None else Some (name, rest)
 abbrev pub name_at : ℕ → List ℕ → Option (List ℕ × List ℕ)
 name_at limit [] = None
 name_at limit (b ∷ s) = if b == 39 then unplain (quoted_at s)
-    else (if is_lower b && nat_lt 0 limit then Some (word_at limit (b ∷ s)) else None)
+    else (if is_name_start b && nat_lt 0 limit then Some (word_at limit (b ∷ s)) else None)
 
 -- whether a compound of this name and these arguments is a list cell
 abbrev pub is_cell : List ℕ → Trees → Bool

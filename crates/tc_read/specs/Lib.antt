@@ -9,7 +9,7 @@ pub mod Lexing
 pub mod Lexemes
 pub mod Parts
 pub mod Brackets
-pub mod Names
+pub mod Variables
 pub mod Scanner
 pub mod Scan
 pub mod Answers

@@ -3,7 +3,7 @@ use Rattle.std.specs.Prelude.{◌≡◌, ℕ, List, [], ◌∷◌, map, Option, 
 use Rattle.tc_term.specs.Layouts.{At}
 use Rattle.tc_term.specs.Faults.{all_known, first_wide, most_open, numbered, open_behind}
 use Rattle.tc_read.specs.Brackets.{CountsTo}
-use Rattle.tc_read.specs.Names.{names_view}
+use Rattle.tc_read.specs.Variables.{names_view}
 use Rattle.tc_read.specs.Views.{token_view}
 use Rattle.tc_read.specs.declared.scanner.Scanner.{Scanner}
 
@@ -20,6 +20,6 @@ open_after n (t ∷ ts) = open_after (open_behind n t.lexeme) ts
 pub record Gathers (s : Scanner) (ts : List At) : Type 0 where
   pub wide : s.wide ≡ first_wide ts
   pub tokens : first_wide ts ≡ None → map token_view s.tokens.items ≡ numbered [] ts
-  pub names : names_view s.names ≡ all_known [] ts
+  pub names : names_view s.variables ≡ all_known [] ts
   pub brackets : CountsTo s.brackets (open_after 0 ts) (most_open 0 ts)
   pub first : s.first ≡ first_at ts

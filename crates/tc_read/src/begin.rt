@@ -9,9 +9,9 @@ ghost use Rattle.tc_read.specs.Views.{meant, sign_view, token_view, unquoted};
 use crate::build::{atom, integer, variable};
 use crate::compound::nil;
 use crate::cursor::{called, closed_list, direct_integer};
-use crate::frames::{Frame, Stack, Step, awaited, held};
+use crate::frames::{Frame, Move, Stack, awaited, held};
 use crate::operators::symbol_name;
-use crate::tokens::{Sign, Token};
+use crate::tokens::{Sign, Token, Tokens};
 use std::alloc::Global;
 use tc_lists::NoMemory;
 use tc_term::Name;
@@ -47,12 +47,7 @@ pub fn unquoted(alloc: Global, inside: &[u8]) -> Result<Vec<u8>, NoMemory>
 }
 
 /// A step where this token and these stand.
-pub fn begin<'a>(
-    alloc: Global,
-    stack: &mut Stack,
-    token: Token<'a>,
-    rest: &'a [Token<'a>],
-) -> Result<Option<Step<'a>>, NoMemory>
+pub fn begin<'a>(alloc: Global, stack: &mut Stack, token: Token<'a>, rest: Tokens<'a>) -> Move<'a>
     ensures { IfOk result
         (λ r. IsMove (begin kept (opened stack.old) (token_view token.entry)
         (map token_view rest.now)) stack.new r) }
@@ -81,11 +76,7 @@ pub fn begin<'a>(
 
 /// A step behind a name: its arguments come, or it is an atom.
 #[inline(always)]
-fn named<'a>(
-    stack: &mut Stack,
-    name: Name,
-    rest: &'a [Token<'a>],
-) -> Result<Option<Step<'a>>, NoMemory>
+fn named<'a>(stack: &mut Stack, name: Name, rest: Tokens<'a>) -> Move<'a>
     ensures { IfOk result
         (λ r. IsMove (named kept (opened stack.old) name (map token_view rest.now))
         stack.new r) }
@@ -97,12 +88,7 @@ fn named<'a>(
 }
 
 /// A step behind a symbol: its arguments come, or it is a minus before a term.
-fn signed<'a>(
-    alloc: Global,
-    stack: &mut Stack,
-    sign: Sign,
-    rest: &'a [Token<'a>],
-) -> Result<Option<Step<'a>>, NoMemory>
+fn signed<'a>(alloc: Global, stack: &mut Stack, sign: Sign, rest: Tokens<'a>) -> Move<'a>
     ensures { IfOk result
         (λ r. IsMove (signed kept (opened stack.old) (sign_view sign)
         (map token_view rest.now)) stack.new r) }
@@ -120,7 +106,7 @@ fn signed<'a>(
 }
 
 /// A step behind a minus that no bracket follows: a negative number, or a term whose minus it is.
-fn minus<'a>(stack: &mut Stack, rest: &'a [Token<'a>]) -> Result<Option<Step<'a>>, NoMemory>
+fn minus<'a>(stack: &mut Stack, rest: Tokens<'a>) -> Move<'a>
     ensures { IfOk result
         (λ r. IsMove (minus kept (opened stack.old) (map token_view rest.now)) stack.new r) }
 {
@@ -131,11 +117,7 @@ fn minus<'a>(stack: &mut Stack, rest: &'a [Token<'a>]) -> Result<Option<Step<'a>
 }
 
 /// A step behind an opening square bracket: an empty list, or elements come.
-fn listed<'a>(
-    alloc: Global,
-    stack: &mut Stack,
-    rest: &'a [Token<'a>],
-) -> Result<Option<Step<'a>>, NoMemory>
+fn listed<'a>(alloc: Global, stack: &mut Stack, rest: Tokens<'a>) -> Move<'a>
     ensures { IfOk result
         (λ r. IsMove (listed kept (opened stack.old) (map token_view rest.now)) stack.new r) }
 {

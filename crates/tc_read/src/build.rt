@@ -6,16 +6,7 @@ ghost use Rattle.tc_read.specs.Items.{kept_item};
 ghost use Rattle.tc_read.specs.Kept.{fits, kept, small_if};
 
 use crate::measured::{Item, Measured};
-use tc_term::{Name, Term};
-
-/// The most nodes of a term.
-pub const MAX_NODES: usize = 10_000;
-
-/// The most nodes below one another.
-pub const MAX_DEPTH: usize = 1_000;
-
-/// The most bytes that all names of a term have together.
-pub const MAX_NAME_BYTES: usize = 65_535;
+use tc_term::{MAX_DEPTH, MAX_NAME_BYTES, MAX_NODES, Name, Term};
 
 /// The term, if it fits.
 #[inline(always)]

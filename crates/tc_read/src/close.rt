@@ -2,27 +2,23 @@
 ghost use Rattle.std.specs.Prelude.{◌≡◌, ◌∷◌, IfOk, [], MatchOption, None, Some, map, suc};
 ghost use Rattle.tc_read.specs.declared.frames.Frame.{Frame};
 ghost use Rattle.tc_read.specs.declared.frames.Stack.{Stack};
-ghost use Rattle.tc_read.specs.Frames.{IsMove, below, framed, frames_of, items_of, opened_below, top};
+ghost use Rattle.tc_read.specs.Frames.{IsMove, close_in, frames_of, items_of, opened_below, top};
 ghost use Rattle.tc_read.specs.Kept.{kept};
 ghost use Rattle.tc_read.specs.Machine.{close, close_all, close_group, fitting, go_on, rest_of};
 ghost use Rattle.tc_read.specs.Views.{operator_view, token_view};
 
 use crate::compound::{between, cell, compound, list, negated, nil};
 use crate::cursor::{Delimiter, delimited, next};
-use crate::frames::{Frame, Stack, State, Step, awaited, held, limit};
+use crate::frames::{Frame, Move, Stack, State, Step, awaited, held, limit};
 use crate::operators::{Operator, infix};
-use crate::tokens::Token;
+use crate::tokens::Tokens;
 use std::alloc::Global;
 use tc_lists::NoMemory;
 use tc_term::Name;
 
 /// The operator at the front, and what follows it, where a term of this priority may stand left of
 /// it in a place of this limit.
-fn fitting<'a>(
-    limit: u16,
-    priority: u16,
-    tokens: &'a [Token<'a>],
-) -> Option<(Operator, &'a [Token<'a>])>
+fn fitting<'a>(limit: u16, priority: u16, tokens: Tokens<'a>) -> Option<(Operator, Tokens<'a>)>
     ensures { MatchOption result (fitting limit priority (map token_view tokens.now) ≡ None)
         (λ r. (fitting limit priority (map token_view tokens.now) ≡ Some (operator_view r.0))
         × (map token_view r.1.now ≡ rest_of (map token_view tokens.now))) }
@@ -37,12 +33,7 @@ fn fitting<'a>(
 }
 
 /// A step behind the last item, of this priority.
-pub fn go_on<'a>(
-    alloc: Global,
-    stack: &mut Stack,
-    priority: u16,
-    tokens: &'a [Token<'a>],
-) -> Result<Option<Step<'a>>, NoMemory>
+pub fn go_on<'a>(alloc: Global, stack: &mut Stack, priority: u16, tokens: Tokens<'a>) -> Move<'a>
     ensures { IfOk result
         (λ r. IsMove (go_on kept (opened_below stack.old) (top (items_of stack.old)) priority
         (map token_view tokens.now)) stack.new r) }
@@ -54,16 +45,12 @@ pub fn go_on<'a>(
 }
 
 /// A step where the last item is whole in the innermost open place.
-fn close<'a>(
-    alloc: Global,
-    stack: &mut Stack,
-    tokens: &'a [Token<'a>],
-) -> Result<Option<Step<'a>>, NoMemory>
+fn close<'a>(alloc: Global, stack: &mut Stack, tokens: Tokens<'a>) -> Move<'a>
     ensures { IfOk result
         (λ r. IsMove (close kept (opened_below stack.old) (top (items_of stack.old))
         (map token_view tokens.now)) stack.new r) }
 {
-    match stack.innermost() {
+    match stack.pop_frame() {
         None => Ok(close_all(tokens)),
         Some(Frame::Between(operator)) => close_between(alloc, stack, operator, tokens),
         Some(Frame::Negated) => close_negated(alloc, stack, tokens),
@@ -75,7 +62,7 @@ fn close<'a>(
 }
 
 /// The end, where no tokens are left.
-fn close_all<'a>(tokens: &'a [Token<'a>]) -> Option<Step<'a>>
+fn close_all<'a>(tokens: Tokens<'a>) -> Option<Step<'a>>
     ensures { (stack : Stack) → frames_of stack ≡ []
         → IsMove (close_all kept (top (items_of stack)) (map token_view tokens.now)) stack result }
 {
@@ -94,37 +81,29 @@ fn close_between<'a>(
     alloc: Global,
     stack: &mut Stack,
     operator: Operator,
-    tokens: &'a [Token<'a>],
-) -> Result<Option<Step<'a>>, NoMemory>
+    tokens: Tokens<'a>,
+) -> Move<'a>
     ensures { IfOk result
-        (λ r. IsMove (close kept
-        (framed (Frame.Between operator ∷ frames_of stack.old) (below (items_of stack.old)))
-        (top (items_of stack.old)) (map token_view tokens.now)) stack.new r) }
+        (λ r. IsMove (close_in (Frame.Between operator) stack.old (map token_view tokens.now)) stack.new r) }
 {
-    let right = stack.last();
-    let left = stack.last();
+    let right = stack.pop_item();
+    let left = stack.pop_item();
     let item = between(alloc, operator, left, right)?;
     held(stack, item, operator.priority, tokens)
 }
 
 /// The end of a term behind its minus.
-fn close_negated<'a>(
-    alloc: Global,
-    stack: &mut Stack,
-    tokens: &'a [Token<'a>],
-) -> Result<Option<Step<'a>>, NoMemory>
+fn close_negated<'a>(alloc: Global, stack: &mut Stack, tokens: Tokens<'a>) -> Move<'a>
     ensures { IfOk result
-        (λ r. IsMove (close kept
-        (framed (Frame.Negated ∷ frames_of stack.old) (below (items_of stack.old)))
-        (top (items_of stack.old)) (map token_view tokens.now)) stack.new r) }
+        (λ r. IsMove (close_in Frame.Negated stack.old (map token_view tokens.now)) stack.new r) }
 {
-    let of = stack.last();
+    let of = stack.pop_item();
     let item = negated(alloc, of)?;
     held(stack, item, 200, tokens)
 }
 
 /// The closing of a round bracket.
-fn close_group<'a>(tokens: &'a [Token<'a>]) -> Option<Step<'a>>
+fn close_group<'a>(tokens: Tokens<'a>) -> Option<Step<'a>>
     ensures { (stack : Stack) → IsMove (close_group kept (opened_below stack) (top (items_of stack))
         (map token_view tokens.now)) stack result }
 {
@@ -143,12 +122,10 @@ fn close_argument<'a>(
     stack: &mut Stack,
     name: Name,
     count: usize,
-    tokens: &'a [Token<'a>],
-) -> Result<Option<Step<'a>>, NoMemory>
+    tokens: Tokens<'a>,
+) -> Move<'a>
     ensures { IfOk result
-        (λ r. IsMove (close kept
-        (framed (Frame.Args name count ∷ frames_of stack.old) (below (items_of stack.old)))
-        (top (items_of stack.old)) (map token_view tokens.now)) stack.new r) }
+        (λ r. IsMove (close_in (Frame.Args name count) stack.old (map token_view tokens.now)) stack.new r) }
 {
     match delimited(tokens) {
         Some((Delimiter::Close, rest)) => {
@@ -163,20 +140,13 @@ fn close_argument<'a>(
 }
 
 /// The closing of a list, its tail, or its next element.
-fn close_element<'a>(
-    alloc: Global,
-    stack: &mut Stack,
-    count: usize,
-    tokens: &'a [Token<'a>],
-) -> Result<Option<Step<'a>>, NoMemory>
+fn close_element<'a>(alloc: Global, stack: &mut Stack, count: usize, tokens: Tokens<'a>) -> Move<'a>
     ensures { IfOk result
-        (λ r. IsMove (close kept
-        (framed (Frame.Elements count ∷ frames_of stack.old) (below (items_of stack.old)))
-        (top (items_of stack.old)) (map token_view tokens.now)) stack.new r) }
+        (λ r. IsMove (close_in (Frame.Elements count) stack.old (map token_view tokens.now)) stack.new r) }
 {
     match delimited(tokens) {
         Some((Delimiter::CloseList, rest)) => {
-            let last = stack.last();
+            let last = stack.pop_item();
             let end = cell(alloc, last, nil(alloc)?)?;
             let item = list(alloc, count, stack, end)?;
             held(stack, item, 0, rest)
@@ -188,20 +158,13 @@ fn close_element<'a>(
 }
 
 /// The closing of a list behind its tail.
-fn close_tail<'a>(
-    alloc: Global,
-    stack: &mut Stack,
-    count: usize,
-    tokens: &'a [Token<'a>],
-) -> Result<Option<Step<'a>>, NoMemory>
+fn close_tail<'a>(alloc: Global, stack: &mut Stack, count: usize, tokens: Tokens<'a>) -> Move<'a>
     ensures { IfOk result
-        (λ r. IsMove (close kept
-        (framed (Frame.Tail count ∷ frames_of stack.old) (below (items_of stack.old)))
-        (top (items_of stack.old)) (map token_view tokens.now)) stack.new r) }
+        (λ r. IsMove (close_in (Frame.Tail count) stack.old (map token_view tokens.now)) stack.new r) }
 {
     match delimited(tokens) {
         Some((Delimiter::CloseList, rest)) => {
-            let tail = stack.last();
+            let tail = stack.pop_item();
             let item = list(alloc, count, stack, tail)?;
             held(stack, item, 0, rest)
         }

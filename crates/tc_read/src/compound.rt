@@ -8,13 +8,13 @@ ghost use Rattle.tc_read.specs.Kept.{Small, Whole, finished, joined, kept, whole
 ghost use Rattle.tc_read.specs.Machine.{applied, cells, turned};
 ghost use Rattle.tc_read.specs.Views.{operator_view};
 
-use crate::build::{MAX_DEPTH, MAX_NAME_BYTES, MAX_NODES, atom, item};
+use crate::build::{atom, item};
 use crate::frames::Stack;
 use crate::measured::{Item, Measured, Parts, Several};
 use crate::operators::Operator;
 use std::alloc::Global;
 use tc_lists::NoMemory;
-use tc_term::{Args, Name, Term};
+use tc_term::{Args, MAX_DEPTH, MAX_NAME_BYTES, MAX_NODES, Name, Term};
 
 /// No argument.
 #[inline(always)]
@@ -156,7 +156,7 @@ pub fn list(alloc: Global, count: usize, stack: &mut Stack, tail: Item) -> Resul
     let mut left = count;
     while left > 0 {
         left -= 1;
-        whole = cell(alloc, stack.last(), whole)?;
+        whole = cell(alloc, stack.pop_item(), whole)?;
     }
     Ok(whole)
 }
@@ -175,11 +175,11 @@ pub fn compound(
         (items_of stack.new ≡ under count (below (items_of stack.old))) }
     ensures frames { frames_of stack.new ≡ frames_of stack.old }
 {
-    let mut parts = join(stack.last(), none(alloc, count.saturating_add(1))?)?;
+    let mut parts = join(stack.pop_item(), none(alloc, count.saturating_add(1))?)?;
     let mut left = count;
     while left > 0 {
         left -= 1;
-        parts = join(stack.last(), parts)?;
+        parts = join(stack.pop_item(), parts)?;
     }
     Ok(finish(name, parts))
 }

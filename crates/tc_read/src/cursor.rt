@@ -4,7 +4,7 @@ ghost use Rattle.tc_term.specs.Grammar.{CloseList, Integer, NotCalled, NotNumber
 ghost use Rattle.tc_read.specs.Delimiters.{NoDelimiter, NotClosed, delimiter_view};
 ghost use Rattle.tc_read.specs.Views.{token_view};
 
-use crate::tokens::Token;
+use crate::tokens::{Token, Tokens};
 
 /// What may stand behind a whole term in an open place.
 #[derive(Clone, Copy)]
@@ -16,7 +16,7 @@ pub enum Delimiter {
 }
 
 /// The first token and the others.
-pub fn next<'a>(tokens: &'a [Token<'a>]) -> Option<(Token<'a>, &'a [Token<'a>])>
+pub fn next<'a>(tokens: Tokens<'a>) -> Option<(Token<'a>, Tokens<'a>)>
     ensures { MatchOption result (tokens.now ≡ []) (λ r. tokens.now ≡ r.0 ∷ r.1.now) }
 {
     match tokens {
@@ -26,7 +26,7 @@ pub fn next<'a>(tokens: &'a [Token<'a>]) -> Option<(Token<'a>, &'a [Token<'a>])>
 }
 
 /// What follows a round bracket that directly follows here.
-pub fn called<'a>(tokens: &'a [Token<'a>]) -> Option<&'a [Token<'a>]>
+pub fn called<'a>(tokens: Tokens<'a>) -> Option<Tokens<'a>>
     ensures some { IfSome result
         (λ after. map token_view tokens.now ≡ Open true ∷ map token_view after.now) }
     ensures none { IfNone result (NotCalled (map token_view tokens.now)) }
@@ -38,7 +38,7 @@ pub fn called<'a>(tokens: &'a [Token<'a>]) -> Option<&'a [Token<'a>]>
 }
 
 /// The size and the place of an integer that directly follows here, and what follows it.
-pub fn direct_integer<'a>(tokens: &'a [Token<'a>]) -> Option<(u64, usize, &'a [Token<'a>])>
+pub fn direct_integer<'a>(tokens: Tokens<'a>) -> Option<(u64, usize, Tokens<'a>)>
     ensures some { IfSome result
         (λ r. map token_view tokens.now ≡ Integer true r.0 r.1 ∷ map token_view r.2.now) }
     ensures none { IfNone result (NotNumber (map token_view tokens.now)) }
@@ -59,7 +59,7 @@ pub fn direct_integer<'a>(tokens: &'a [Token<'a>]) -> Option<(u64, usize, &'a [T
 }
 
 /// What follows a square bracket that closes here.
-pub fn closed_list<'a>(tokens: &'a [Token<'a>]) -> Option<&'a [Token<'a>]>
+pub fn closed_list<'a>(tokens: Tokens<'a>) -> Option<Tokens<'a>>
     ensures some { IfSome result
         (λ after. map token_view tokens.now ≡ CloseList ∷ map token_view after.now) }
     ensures none { IfNone result (NotClosed (map token_view tokens.now)) }
@@ -71,7 +71,7 @@ pub fn closed_list<'a>(tokens: &'a [Token<'a>]) -> Option<&'a [Token<'a>]>
 }
 
 /// The delimiter at the front, and what follows it.
-pub fn delimited<'a>(tokens: &'a [Token<'a>]) -> Option<(Delimiter, &'a [Token<'a>])>
+pub fn delimited<'a>(tokens: Tokens<'a>) -> Option<(Delimiter, Tokens<'a>)>
     ensures some { IfSome result
         (λ r. map token_view tokens.now ≡ delimiter_view r.0 ∷ map token_view r.1.now) }
     ensures none { IfNone result (NoDelimiter (map token_view tokens.now)) }

@@ -9,7 +9,7 @@ ghost use Rattle.tc_read.specs.Views.{token_view};
 
 use crate::measured::Item;
 use crate::operators::Operator;
-use crate::tokens::Token;
+use crate::tokens::Tokens;
 use std::alloc::Global;
 use tc_lists::NoMemory;
 use tc_term::Name;
@@ -38,8 +38,11 @@ pub enum State {
 #[derive(Clone, Copy)]
 pub struct Step<'a> {
     pub state: State,
-    pub rest: &'a [Token<'a>],
+    pub rest: Tokens<'a>,
 }
+
+/// The step that is made, if there is one; none says that the tokens are no term.
+pub type Move<'a> = Result<Option<Step<'a>>, NoMemory>;
 
 /// What stands open, and what was read in it, the innermost last. A term that has been read is the
 /// last item.
@@ -61,7 +64,7 @@ impl Stack {
     }
 
     /// Opens a place inside the innermost one.
-    pub fn open(&mut self, frame: Frame) -> Result<(), NoMemory>
+    pub fn push_frame(&mut self, frame: Frame) -> Result<(), NoMemory>
         ensures frames { OnOk result (frames_of self.new ≡ frame ∷ frames_of self.old) }
         ensures items { items_of self.new ≡ items_of self.old }
     {
@@ -70,7 +73,7 @@ impl Stack {
     }
 
     /// Takes the innermost open place off, if any is open.
-    pub fn innermost(&mut self) -> Option<Frame>
+    pub fn pop_frame(&mut self) -> Option<Frame>
         ensures frames { MatchOption result
             ((frames_of self.old ≡ []) × (frames_of self.new ≡ []))
             (λ frame. frames_of self.old ≡ frame ∷ frames_of self.new) }
@@ -80,7 +83,7 @@ impl Stack {
     }
 
     /// Adds what has been read.
-    pub fn hold(&mut self, item: Item) -> Result<(), NoMemory>
+    pub fn push_item(&mut self, item: Item) -> Result<(), NoMemory>
         ensures items { OnOk result (items_of self.new ≡ kept_item item ∷ items_of self.old) }
         ensures frames { frames_of self.new ≡ frames_of self.old }
     {
@@ -89,8 +92,8 @@ impl Stack {
     }
 
     /// Takes the last item off. Where there is none, the answer is one that doesn't fit.
-    pub fn last(&mut self) -> Item
-        ensures last { kept_item result ≡ top (items_of self.old) }
+    pub fn pop_item(&mut self) -> Item
+        ensures item { kept_item result ≡ top (items_of self.old) }
         ensures items { items_of self.new ≡ below (items_of self.old) }
         ensures frames { frames_of self.new ≡ frames_of self.old }
     {
@@ -103,17 +106,12 @@ impl Stack {
 
 /// A step behind this item of this priority, which is the last one then.
 #[inline]
-pub fn held<'a>(
-    stack: &mut Stack,
-    item: Item,
-    priority: u16,
-    rest: &'a [Token<'a>],
-) -> Result<Option<Step<'a>>, NoMemory>
+pub fn held<'a>(stack: &mut Stack, item: Item, priority: u16, rest: Tokens<'a>) -> Move<'a>
     ensures { IfOk result
         (λ r. IsMove (Goes_to (opened stack.old) (Holds (kept_item item) priority)
         (map token_view rest.now)) stack.new r) }
 {
-    stack.hold(item)?;
+    stack.push_item(item)?;
     Ok(Some(Step {
         state: State::Holds(priority),
         rest,
@@ -122,16 +120,12 @@ pub fn held<'a>(
 
 /// A step into the place that this frame opens.
 #[inline]
-pub fn awaited<'a>(
-    stack: &mut Stack,
-    frame: Frame,
-    rest: &'a [Token<'a>],
-) -> Result<Option<Step<'a>>, NoMemory>
+pub fn awaited<'a>(stack: &mut Stack, frame: Frame, rest: Tokens<'a>) -> Move<'a>
     ensures { IfOk result
         (λ r. IsMove (Goes_to (framed (frame ∷ frames_of stack.old) (items_of stack.old)) Awaits
         (map token_view rest.now)) stack.new r) }
 {
-    stack.open(frame)?;
+    stack.push_frame(frame)?;
     Ok(Some(Step {
         state: State::Awaits,
         rest,

@@ -7,7 +7,6 @@ ghost use Rattle.tc_term.specs.Tree.{Tree};
 ghost use Rattle.tc_term.specs.Variables.{IsPattern};
 ghost use Rattle.tc_term.specs.Faults.{Answer, Found, IsRead};
 ghost use Rattle.tc_read.specs.Canonical.{EndsTerm, IsCanonicalAt};
-ghost use Rattle.tc_term.specs.Readable.{HasIntegers};
 ghost use Rattle.tc_read.specs.Canonical.{IsLongestCanonicalAt};
 ghost use Rattle.tc_term.specs.NameBytes.{has_read_names};
 ghost use Rattle.tc_term.specs.Readable.{IsReadable};
@@ -24,12 +23,6 @@ pub fn read_names_hold_no_control_bytes()
         → IsRead clauses size s (Found term behind) → IsTrue (has_read_names term) }
 {}
 
-/// A number that is read has 64 bits.
-pub fn read_numbers_have_64_bits()
-    ensures { (clauses : Bool) (size : ℕ) (s : List ℕ) (term : Tree) (behind : ℕ)
-        → IsRead clauses size s (Found term behind) → HasIntegers term }
-{}
-
 /// At most one template has its canonical text from one place to another, and only one has the
 /// longest text there is at a place.
 pub fn canonical_reading_is_unique()
@@ -43,7 +36,7 @@ pub fn canonical_reading_is_unique()
 /// What is printed is read back: where the canonical text of a template stands in a text, and
 /// nothing behind it could go on a term, no other template is read there.
 pub fn canonical_text_reads_back()
-    ensures { (before behind : List ℕ) (p : Tree) → IsPattern p → HasIntegers p → EndsTerm behind
+    ensures { (before behind : List ℕ) (p : Tree) → IsPattern p → EndsTerm behind
         → IsLongestCanonicalAt (before ++ canonical p ++ behind) (length before) p
         (length before + length (canonical p)) }
 {}

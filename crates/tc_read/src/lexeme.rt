@@ -1,7 +1,9 @@
 //! The longest token at the front of a text.
 ghost use Rattle.std.specs.Prelude.{◌≡◌, ◌<◌, ◌≤◌, ◌&&◌, ◌∷◌, ◌++◌, [], false, IfNone, IfSome, MatchOption, None, Some, length, take, drop, true};
 ghost use Rattle.std.specs.List.{prefix_len};
-ghost use Rattle.tc_term.specs.Tokens.{BeginsNone, escape, is_digit, is_lower, is_upper, is_variable_start, is_word, mark_byte, sign_bytes};
+ghost use Rattle.std.specs.Char.{is_ascii_digit};
+ghost use Rattle.tc_term.specs.Bytes.{is_variable_start, is_word};
+ghost use Rattle.tc_term.specs.Tokens.{BeginsNone, escape, mark_byte, sign_bytes};
 ghost use Rattle.tc_read.specs.Lexemes.{lexeme_view, mark_view};
 ghost use Rattle.tc_read.specs.Lexing.{Begins, after_one, back_sign, equal_sign, greater_sign, is_mark, leads_with, quoted_end, sign_at, slash_sign};
 ghost use Rattle.tc_read.specs.Views.{sign_view};
@@ -31,37 +33,17 @@ pub enum Lexeme<'a> {
     Punctuation(Mark),
 }
 
-/// Whether the byte is a lower-case letter of ASCII.
-pub fn is_lower(byte: u8) -> bool
-    ensures { result ≡ is_lower byte }
-{
-    97 <= byte && byte <= 122
-}
-
-fn is_upper(byte: u8) -> bool
-    ensures { result ≡ is_upper byte }
-{
-    65 <= byte && byte <= 90
-}
-
 /// Whether a variable may begin with the byte.
 pub fn is_variable_start(byte: u8) -> bool
     ensures { result ≡ is_variable_start byte }
 {
-    is_upper(byte) || byte == b'_'
-}
-
-/// Whether the byte is a decimal digit.
-pub fn is_digit(byte: u8) -> bool
-    ensures { result ≡ is_digit byte }
-{
-    48 <= byte && byte <= 57
+    byte.is_ascii_uppercase() || byte == b'_'
 }
 
 fn is_word(byte: u8) -> bool
     ensures { result ≡ is_word byte }
 {
-    is_lower(byte) || is_upper(byte) || is_digit(byte) || byte == b'_'
+    byte.is_ascii_alphanumeric() || byte == b'_'
 }
 
 /// The punctuation mark that the byte is.
@@ -90,10 +72,10 @@ pub fn word_length(text: &[u8]) -> usize
 
 /// How many digits stand at the front.
 pub fn digits_length(text: &[u8]) -> usize
-    ensures length { result ≡ prefix_len is_digit text.now }
+    ensures length { result ≡ prefix_len is_ascii_digit text.now }
     ensures within { result ≤ length text.now }
 {
-    text.iter().take_while(|byte| is_digit(**byte)).count()
+    text.iter().take_while(|byte| byte.is_ascii_digit()).count()
 }
 
 /// What stands behind this byte at the front.

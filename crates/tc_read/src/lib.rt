@@ -1,5 +1,15 @@
 //! Terms read from text: what is read is what the tokens spell, and each fault has its place.
 //!
+//! A text is read clause by clause:
+//!
+//! ```text
+//! let mut from = 0;
+//! while let Some((clause, behind)) = read_clause(alloc, text, from)? {
+//!     take(clause);
+//!     from = behind;
+//! }
+//! ```
+//!
 //! The reader is the grammar. Nothing here knows of tuple centres or of what a clause is for.
 #![tactic(auto)]
 
@@ -14,13 +24,14 @@ mod fault;
 mod frames;
 mod laws;
 mod layout;
+mod leaves;
 mod lexeme;
 mod longest;
 mod measured;
-mod names;
 mod numbers;
 mod operators;
 mod parse;
+mod printed_names;
 mod quote;
 mod quoted;
 mod read;
@@ -28,18 +39,17 @@ mod room;
 mod scan;
 mod scanner;
 mod tokens;
+mod variables;
 
 pub use canonical::read_canonical;
 pub use fault::ReadFault;
 pub use laws::{
     canonical_reading_is_unique, canonical_text_reads_back, printed_clause_is_read_back,
-    printed_term_is_read_back, read_names_hold_no_control_bytes, read_numbers_have_64_bits,
-    reading_is_unique,
+    printed_term_is_read_back, read_names_hold_no_control_bytes, reading_is_unique,
 };
 pub use quote::read_quoted;
 pub use read::{read_clause, read_term};
+pub use tc_lists::NoMemory;
 
-#[cfg(test)]
-mod canonical_tests;
 #[cfg(test)]
 mod tests;

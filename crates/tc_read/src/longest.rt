@@ -1,13 +1,15 @@
 //! The longest token at the front of a text.
 ghost use Rattle.std.specs.Prelude.{◌≡◌, ◌∷◌, IfNone, IfSome, drop, take};
+ghost use Rattle.std.specs.Char.{is_ascii_digit};
 ghost use Rattle.std.specs.List.{prefix_len};
-ghost use Rattle.tc_term.specs.Tokens.{BeginsNone, is_digit, is_word};
+ghost use Rattle.tc_term.specs.Bytes.{is_word};
+ghost use Rattle.tc_term.specs.Tokens.{BeginsNone};
 ghost use Rattle.tc_read.specs.Lexemes.{lexeme_view};
 ghost use Rattle.tc_read.specs.Lexing.{Begins};
 
 use crate::layout::next_byte;
 use crate::lexeme::{
-    Lexeme, digits_length, is_digit, is_lower, is_variable_start, punctuation, symbol, word_length,
+    Lexeme, digits_length, is_variable_start, punctuation, symbol, word_length,
 };
 use crate::quoted::quoted_length;
 
@@ -31,7 +33,7 @@ fn begun<'a>(text: &'a [u8], first: u8, after: &'a [u8]) -> Option<(Lexeme<'a>, 
     if let Some(mark) = punctuation(first) {
         return Some((Lexeme::Punctuation(mark), after));
     }
-    if is_lower(first) {
+    if first.is_ascii_lowercase() {
         let (bytes, rest) = words(text, first, after);
         return Some((Lexeme::Word(bytes), rest));
     }
@@ -39,7 +41,7 @@ fn begun<'a>(text: &'a [u8], first: u8, after: &'a [u8]) -> Option<(Lexeme<'a>, 
         let (bytes, rest) = words(text, first, after);
         return Some((Lexeme::Variable(bytes), rest));
     }
-    if is_digit(first) {
+    if first.is_ascii_digit() {
         let (bytes, rest) = digits(text, first, after);
         return Some((Lexeme::Number(bytes), rest));
     }
@@ -64,8 +66,8 @@ fn words<'a>(text: &'a [u8], first: u8, after: &[u8]) -> (&'a [u8], &'a [u8])
 /// The first byte and the digits behind it, and what stands behind them.
 fn digits<'a>(text: &'a [u8], first: u8, after: &[u8]) -> (&'a [u8], &'a [u8])
     requires { text.now ≡ first ∷ after.now }
-    ensures bytes { result.0.now ≡ first ∷ take (prefix_len is_digit after.now) after.now }
-    ensures rest { result.1.now ≡ drop (prefix_len is_digit after.now) after.now }
+    ensures bytes { result.0.now ≡ first ∷ take (prefix_len is_ascii_digit after.now) after.now }
+    ensures rest { result.1.now ≡ drop (prefix_len is_ascii_digit after.now) after.now }
 {
     text.split_at(digits_length(after) + 1)
 }

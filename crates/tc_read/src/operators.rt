@@ -38,10 +38,8 @@ fn xfx(name: &'static [u8], priority: u16) -> Operator
     ensures { operator_view result ≡ xfx name.now priority }
 {
     Operator {
-        name,
-        priority,
         left: priority - 1,
-        right: priority - 1,
+        ..yfx(name, priority)
     }
 }
 

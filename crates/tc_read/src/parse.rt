@@ -9,18 +9,13 @@ ghost use Rattle.tc_read.specs.Views.{token_view};
 use crate::begin::begin;
 use crate::close::go_on;
 use crate::cursor::next;
-use crate::frames::{Stack, State, Step};
+use crate::frames::{Move, Stack, State, Step};
 use crate::measured::Item;
-use crate::tokens::Token;
+use crate::tokens::Tokens;
 use std::alloc::Global;
 use tc_lists::NoMemory;
 
-fn step<'a>(
-    alloc: Global,
-    stack: &mut Stack,
-    state: State,
-    tokens: &'a [Token<'a>],
-) -> Result<Option<Step<'a>>, NoMemory>
+fn step<'a>(alloc: Global, stack: &mut Stack, state: State, tokens: Tokens<'a>) -> Move<'a>
     ensures { IfOk result
         (λ r. IsMove (step kept (opened_in state stack.old) (standing state stack.old)
         (map token_view tokens.now)) stack.new r) }
@@ -36,7 +31,7 @@ fn step<'a>(
 }
 
 /// The term that the tokens are, if they are one.
-pub fn parse<'a>(alloc: Global, tokens: &'a [Token<'a>]) -> Result<Option<Item>, NoMemory>
+pub fn parse<'a>(alloc: Global, tokens: Tokens<'a>) -> Result<Option<Item>, NoMemory>
     ensures { IfOk result (λ r. IsParsed (map token_view tokens.now) r) }
 {
     let mut stack = Stack::new(alloc)?;
@@ -46,7 +41,7 @@ pub fn parse<'a>(alloc: Global, tokens: &'a [Token<'a>]) -> Result<Option<Item>,
     };
     loop {
         now = match now.state {
-            State::Ends => return Ok(Some(stack.last())),
+            State::Ends => return Ok(Some(stack.pop_item())),
             state => match step(alloc, &mut stack, state, now.rest)? {
                 None => return Ok(None),
                 Some(next) => next,

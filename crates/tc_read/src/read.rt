@@ -16,9 +16,7 @@ use crate::parse::parse;
 use crate::scan::{Scanned, Stop, scan};
 use crate::scanner::Scanner;
 use std::alloc::Global;
-use tc_term::{NotPattern, Pattern};
-
-const MOST_VARIABLES: usize = 256;
+use tc_term::{MAX_VARIABLES, NotPattern, Pattern};
 
 /// The template of what was parsed, with so many variables, behind the first token at this place.
 fn judge(item: Item, variables: usize, place: usize) -> Result<Pattern, ReadFault>
@@ -29,14 +27,14 @@ fn judge(item: Item, variables: usize, place: usize) -> Result<Pattern, ReadFaul
     match item {
         Item::Wide(wide) => Err(ReadFault::WideInt(wide)),
         Item::Large => {
-            if variables > MOST_VARIABLES {
+            if variables > MAX_VARIABLES {
                 Err(ReadFault::TooMany(place))
             } else {
                 Err(ReadFault::TooBig(place))
             }
         }
         Item::Small(measured) => {
-            if variables > MOST_VARIABLES {
+            if variables > MAX_VARIABLES {
                 return Err(ReadFault::TooMany(place));
             }
             match Pattern::of(measured.term) {
@@ -71,7 +69,7 @@ fn read_tokens(alloc: Global, gathered: &Scanner, end: usize) -> Result<Pattern,
     }
     match parse(alloc, &gathered.tokens)? {
         None => Err(ReadFault::Syntax(place)),
-        Some(item) => judge(item, gathered.names.len(), place),
+        Some(item) => judge(item, gathered.variables.len(), place),
     }
 }
 

@@ -2,7 +2,7 @@
 ghost use Rattle.std.specs.Prelude.{◌≡◌};
 ghost use Rattle.tc_read.specs.Budget.{numbered, paid};
 
-use crate::build::{MAX_NAME_BYTES, MAX_NODES};
+use tc_term::{MAX_NAME_BYTES, MAX_NODES, MAX_VARIABLES};
 
 /// How many nodes and bytes of names may still come, and how many variables have come.
 #[derive(Clone, Copy)]
@@ -37,7 +37,7 @@ pub fn paid(room: Room, size: usize) -> Option<Room>
 pub fn numbered(room: Room, number: usize) -> Option<Room>
     ensures { result ≡ numbered number room }
 {
-    if number >= 256 || number > room.variables {
+    if number >= MAX_VARIABLES || number > room.variables {
         return None;
     }
     if number < room.variables {

@@ -5,14 +5,14 @@ ghost use Rattle.tc_term.specs.Grammar.{Integer};
 ghost use Rattle.tc_term.specs.Layouts.{At};
 ghost use Rattle.tc_term.specs.Tokens.{Number, decimal_from};
 ghost use Rattle.tc_read.specs.Lexemes.{lexeme_view, mark_view};
-ghost use Rattle.tc_read.specs.Names.{names_view};
+ghost use Rattle.tc_read.specs.Variables.{names_view};
 ghost use Rattle.tc_read.specs.Views.{token_view};
 
 use crate::brackets::Brackets;
 use crate::lexeme::{Lexeme, Mark};
-use crate::names::Names;
 use crate::numbers::number;
 use crate::tokens::Token;
+use crate::variables::Variables;
 use std::alloc::Global;
 use tc_lists::NoMemory;
 
@@ -22,7 +22,7 @@ use tc_lists::NoMemory;
 #[derive(Drop)]
 pub struct Scanner<'a> {
     pub tokens: Vec<Token<'a>>,
-    pub names: Names<'a>,
+    pub variables: Variables<'a>,
     pub brackets: Brackets,
     pub wide: Option<usize>,
     pub first: Option<usize>,
@@ -30,7 +30,7 @@ pub struct Scanner<'a> {
 
 /// The token as the grammar sees it, but for an integer above 9223372036854775808.
 fn token<'a>(
-    names: &mut Names<'a>,
+    variables: &mut Variables<'a>,
     lexeme: Lexeme<'a>,
     place: usize,
     direct: bool,
@@ -38,14 +38,14 @@ fn token<'a>(
     ensures token { IfOk result
         (λ r. MatchOption r (wide_at place (lexeme_view lexeme.entry) ≡ Some place)
         (λ t. (wide_at place (lexeme_view lexeme.entry) ≡ None)
-        × (token_view t ≡ token_of (names_view names.old) direct place
+        × (token_view t ≡ token_of (names_view variables.old) direct place
         (lexeme_view lexeme.entry)))) }
-    ensures names { OnOk result (names_view names.new
-        ≡ known_behind (names_view names.old) (lexeme_view lexeme.entry)) }
+    ensures variables { OnOk result (names_view variables.new
+        ≡ known_behind (names_view variables.old) (lexeme_view lexeme.entry)) }
 {
     match lexeme {
         Lexeme::Word(name) => Ok(Some(Token::Word(name))),
-        Lexeme::Variable(name) => Ok(Some(Token::Variable(names.number(name)?))),
+        Lexeme::Variable(name) => Ok(Some(Token::Variable(variables.number(name)?))),
         Lexeme::Number(digits) => Ok(integer(digits, place, direct)),
         Lexeme::Quoted(inside) => Ok(Some(Token::Quoted(inside))),
         Lexeme::Symbol(sign) => Ok(Some(Token::Symbol(sign))),
@@ -100,7 +100,7 @@ impl<'a> Scanner<'a> {
     {
         Ok(Scanner {
             tokens: Vec::with_capacity(alloc, 40)?,
-            names: Names::new(alloc),
+            variables: Variables::new(alloc),
             brackets: Brackets::new(),
             wide: None,
             first: None,
@@ -116,7 +116,7 @@ impl<'a> Scanner<'a> {
     {
         self.first = earlier(self.first, place);
         self.brackets.add(lexeme);
-        match token(&mut self.names, lexeme, place, direct)? {
+        match token(&mut self.variables, lexeme, place, direct)? {
             Some(token) => {
                 self.tokens.push(token)?;
                 Ok(())

@@ -1,195 +1,222 @@
-//! What is read of a few texts.
-use crate::{ReadFault, read_clause, read_quoted, read_term};
+//! What is read with ample memory: a few texts, and texts at each limit.
+use crate::{ReadFault, read_canonical, read_clause, read_quoted, read_term};
 use std::alloc::{AllocError, Global};
-use std::process::Abort;
-use tc_term::Pattern;
+use tc_lists::append_number;
 
-/// Checks that the whole text is no term, with this fault.
-fn refuse(rt: &impl Abort, alloc: Global, text: &[u8], fault: ReadFault) {
-    assert!(rt; has_fault(read_term(alloc, text), fault));
+/// How many variables the whole text has as a term.
+fn variables(alloc: Global, text: &[u8]) -> Result<u32, ReadFault> {
+    Ok(read_term(alloc, text)?.vars())
 }
 
-fn has_fault(read: Result<Pattern, ReadFault>, fault: ReadFault) -> bool {
-    match read {
-        Ok(_) => false,
-        Err(found) => found == fault,
+/// The place behind the last clause of a text; 0 where it has none.
+fn last_end(alloc: Global, text: &[u8]) -> Result<usize, ReadFault> {
+    let mut from = 0;
+    while let Some((_, behind)) = read_clause(alloc, text, from)? {
+        from = behind;
+    }
+    Ok(from)
+}
+
+/// The place behind the template at the front of a canonical text; 0 where none stands there.
+fn canonical_end(alloc: Global, text: &[u8]) -> Result<usize, AllocError> {
+    match read_canonical(alloc, text, 0)? {
+        Some((_, behind)) => Ok(behind),
+        None => Ok(0),
     }
 }
 
-/// Checks that the whole text is a term with so many variables.
-fn accept(rt: &impl Abort, alloc: Global, text: &[u8], variables: u32) {
-    assert!(rt; has_variables(read_term(alloc, text), variables));
-}
-
-fn has_variables(read: Result<Pattern, ReadFault>, variables: u32) -> bool {
-    match read {
-        Ok(term) => term.vars() == variables,
-        Err(_) => false,
-    }
-}
-
-/// Checks which clause is read from this place on, and what stands behind it; 0 where nothing is
-/// left.
-fn clause(rt: &impl Abort, alloc: Global, text: &[u8], from: usize, behind: usize) {
-    assert!(rt; from <= text.len());
-    assert!(rt; ends_at(read_clause(alloc, text, from), behind));
-}
-
-fn ends_at(read: Result<Option<(Pattern, usize)>, ReadFault>, behind: usize) -> bool {
-    match read {
-        Ok(Some((_, place))) => place == behind,
-        Ok(None) => behind == 0,
-        Err(_) => false,
-    }
-}
-
-/// Checks that this is the fault of the clause from this place on.
-fn no_clause(rt: &impl Abort, alloc: Global, text: &[u8], from: usize, fault: ReadFault) {
-    assert!(rt; from <= text.len());
-    assert!(rt; ends_with(read_clause(alloc, text, from), fault));
-}
-
-fn ends_with(read: Result<Option<(Pattern, usize)>, ReadFault>, fault: ReadFault) -> bool {
-    match read {
-        Ok(_) => false,
-        Err(found) => found == fault,
+/// Whether the front of the canonical text, up to this place, is the term that the other text is.
+fn is_same(alloc: Global, text: &[u8], behind: usize, same: &[u8]) -> Result<bool, ReadFault> {
+    match read_canonical(alloc, text, 0)? {
+        Some((found, place)) => {
+            let wanted = read_term(alloc, same)?;
+            Ok(place == behind && found.term() == wanted.term())
+        }
+        None => Ok(false),
     }
 }
 
 /// The start, this many times the part, and then the end.
-pub fn repeated(
+fn repeated(
     alloc: Global,
-    start: &[u8],
-    part: &[u8],
+    start: &str,
+    part: &str,
     times: u32,
-    end: &[u8],
+    end: &str,
 ) -> Result<Vec<u8>, AllocError> {
     let mut text = Vec::with_capacity(alloc, 4_000_000)?;
-    text.extend_from_slice(start)?;
+    text.extend_from_slice(start.as_bytes())?;
     for _ in 0..times {
-        text.extend_from_slice(part)?;
+        text.extend_from_slice(part.as_bytes())?;
     }
-    text.extend_from_slice(end)?;
+    text.extend_from_slice(end.as_bytes())?;
     Ok(text)
 }
 
 #[test]
 fn terms(rt: HostRuntime) {
-    let alloc = rt.alloc();
-    accept(&rt, alloc, b"1 - 2 - 3 * 4", 0);
-    accept(&rt, alloc, b"a - -1", 0);
-    accept(&rt, alloc, b"- 1", 0);
-    accept(&rt, alloc, b"[1,2|T]", 1);
-    accept(&rt, alloc, b"f(A,_,A,_)", 3);
-    accept(&rt, alloc, b"-9223372036854775808", 0);
-    accept(&rt, alloc, b"is is is", 0);
-    accept(&rt, alloc, b"'a''b' % a comment", 0);
-    accept(&rt, alloc, b"-(1) , X is Y mod 2 /* a comment */", 2);
-}
-
-#[test]
-fn faults(rt: HostRuntime) {
-    let alloc = rt.alloc();
-    refuse(&rt, alloc, b"9223372036854775808", ReadFault::WideInt(0));
-    refuse(&rt, alloc, b"- 9223372036854775808", ReadFault::WideInt(2));
-    refuse(
-        &rt,
-        alloc,
-        b"f( 9223372036854775809 .",
-        ReadFault::WideInt(3),
-    );
-    refuse(&rt, alloc, b"1 < 2 < 3", ReadFault::Syntax(0));
-    refuse(&rt, alloc, b"x.y", ReadFault::Syntax(1));
-    refuse(&rt, alloc, b"  ", ReadFault::Syntax(2));
-    refuse(&rt, alloc, b" 'a''", ReadFault::Syntax(4));
-    refuse(&rt, alloc, b"a /* b", ReadFault::Syntax(2));
-}
-
-#[test]
-fn clauses(rt: HostRuntime) {
-    let alloc = rt.alloc();
-    clause(&rt, alloc, b"a. b.", 0, 2);
-    clause(&rt, alloc, b"a. b.", 2, 5);
-    clause(&rt, alloc, b"a. b.", 5, 0);
-    clause(&rt, alloc, b"a .% c", 0, 3);
-    no_clause(&rt, alloc, b"a", 0, ReadFault::Syntax(1));
-    no_clause(&rt, alloc, b" .", 0, ReadFault::Syntax(1));
-    no_clause(&rt, alloc, b"a./* b", 0, ReadFault::Syntax(1));
-    no_clause(&rt, alloc, b"a. 1 < 2 < 3.", 2, ReadFault::Syntax(3));
-    no_clause(
-        &rt,
-        alloc,
-        b"a. f(9223372036854775808).",
-        2,
-        ReadFault::WideInt(5),
-    );
-    no_clause(&rt, alloc, b"a. b", 2, ReadFault::Syntax(4));
-    no_clause(&rt, alloc, b"a. b ! c.", 2, ReadFault::Syntax(5));
-}
-
-#[test]
-fn limits(rt: HostRuntime) -> Result<(), AllocError> {
-    let alloc = rt.alloc();
-    let most_open = repeated(alloc, b"", b"[", 199, b"[]")?;
-    refuse(&rt, alloc, &most_open, ReadFault::Syntax(0));
-    let too_many_open = repeated(alloc, b"", b"[", 200, b"[]")?;
-    refuse(&rt, alloc, &too_many_open, ReadFault::TooBig(0));
-    let many_variables = repeated(alloc, b"", b"_+", 255, b"_")?;
-    accept(&rt, alloc, &many_variables, 256);
-    let too_many_variables = repeated(alloc, b"", b"_+", 256, b"_")?;
-    refuse(&rt, alloc, &too_many_variables, ReadFault::TooMany(0));
-    let deep = repeated(alloc, b"", b"- ", 999, b"x")?;
-    accept(&rt, alloc, &deep, 0);
-    let too_deep = repeated(alloc, b"", b"- ", 1000, b"x")?;
-    refuse(&rt, alloc, &too_deep, ReadFault::TooBig(0));
-    let siblings = repeated(alloc, b"[[]", b",[]", 300, b"]")?;
-    accept(&rt, alloc, &siblings, 0);
-    let nodes = repeated(alloc, b"f(1", b",1", 9_998, b")")?;
-    accept(&rt, alloc, &nodes, 0);
-    let too_many_nodes = repeated(alloc, b" f(1", b",1", 9_999, b")")?;
-    refuse(&rt, alloc, &too_many_nodes, ReadFault::TooBig(1));
-    let letters = repeated(alloc, b"", b"a", 65_535, b"")?;
-    accept(&rt, alloc, &letters, 0);
-    let too_many_letters = repeated(alloc, b"", b"a", 65_536, b"")?;
-    refuse(&rt, alloc, &too_many_letters, ReadFault::TooBig(0));
-    Ok(())
-}
-
-#[test]
-fn chains(rt: HostRuntime) -> Result<(), AllocError> {
-    let alloc = rt.alloc();
-    let minuses = repeated(alloc, b"", b"- ", 1_000_000, b"x")?;
-    refuse(&rt, alloc, &minuses, ReadFault::TooBig(0));
-    let sums = repeated(alloc, b"", b"1+", 1_000_000, b"1")?;
-    refuse(&rt, alloc, &sums, ReadFault::TooBig(0));
-    let goals = repeated(alloc, b"", b"a,", 1_000_000, b"a")?;
-    refuse(&rt, alloc, &goals, ReadFault::TooBig(0));
-    let names = repeated(alloc, b"", b"_,", 1_000_000, b"_")?;
-    refuse(&rt, alloc, &names, ReadFault::TooMany(0));
-    Ok(())
-}
-
-/// Checks which bytes are quoted from this place on, and where they end; 0 where none are.
-fn quoted(rt: &impl Abort, alloc: Global, text: &[u8], from: usize, bytes: &[u8], behind: usize) {
-    assert!(rt; from <= text.len());
-    assert!(rt; holds(read_quoted(alloc, text, from), bytes, behind));
-}
-
-fn holds(read: Result<Option<(Vec<u8>, usize)>, AllocError>, bytes: &[u8], behind: usize) -> bool {
-    match read {
-        Ok(Some((found, place))) => found.as_slice() == bytes && place == behind,
-        Ok(None) => behind == 0,
-        Err(_) => false,
+    for (text, wanted) in [
+        ("1 - 2 - 3 * 4", Ok(0)),
+        ("[1,2|T] % a comment", Ok(1)),
+        ("f(A,_,A,_)", Ok(3)),
+        ("-(1) , X is Y mod 2 /* a comment */", Ok(2)),
+        ("is is is", Ok(0)),
+        ("'a''b'", Ok(0)),
+        ("-9223372036854775808", Ok(0)),
+        ("- 9223372036854775808", Err(ReadFault::WideInt(2))),
+        ("f( 9223372036854775809 .", Err(ReadFault::WideInt(3))),
+        ("1 < 2 < 3", Err(ReadFault::Syntax(0))),
+        ("x.y", Err(ReadFault::Syntax(1))),
+        (" 'a''", Err(ReadFault::Syntax(4))),
+        ("a /* b", Err(ReadFault::Syntax(2))),
+    ] {
+        assert!(rt; variables(rt.alloc(), text.as_bytes()) == wanted);
     }
 }
 
 #[test]
-fn quoted_texts(rt: HostRuntime) {
+fn clauses(rt: HostRuntime) {
+    for (text, wanted) in [
+        ("", Ok(0)),
+        ("a. b.", Ok(5)),
+        ("a .% c", Ok(3)),
+        ("a", Err(ReadFault::Syntax(1))),
+        (" .", Err(ReadFault::Syntax(1))),
+        ("a./* b", Err(ReadFault::Syntax(1))),
+        ("a. 1 < 2 < 3.", Err(ReadFault::Syntax(3))),
+        ("a. f(9223372036854775808).", Err(ReadFault::WideInt(5))),
+        ("a. b ! c.", Err(ReadFault::Syntax(5))),
+    ] {
+        assert!(rt; last_end(rt.alloc(), text.as_bytes()) == wanted);
+    }
+}
+
+#[test]
+fn limits(rt: HostRuntime) -> Result<(), ReadFault> {
+    for (start, part, times, end, wanted) in [
+        ("", "[", 199, "[]", Err(ReadFault::Syntax(0))),
+        ("", "[", 200, "[]", Err(ReadFault::TooBig(0))),
+        ("", "_+", 255, "_", Ok(256)),
+        ("", "_+", 256, "_", Err(ReadFault::TooMany(0))),
+        ("", "- ", 999, "x", Ok(0)),
+        ("", "- ", 1_000, "x", Err(ReadFault::TooBig(0))),
+        ("[[]", ",[]", 300, "]", Ok(0)),
+        ("f(1", ",1", 9_998, ")", Ok(0)),
+        (" f(1", ",1", 9_999, ")", Err(ReadFault::TooBig(1))),
+        ("", "a", 65_535, "", Ok(0)),
+        ("", "a", 65_536, "", Err(ReadFault::TooBig(0))),
+        ("", "- ", 1_000_000, "x", Err(ReadFault::TooBig(0))),
+        ("", "1+", 1_000_000, "1", Err(ReadFault::TooBig(0))),
+        ("", "a,", 1_000_000, "a", Err(ReadFault::TooBig(0))),
+        ("", "_,", 1_000_000, "_", Err(ReadFault::TooMany(0))),
+    ] {
+        let text = repeated(rt.alloc(), start, part, times, end)?;
+        assert!(rt; variables(rt.alloc(), &text) == wanted);
+    }
+    Ok(())
+}
+
+#[test]
+fn quoted_texts(rt: HostRuntime) -> Result<(), AllocError> {
+    for (text, wanted) in [
+        ("'a\\'b' x", Some(("a'b", 6))),
+        ("'a''b'", Some(("a", 3))),
+        ("'\\n\\t\\\\'", Some(("\n\t\\", 8))),
+        ("'a\tb'", None),
+        ("'ab", None),
+        ("", None),
+    ] {
+        let found = read_quoted(rt.alloc(), text.as_bytes(), 0)?;
+        let as_wanted = match (found, wanted) {
+            (Some((bytes, place)), Some((inside, behind))) => {
+                bytes.as_slice() == inside.as_bytes() && place == behind
+            }
+            (None, None) => true,
+            _ => false,
+        };
+        assert!(rt; as_wanted);
+    }
+    Ok(())
+}
+
+#[test]
+fn canonical_texts(rt: HostRuntime) -> Result<(), ReadFault> {
+    for (text, behind, same) in [
+        ("'-'('-'(1,2),'*'(3,4))", 22, "1 - 2 - 3 * 4"),
+        ("'-'(a,-1)", 9, "a - -1"),
+        ("'-'(1)", 6, "- 1"),
+        ("[1,2|_0]", 8, "[1,2|T]"),
+        ("[1]", 3, "'.'(1,[])"),
+        ("f(_0,_1,_0,_2)", 14, "f(A,_,A,_)"),
+        ("'a\\'\\n\\t\\\\'", 11, "'a''\\n\\t\\\\'"),
+        ("'[]'([[]|a],'.'(1))", 19, "'[]'('.'([],a), '.'(1))"),
+        ("01", 1, "0"),
+        ("f(_1)", 1, "f"),
+        ("f(_0,_2)", 1, "f"),
+        ("9223372036854775808", 18, "922337203685477580"),
+        ("'.'(a,b)", 3, "'.'"),
+        ("f( a)", 1, "f"),
+        ("f('g')", 1, "f"),
+        ("[](a)", 2, "[]"),
+    ] {
+        assert!(rt; is_same(rt.alloc(), text.as_bytes(), behind, same.as_bytes())?);
+    }
+    Ok(())
+}
+
+#[test]
+fn canonical_ends(rt: HostRuntime) -> Result<(), AllocError> {
+    for (start, part, times, end, behind) in [
+        ("", "", 0, "_1", 0),
+        ("", "", 0, "-0", 0),
+        ("", "", 0, "[a|[b]]", 0),
+        ("", "", 0, "'[]'", 0),
+        ("", "", 0, "'ab'(1)", 0),
+        ("", "", 0, "X", 0),
+        ("", "", 0, " a", 0),
+        ("", "a", 70_000, "", 65_535),
+        ("f(", "a", 65_534, ")", 65_537),
+        ("f(", "a", 65_535, ")", 1),
+        ("f(1", ",1", 9_998, ")", 20_000),
+        ("f(1", ",1", 9_999, ")", 1),
+        ("[1", ",1", 998, "]", 1_999),
+        ("[1", ",1", 999, "]", 0),
+        ("", "f(", 1_000_000, "a", 1),
+        ("", "[", 1_000_000, "a", 0),
+    ] {
+        let text = repeated(rt.alloc(), start, part, times, end)?;
+        assert!(rt; canonical_end(rt.alloc(), &text)? == behind);
+    }
+    Ok(())
+}
+
+/// A compound of the variables 0, 1, .., this many.
+fn numbered(alloc: Global, count: u64) -> Result<Vec<u8>, AllocError> {
+    let mut text = Vec::new(alloc);
+    text.extend_from_slice(b"f(_0")?;
+    for number in 1..count {
+        text.extend_from_slice(b",_")?;
+        append_number(number, &mut text)?;
+    }
+    text.push(b')')?;
+    Ok(text)
+}
+
+/// This many brackets around an atom.
+fn nested(alloc: Global, depth: u32) -> Result<Vec<u8>, AllocError> {
+    let mut text = repeated(alloc, "", "f(", depth, "a")?;
+    for _ in 0..depth {
+        text.push(b')')?;
+    }
+    Ok(text)
+}
+
+#[test]
+fn largest_texts(rt: HostRuntime) -> Result<(), AllocError> {
     let alloc = rt.alloc();
-    quoted(&rt, alloc, b"'a\\'b' x", 0, b"a'b", 6);
-    quoted(&rt, alloc, b"'a''b'", 0, b"a", 3);
-    quoted(&rt, alloc, b"x'\\n\\t\\\\'", 1, b"\n\t\\", 9);
-    quoted(&rt, alloc, b"'a\tb'", 0, b"", 0);
-    quoted(&rt, alloc, b"'ab", 0, b"", 0);
-    quoted(&rt, alloc, b"ab", 2, b"", 0);
+    assert!(rt; canonical_end(alloc, &numbered(alloc, 256)?)? == 1_172);
+    assert!(rt; canonical_end(alloc, &numbered(alloc, 257)?)? == 1);
+    assert!(rt; canonical_end(alloc, &nested(alloc, 999)?)? == 2_998);
+    assert!(rt; canonical_end(alloc, &nested(alloc, 1_000)?)? == 1);
+    Ok(())
 }

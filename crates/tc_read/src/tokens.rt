@@ -38,3 +38,6 @@ pub enum Token<'a> {
     Comma,
     Bar,
 }
+
+/// The tokens that are left.
+pub type Tokens<'a> = &'a [Token<'a>];

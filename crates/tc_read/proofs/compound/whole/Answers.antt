@@ -3,8 +3,9 @@ use Rattle.std.proofs.lemmas.List.{length-reverse}
 use Rattle.tc_term.specs.Tree.{Compound, nodes_of_all, depth_of_all, name_bytes_of_all}
 use Rattle.tc_term.specs.TreeView.{tree_of, trees_of}
 use Rattle.tc_read.specs.Kept.{all_nodes, all_depth, all_name_bytes, fits, small_if, whole}
-use Rattle.tc_read.proofs.Built.{map-reverse, nodes_of, depth_of, name_bytes_of, whole_of}
+use Rattle.tc_read.proofs.Built.{nodes_of, depth_of, name_bytes_of, whole_of}
 use Rattle.tc_read.proofs.compound.whole.Goals as goal
+use Rattle.tc_lists.proofs.Reversals.{map-reverse}
 
 pub item-requires-clause-counted : goal.item-requires-clause-counted
 item-requires-clause-counted c =

@@ -1,8 +1,9 @@
 use Rattle.std.proofs.Common.{◌≡◌, sym, ◌∙◌, refl, length, false}
 use Rattle.tc_term.specs.Layouts.{TextEnd}
 use Rattle.tc_term.specs.Faults.{Ended, IsRead, first_wide}
-use Rattle.tc_read.proofs.Answering.{answer_of, to_read, not_some, no_end}
+use Rattle.tc_read.proofs.Answering.{answer_of, to_read, no_end}
 use Rattle.tc_read.proofs.read.read_term.Goals as goal
+use Rattle.tc_lists.proofs.Options.{none_from_never}
 
 pub returns-in-ClauseEnd : goal.returns-in-ClauseEnd
 returns-in-ClauseEnd c =
@@ -12,7 +13,7 @@ returns-in-ClauseEnd c =
 pub returns : goal.returns
 returns c =
     let s = c.in_ok-gathered.ensures in
-    let narrow : first_wide s.0 ≡ _ = sym s.2.wide ∙ not_some c.in_ok-gathered.field-0.gathered.wide c.in_default.not-Some in
+    let narrow : first_wide s.0 ≡ _ = sym s.2.wide ∙ none_from_never c.in_ok-gathered.field-0.gathered.wide c.in_default.not-Some in
     answer_of (Ended (length c.args.text.now) s.0 TextEnd) (IsRead false (length c.args.text.now) c.args.text.now)
     (λ a h. to_read false (length c.args.text.now) c.args.text.now s.0 TextEnd (rw c.in-TextEnd.is at s.1) narrow a h)
     (length c.args.text.now) c.read_tokens.result

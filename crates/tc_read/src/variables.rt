@@ -6,13 +6,14 @@ ghost use Rattle.tc_term.specs.Faults.{is_anonymous, known_after, learned, numbe
 
 use std::alloc::Global;
 use tc_lists::NoMemory;
+use tc_term::MAX_VARIABLES;
 
 /// How many variables are told apart: one more than a template may have.
-const MOST: usize = 257;
+const MOST: usize = MAX_VARIABLES + 1;
 
 /// The variables so far. A `_` alone has an empty name.
 #[derive(Drop)]
-pub struct Names<'a> {
+pub struct Variables<'a> {
     pub known: Vec<&'a [u8]>,
     ghost few: { vec_len known ≤ 257 },
 }
@@ -24,14 +25,14 @@ fn is_anonymous(name: &[u8]) -> bool
     name == b"_".as_slice()
 }
 
-impl<'a> Names<'a> {
-    ghost use Rattle.tc_read.specs.Names.{names_view};
+impl<'a> Variables<'a> {
+    ghost use Rattle.tc_read.specs.Variables.{names_view};
 
     /// No variables yet.
-    pub fn new(alloc: Global) -> Names<'a>
+    pub fn new(alloc: Global) -> Variables<'a>
         ensures { names_view result ≡ [] }
     {
-        Names {
+        Variables {
             known: Vec::new(alloc),
         }
     }

@@ -1,0 +1,57 @@
+//! Names in canonical text: plain words, and quoted ones that cannot be written plainly.
+ghost use Rattle.std.specs.Prelude.{◌≡◌, ◌∷◌, IfOk, List, ℕ};
+ghost use Rattle.tc_term.specs.Text.{is_name};
+ghost use Rattle.tc_read.specs.Front.{name_at, quoted_at, unplain};
+ghost use Rattle.tc_read.specs.Seen.{name_seen};
+
+use crate::layout::next_byte;
+use crate::lexeme::word_length;
+use crate::quote::read_quoted;
+use crate::read::rest_from;
+use std::alloc::Global;
+use tc_lists::NoMemory;
+use tc_term::Name;
+
+/// A name, if one stands there, and what stands behind it.
+pub type ReadName<'a> = Result<Option<(Name, &'a [u8])>, NoMemory>;
+
+/// Whether the bytes have the form of a name token.
+fn is_name(name: &[u8]) -> bool
+    ensures { result ≡ is_name name.now }
+{
+    match next_byte(name) {
+        None => false,
+        Some((first, rest)) => first.is_ascii_lowercase() && word_length(rest) == rest.len(),
+    }
+}
+
+/// The name whose quoted text stands at the front, unless it can be written plainly.
+fn quoted_name<'a>(alloc: Global, bytes: &'a [u8]) -> ReadName<'a>
+    ensures { (s : List ℕ) → bytes.now ≡ 39 ∷ s
+        → IfOk result (λ r. name_seen r ≡ unplain (quoted_at s)) }
+{
+    let Some((name, end)) = read_quoted(alloc, bytes, 0)? else {
+        return Ok(None);
+    };
+    if is_name(&name) {
+        return Ok(None);
+    }
+    Ok(Some((Name::from_vec(name), rest_from(bytes, end))))
+}
+
+/// The name at the front, and what stands behind it. A plain one has at most so many bytes.
+pub fn name_at<'a>(alloc: Global, bytes: &'a [u8], limit: usize) -> ReadName<'a>
+    ensures { IfOk result (λ r. name_seen r ≡ name_at limit bytes.now) }
+{
+    match next_byte(bytes) {
+        None => Ok(None),
+        Some((b'\'', _)) => quoted_name(alloc, bytes),
+        Some((first, _)) => {
+            if first.is_ascii_lowercase() && limit > 0 {
+                let (word, rest) = bytes.split_at(word_length(bytes).min(limit));
+                return Ok(Some((Name::new(alloc, word)?, rest)));
+            }
+            Ok(None)
+        }
+    }
+}
