@@ -8,3 +8,4 @@ pub mod NextEntry
 pub mod WaitingCalls
 pub mod Rules
 pub mod Names
+pub mod TypedStates

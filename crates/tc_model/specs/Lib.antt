@@ -2,6 +2,7 @@ pub mod Choices
 pub mod Events
 pub mod Reactions
 pub mod ReactionViews
+pub mod Within
 pub mod Tuples
 pub mod Goals
 pub mod Bodies

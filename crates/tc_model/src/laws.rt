@@ -5,7 +5,7 @@ ghost use Rattle.tc_model.specs.declared.calls.CallId.{CallId};
 ghost use Rattle.tc_model.specs.declared.entries.Entry.{Entry};
 ghost use Rattle.tc_model.specs.declared.outcomes.Reply.{Reply};
 ghost use Rattle.tc_model.specs.Choices.{Choice};
-ghost use Rattle.tc_model.specs.State.{State, Origin, opening, after_history};
+ghost use Rattle.tc_model.specs.State.{State, Origin, IsOrigin, IsTypedState, opening, after_history};
 ghost use Rattle.tc_model.specs.Waiting.{NeverWaits, GivesNothing, AreWaiting};
 ghost use Rattle.tc_model.specs.Events.{Occurrence, Setting};
 ghost use Rattle.tc_model.specs.Reactions.{Rule};
@@ -19,6 +19,7 @@ ghost use Rattle.tc_model.specs.Calls.{id_of, calls_of};
 ghost use Rattle.tc_model.specs.Replies.{reply_in};
 ghost use Rattle.tc_model.specs.Run.{IsRunBy, IsRun, IsFirstRun};
 ghost use Rattle.tc_model.specs.Entries.{IsWellFormed, weight};
+ghost use Rattle.tc_model.specs.Typed.{IsTyped, IsTypedCall};
 
 /// A run in which every choice is the first is a run.
 pub fn first_run_is_run()
@@ -42,6 +43,12 @@ pub fn numbers_rise()
 pub fn run_is_well_formed()
     ensures { (origin : Origin) (history : List Entry)
         → IsRun origin history → All IsWellFormed history }
+{}
+
+/// A typed history leads from an origin to a typed state: all its tuples are tuples.
+pub fn typed_history_leads_to_a_typed_state()
+    ensures { (origin : Origin) (history : List Entry) → IsOrigin origin → All IsTyped history
+        → IsTypedState (after_history (opening origin) history) }
 {}
 
 /// A reply stays the same however the history goes on.
