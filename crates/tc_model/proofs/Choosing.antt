@@ -1,17 +1,16 @@
 -- What is allowed where each choice is the first is allowed where any choice is.
-use Rattle.std.proofs.Common.{◌≡◌, ◌+◌, ℕ, List, [], ◌∷◌, Contains, take, arith}
-use Rattle.tc_lists.specs.Firsts.{IsFirst}
+use Rattle.std.proofs.Common.{ℕ, List, [], ◌∷◌, take, arith}
 use Rattle.tc_lists.proofs.Firsts.{IsFirst-contains}
 use Rattle.tc_term.specs.Tree.{Tree}
 use Rattle.tc_model.specs.Choices.{AnyOne, TheFirst, IsChosen}
 use Rattle.tc_model.specs.Events.{Occurrence, Setting}
 use Rattle.tc_model.specs.Reactions.{Rule}
 use Rattle.tc_model.specs.Goals.{Scene, Moment, Move, moved, Does, IsStep, Leads}
-use Rattle.tc_model.specs.Bodies.{scene_of, beginning, IsFired, IsFailed, IsBody}
-use Rattle.tc_model.specs.Cascades.{Wave, pick_of, IsTried, Cascades, Begins, IsWhole, IsOver}
+use Rattle.tc_model.specs.Bodies.{scene_of, beginning, IsBody}
+use Rattle.tc_model.specs.Cascades.{Wave, IsTried, Cascades, Begins, IsWhole, IsOver}
 use Rattle.tc_model.specs.State.{State, Origin, IsAnswerable}
 use Rattle.tc_model.specs.Tables.{IsServed, IsGiven, IsChosenTuple}
-use Rattle.tc_model.specs.Run.{IsAnswered, IsLegal}
+use Rattle.tc_model.specs.Run.{IsLegal}
 use Rattle.tc_model.specs.declared.calls.CallId.{CallId}
 use Rattle.tc_model.specs.declared.calls.Op.{Op}
 use Rattle.tc_model.specs.declared.calls.Op.TheVariants.{Out, In, Rd, Inp, Rdp, SetSpec, GetSpec}

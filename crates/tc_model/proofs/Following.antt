@@ -4,7 +4,7 @@ use Rattle.tc_term.specs.Tree.{Tree}
 use Rattle.tc_model.specs.Choices.{Choice}
 use Rattle.tc_model.specs.Events.{Occurrence, Setting}
 use Rattle.tc_model.specs.Reactions.{Rule}
-use Rattle.tc_model.specs.Tuples.{after_effect, after_effects, after_item, after_items}
+use Rattle.tc_model.specs.Tuples.{after_effect, after_effects, after_items}
 use Rattle.tc_model.specs.Goals.{Scene, Moment, Move, Nothing, Equates, Puts, Takes, Reads, moved, Leads}
 use Rattle.tc_model.specs.Cascades.{Wave, Cascades, Begins}
 use Rattle.tc_model.specs.declared.goals.Goal.{Goal}

@@ -9,3 +9,4 @@ pub mod WaitingCalls
 pub mod Rules
 pub mod Names
 pub mod TypedStates
+pub mod TypedRuns

@@ -2,7 +2,7 @@
 use Rattle.std.proofs.Common.{◌≡◌, ℕ, zero, suc, add-one, ◌<◌, ◌≤◌, ⊎_elim, List, [], ◌∷◌, ◌++◌, Some, None, All}
 use Rattle.std.proofs.Common.{length, get_or, take, slice_get, refl, sym, ap, ◌∙◌, subst, arith}
 use Rattle.std.proofs.lemmas.List.{take-append-le, take_at, take_more, take_all}
-use Rattle.std.proofs.lemmas.Option.{slice_get_within, slice_get-get_or, slice_get_cases}
+use Rattle.std.proofs.lemmas.Option.{slice_get_within, slice_get-get_or, slice_get_cases, get_or_from_slice_get}
 use mathlib.Core.List.{IsPrefix}
 use Rattle.tc_lists.proofs.Places.{slice_get_push, slice_get_longer}
 use Rattle.tc_model.specs.Choices.{AnyOne}
@@ -67,6 +67,15 @@ pub EachEntry-keeps : (R : List Entry → State → Entry → Type 0) (s : State
 EachEntry-keeps R s P none more history each =
     subst P (take_all (length history) history (omega arith))
     (EachEntry-keeps-take R s P none more history each (length history) (omega arith))
+
+-- the same, where each entry has a property of its own
+pub EachEntry-keeps-along : (R : List Entry → State → Entry → Type 0) (s : State) (Q : Entry → Type 0) (P : List Entry → Type 0)
+    → P []
+    → ((before : List Entry) (e : Entry) → P before → R before (after_history s before) e → Q e → P (before ++ e ∷ []))
+    → (history : List Entry) → EachEntry R s history → All Q history → P history
+EachEntry-keeps-along R s Q P none more history each all =
+    EachEntry-keeps (λ before t e. R before t e × Q e) s P none (λ before e so_far h. more before e so_far h.0 h.1) history
+    (λ k e at. (each k e at, subst Q (get_or_from_slice_get history k e e at) (all k e (slice_get_within history k e at))))
 
 pub IsRun-first : (origin : Origin) (history : List Entry) → IsFirstRun origin history → IsRun origin history
 IsRun-first origin history first k e h =

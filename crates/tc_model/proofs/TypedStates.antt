@@ -4,11 +4,10 @@ use Rattle.std.proofs.lemmas.List.Elements.{All-nil, All-cons, All-head, All-tai
 use Rattle.tc_term.specs.Tree.{Tree, IsTuple}
 use Rattle.tc_term.specs.Same.{same_tree}
 use Rattle.tc_model.specs.Calls.{same_id}
-use Rattle.tc_model.specs.Reactions.{AreClauses}
 use Rattle.tc_model.specs.Tuples.{without_first, after_effect, after_effects, after_item, after_items}
-use Rattle.tc_model.specs.Typed.{IsTypedId, IsTypedOp, IsTypedRequest, IsTypedEffect, IsTypedItem, IsTypedOutcome, IsTyped}
+use Rattle.tc_model.specs.Typed.{IsTypedId, IsTypedOp, IsTypedRequest, IsTypedEffect, IsTypedItem, IsTyped}
 use Rattle.tc_model.specs.State.{State, Origin, IsOrigin, IsTypedState, opening, without_request, takes_tuple}
-use Rattle.tc_model.specs.State.{after_taking, after_search, unless_over, reached_by, after_call, after_answer, after_entry, after_history}
+use Rattle.tc_model.specs.State.{after_taking, after_search, unless_over, reached_by, after_answer, after_entry, after_history}
 use Rattle.tc_model.specs.declared.calls.CallId.{CallId}
 use Rattle.tc_model.specs.declared.calls.Op.{Op}
 use Rattle.tc_model.specs.declared.calls.Op.TheVariants.{Out, In, Rd, Inp, Rdp, SetSpec, GetSpec}

@@ -7,7 +7,7 @@ use Rattle.tc_model.specs.Events.{Occurrence, Setting}
 use Rattle.tc_model.specs.Reactions.{Rule}
 use Rattle.tc_model.specs.Cascades.{Wave, IsTried, Cascades, IsWhole, IsOver}
 use Rattle.tc_model.specs.State.{State, Origin}
-use Rattle.tc_model.specs.Tables.{IsServed, IsGiven, setting_of}
+use Rattle.tc_model.specs.Tables.{IsServed, IsGiven}
 use Rattle.tc_model.specs.Run.{IsLegal}
 use Rattle.tc_model.specs.Entries.{IsOutcomeWellFormed, IsAnswerOutcome, IsNumbered, IsWellFormed}
 use Rattle.tc_model.specs.declared.calls.CallId.{CallId}

@@ -1,5 +1,5 @@
 -- The state of a centre, and what each entry of its history makes of it.
-use Rattle.std.specs.Prelude.{◌≡◌, ◌≢◌, ℕ, ◌<◌, ◌≤◌, ◌^◌, Bool, true, false, if◌then◌else◌}
+use Rattle.std.specs.Prelude.{◌≢◌, ℕ, ◌<◌, ◌≤◌, ◌^◌, Bool, true, false, if◌then◌else◌}
 use Rattle.std.specs.Prelude.{List, [], ◌∷◌, ◌++◌, All, AllPairs, Contains, length}
 use Rattle.tc_lists.specs.Firsts.{NoneOf}
 use Rattle.tc_term.specs.Tree.{Tree, IsTuple}

@@ -1,5 +1,5 @@
 -- The tables of calls and of answers: which outcome and which reactions each may have.
-use Rattle.std.specs.Prelude.{◌≡◌, ℕ, Bool, true, false, Some, None, List, [], ◌∷◌, ◌++◌, if◌then◌else◌}
+use Rattle.std.specs.Prelude.{◌≡◌, Bool, Some, None, List, [], ◌∷◌, ◌++◌, if◌then◌else◌}
 use Rattle.std.proofs.Common.{get_or}
 use Rattle.tc_lists.specs.Firsts.{NoneOf}
 use Rattle.tc_term.specs.Tree.{Tree}

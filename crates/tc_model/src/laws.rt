@@ -45,6 +45,12 @@ pub fn run_is_well_formed()
         → IsRun origin history → All IsWellFormed history }
 {}
 
+/// A run of first choices whose calls are typed is typed, with all the reactions that it records.
+pub fn first_run_is_typed()
+    ensures { (origin : Origin) (history : List Entry) → IsOrigin origin
+        → IsFirstRun origin history → All IsTypedCall history → All IsTyped history }
+{}
+
 /// A typed history leads from an origin to a typed state: all its tuples are tuples.
 pub fn typed_history_leads_to_a_typed_state()
     ensures { (origin : Origin) (history : List Entry) → IsOrigin origin → All IsTyped history

@@ -26,9 +26,9 @@ pub use faults::{BadSpec, SpecCause};
 pub use goals::Goal;
 pub use items::{Effect, Item};
 pub use laws::{
-    beginning_is_run, entries_fix_the_state, first_run_is_run, nothing_waits_uncalled,
-    numbers_rise, reply_stays, run_is_well_formed, typed_history_leads_to_a_typed_state,
-    waiting_calls_have_no_reply, weights_add,
+    beginning_is_run, entries_fix_the_state, first_run_is_run, first_run_is_typed,
+    nothing_waits_uncalled, numbers_rise, reply_stays, run_is_well_formed,
+    typed_history_leads_to_a_typed_state, waiting_calls_have_no_reply, weights_add,
 };
 pub use limits::{
     MOST_BUDGET, MOST_CLAUSES, MOST_GOALS, MOST_NAME_BYTES, MOST_TUPLES, MOST_WEIGHT,
