@@ -41,6 +41,10 @@ pub(crate) enum Heads {
     Clash,
     /// They are one atom or one number.
     Same,
+    /// They are equal where their last arguments are: what stands before is one node.
+    Last {
+        arguments: (usize, usize),
+    },
     /// They are equal where both pairs are.
     Pairs {
         arguments: (usize, usize),
@@ -186,9 +190,15 @@ impl Arena {
                     argument: last,
                 },
             ) => {
-                Heads::Pairs {
-                    arguments: (argument, last),
-                    heads: (head, other),
+                if head == other {
+                    Heads::Last {
+                        arguments: (argument, last),
+                    }
+                } else {
+                    Heads::Pairs {
+                        arguments: (argument, last),
+                        heads: (head, other),
+                    }
                 }
             }
             (Node::Atom { .. }, Node::Int(_)) => Heads::Clash,

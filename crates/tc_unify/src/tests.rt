@@ -2,8 +2,8 @@
 ghost use Rattle.std.specs.Prelude.{◌+◌, ◌<◌};
 ghost use mathlib.Core.List.{IsPrefix};
 
-use crate::Part;
 use crate::samples::{Sample, as_is, compound, repeated, term};
+use crate::{Part, Store};
 use std::alloc::Global;
 use std::process::Abort;
 use std::test::Fail;
@@ -336,4 +336,16 @@ fn undo_goes_back_to_the_values_before(rt: HostRuntime) -> Result<(), Fail> {
     adds(&rt, alloc, &mut sample, "f(f(b))", "f(A)", true)?;
     has_value(&rt, alloc, &sample, "g(A,B)", Some("g(f(b),b)"))?;
     has_value(&rt, alloc, &sample, "C", None)
+}
+
+#[test]
+fn a_renewed_store_takes_what_it_refused(rt: HostRuntime) -> Result<(), Fail> {
+    let mut store = Store::new(rt.alloc(), 2)?;
+    let x = Term::Var(1);
+    let first = store.equate(&x, &Term::Int(7))?;
+    let second = store.equate(&x, &Term::Int(8))?;
+    store.renew(2)?;
+    let third = store.equate(&x, &Term::Int(8))?;
+    assert!(rt; first && !second && third);
+    Ok(())
 }

@@ -71,6 +71,11 @@ fn meet(
             links.join(from, to)?;
             Ok(true)
         }
+        Heads::Last { arguments } => {
+            waiting.push(arguments)?;
+            links.join(from, to)?;
+            Ok(true)
+        }
         Heads::Pairs { arguments, heads } => {
             waiting.push(arguments)?;
             waiting.push(heads)?;

@@ -97,3 +97,25 @@ returns-then-from-ge-FIRST_NAME-clause-failed c = λ failed.
 
 pub returns-then-from-ge-FIRST_NAME-clause-nodes : goal.returns-then-from-ge-FIRST_NAME-clause-nodes
 returns-then-from-ge-FIRST_NAME-clause-nodes c = waiting_nodes c.args.arena.now c.args.links.now c.args.waiting.now.items c.args.pair c.max-from.result c.min-to.result c.requires.linked c.requires.nodes (high c.max-from.ensures c.end-left.ensures c.end-right.ensures) (low c.min-to.ensures c.end-left.ensures c.end-right.ensures)
+
+pub join-requires-in-Last-clause-place : goal.join-requires-in-Last-clause-place
+join-requires-in-Last-clause-place c = from_place c.args.arena.now c.args.links.now c.args.waiting.now.items c.args.pair c.max-from.result c.min-to.result c.requires.linked c.requires.nodes (high c.max-from.ensures c.end-left.ensures c.end-right.ensures) (low c.min-to.ensures c.end-left.ensures c.end-right.ensures) (inl c.if-from-ge-FIRST_NAME.false)
+
+pub join-requires-in-Last-clause-free : goal.join-requires-in-Last-clause-free
+join-requires-in-Last-clause-free c = from_free c.args.arena.now c.args.links.now c.args.waiting.now.items c.args.pair c.max-from.result c.min-to.result c.requires.linked c.requires.nodes (high c.max-from.ensures c.end-left.ensures c.end-right.ensures) (low c.min-to.ensures c.end-left.ensures c.end-right.ensures)
+
+pub returns-in_ok-join-in-Last-clause-linked : goal.returns-in_ok-join-in-Last-clause-linked
+returns-in_ok-join-in-Last-clause-linked c = linked_after c.args.arena.now c.args.links.now c.args.waiting.now.items c.args.pair c.max-from.result c.min-to.result c.requires.linked c.requires.nodes (high c.max-from.ensures c.end-left.ensures c.end-right.ensures) (low c.min-to.ensures c.end-left.ensures c.end-right.ensures) c.join-in-Last.new.self (inl c.if-from-ge-FIRST_NAME.false) c.if-from-to.false c.in_ok-join-in-Last.ensures.link c.in_ok-join-in-Last.ensures.extends.terms c.in_ok-join-in-Last.ensures.extends.variables c.in_ok-join-in-Last.ensures.trail
+
+pub returns-in_err-join-in-Last-clause-linked : goal.returns-in_err-join-in-Last-clause-linked
+returns-in_err-join-in-Last-clause-linked c = IsLinked-same _ _ _ c.requires.linked c.in_err-join-in-Last.ensures.same c.join-in-Last.ensures.extends.terms c.join-in-Last.ensures.extends.variables c.in_err-join-in-Last.ensures.same_trail
+
+pub returns-in_ok-join-in-Last-clause-met : goal.returns-in_ok-join-in-Last-clause-met
+returns-in_ok-join-in-Last-clause-met c = λ met.
+    subst (λ ws. Leads c.args.arena.now c.args.links.now (c.args.waiting.now.items ++ c.args.pair ∷ []) c.join-in-Last.new.self ws) (sym c.in_ok-push-in-Last.ensures.items)
+    (leads_joined c.args.arena.now c.args.links.now c.args.waiting.now.items c.args.pair c.max-from.result c.min-to.result c.requires.linked c.requires.nodes (high c.max-from.ensures c.end-left.ensures c.end-right.ensures) (low c.min-to.ensures c.end-left.ensures c.end-right.ensures) c.join-in-Last.new.self (c.in-Last.arguments ∷ []) c.in_ok-join-in-Last.ensures.link c.in-Last.ensures.0)
+
+pub returns-in_ok-join-in-Last-clause-nodes : goal.returns-in_ok-join-in-Last-clause-nodes
+returns-in_ok-join-in-Last-clause-nodes c =
+    subst (AreNodesOf c.args.arena.now) (sym c.in_ok-push-in-Last.ensures.items)
+    (All-append (λ p. IsNodeOf c.args.arena.now p.0 × IsNodeOf c.args.arena.now p.1) c.args.waiting.now.items (c.in-Last.arguments ∷ []) (waiting_nodes c.args.arena.now c.args.links.now c.args.waiting.now.items c.args.pair c.max-from.result c.min-to.result c.requires.linked c.requires.nodes (high c.max-from.ensures c.end-left.ensures c.end-right.ensures) (low c.min-to.ensures c.end-left.ensures c.end-right.ensures)) c.in-Last.ensures.1)

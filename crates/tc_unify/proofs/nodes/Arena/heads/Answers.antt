@@ -1,13 +1,14 @@
-use Rattle.std.proofs.Common.{◌≡◌, ap, sym, ◌∙◌, arith, true≢false, ℕ, ◌<◌, length, get_or, subst₂, of_z, w64}
+use Rattle.std.proofs.Common.{◌≡◌, ap, sym, ◌∙◌, arith, true≢false, ℕ, ◌<◌, [], ◌∷◌, length, get_or, subst, subst₂, of_z, w64}
 use Rattle.std.proofs.lemmas.Int.{ints}
+use Rattle.std.proofs.lemmas.List.Elements.{All-cons, All-head, All-nil}
 use Rattle.tc_unify.specs.declared.nodes.Node.TheVariants.{Atom, Int, Apply}
-use Rattle.tc_unify.specs.Arena.{shape_of, IsArena, node_shape}
+use Rattle.tc_unify.specs.Arena.{shape_of, IsArena, IsNodeOf, node_shape}
 use Rattle.tc_unify.specs.declared.nodes.Node.{Node}
 use Rattle.tc_unify.specs.declared.nodes.Arena.{Arena}
-use Rattle.tc_unify.specs.Solutions.{Clashes}
+use Rattle.tc_unify.specs.Solutions.{Clashes, Joins}
 use Rattle.tc_unify.specs.Nodes.{AtomNode, NumberNode}
 use Rattle.tc_unify.proofs.Arenas.{shape_of-read, names_decided, named_nodes}
-use Rattle.tc_unify.proofs.Steps.{KindsDiffer, joins_same, joins_apply, clash_atoms, clash_numbers, clash_kinds}
+use Rattle.tc_unify.proofs.Steps.{KindsDiffer, joins_same, joins_apply, joins_last, clash_atoms, clash_numbers, clash_kinds}
 use Rattle.tc_unify.proofs.nodes.Arena.heads.Goals as goal
 
 clash_of : (a : Arena) (j k : ℕ) (x y m n : Node) → IsArena a → j < length a.nodes.items → k < length a.nodes.items → x ≡ get_or a.nodes.items j x → y ≡ get_or a.nodes.items k y → x ≡ m → y ≡ n → KindsDiffer (node_shape a.text.items m) (node_shape a.text.items n) → Clashes (shape_of a) j k
@@ -46,8 +47,26 @@ returns-else-m-n c =
     let right = shape_of-read a c.args.b _ (Int c.in-Int-Int.n) c.requires.arena c.requires.right c.index-2.ensures c.in-Int-Int.is-1 in
     clash_numbers (shape_of a) c.args.a c.args.b _ _ c.requires.arena.order left right (λ e. c.if-m-n.false (ap (of_z w64) e))
 
-pub returns-in-Apply-Apply : goal.returns-in-Apply-Apply
-returns-in-Apply-Apply c =
+pub returns-then-head-other : goal.returns-then-head-other
+returns-then-head-other c =
+    let a = c.args.self.now in
+    let x = c.in-Apply-Apply.argument in
+    let y = c.in-Apply-Apply.last in
+    let head = c.in-Apply-Apply.head in
+    let same : head ≡ c.in-Apply-Apply.other = c.if-head-other.true in
+    let left = shape_of-read a c.args.a _ (Apply head x) c.requires.arena c.requires.left c.index.ensures c.in-Apply-Apply.is-0 in
+    let right = shape_of-read a c.args.b _ (Apply c.in-Apply-Apply.other y) c.requires.arena c.requires.right c.index-2.ensures c.in-Apply-Apply.is-1 in (
+      joins_last (shape_of a) c.args.a c.args.b x y head
+          (subst (λ g. Joins (shape_of a) c.args.a c.args.b ((x, y) ∷ (head, g) ∷ [])) (sym same)
+          (joins_apply (shape_of a) c.args.a c.args.b _ _ _ _ c.requires.arena.order left right)),
+      All-cons (λ p. IsNodeOf a p.0 × IsNodeOf a p.1) (x, y) []
+          (All-head (λ p. IsNodeOf a p.0 × IsNodeOf a p.1) (x, y) ((head, c.in-Apply-Apply.other) ∷ [])
+          (named_nodes a c.args.a c.args.b _ _ _ _ c.requires.arena c.requires.left c.requires.right left right))
+          (All-nil (λ p. IsNodeOf a p.0 × IsNodeOf a p.1)),
+    )
+
+pub returns-else-head-other : goal.returns-else-head-other
+returns-else-head-other c =
     let a = c.args.self.now in
     let left = shape_of-read a c.args.a _ (Apply c.in-Apply-Apply.head c.in-Apply-Apply.argument) c.requires.arena c.requires.left c.index.ensures c.in-Apply-Apply.is-0 in
     let right = shape_of-read a c.args.b _ (Apply c.in-Apply-Apply.other c.in-Apply-Apply.last) c.requires.arena c.requires.right c.index-2.ensures c.in-Apply-Apply.is-1 in (
