@@ -44,7 +44,7 @@ pub fn quotient(x: i64, y: i64) -> Option<i64>
 }
 
 /// The remainder that has the sign of the divisor.
-#[tactic(auto, using(crate::proofs::Remainders::above, crate::proofs::Remainders::minus_one, crate::proofs::Remainders::below_whole, crate::proofs::Remainders::below_part))]
+#[tactic(auto, using(crate::proofs::Remainders::remainders))]
 pub fn modulo(x: i64, y: i64) -> i64
     requires { y ≢ pos 0 }
     ensures { result ≡ modulo x y }
