@@ -57,7 +57,6 @@ fn prints(rt: &impl Abort, alloc: Global, t: &Term, want: &[u8]) -> Result<(), F
     text.extend_from_slice(b"> ")?;
     assert!(rt; fits(t));
     print_term(alloc, t, &mut text)?;
-    assert!(rt; text.starts_with(b"> "));
     assert_eq!(rt; &text[2..], want);
     Ok(())
 }
@@ -65,44 +64,25 @@ fn prints(rt: &impl Abort, alloc: Global, t: &Term, want: &[u8]) -> Result<(), F
 #[test]
 fn operators_are_quoted_names(rt: HostRuntime) -> Result<(), Fail> {
     let alloc = rt.alloc();
-    let left = two(alloc, b"-", Term::Int(1), Term::Int(2))?;
-    let right = two(alloc, b"*", Term::Int(3), Term::Int(4))?;
-    let t = two(alloc, b"-", left, right)?;
-    prints(&rt, alloc, &t, b"'-'('-'(1,2),'*'(3,4))")
-}
-
-#[test]
-fn numbers_have_a_minus_and_no_space(rt: HostRuntime) -> Result<(), Fail> {
-    let alloc = rt.alloc();
-    prints(&rt, alloc, &one(alloc, b"-", Term::Int(1))?, b"'-'(1)")?;
-    prints(
-        &rt,
-        alloc,
-        &two(alloc, b"-", Term::Int(0), Term::Int(-1))?,
-        b"'-'(0,-1)",
-    )?;
-    prints(&rt, alloc, &Term::Int(i64::MIN), b"-9223372036854775808")
+    let negative = two(alloc, b"-", Term::Int(0), Term::Int(-1))?;
+    let t = two(alloc, b"*", negative, Term::Int(i64::MIN))?;
+    prints(&rt, alloc, &t, b"'*'('-'(0,-1),-9223372036854775808)")
 }
 
 #[test]
 fn lists_are_brackets(rt: HostRuntime) -> Result<(), Fail> {
     let alloc = rt.alloc();
     let open = two(alloc, b".", Term::Int(2), Term::Var(7))?;
-    prints(
-        &rt,
-        alloc,
-        &two(alloc, b".", Term::Int(1), open)?,
-        b"[1,2|_0]",
-    )?;
-    prints(&rt, alloc, &zeros(alloc, 1)?, b"[0]")?;
-    prints(&rt, alloc, &zeros(alloc, 0)?, b"[]")
+    let list = two(alloc, b".", Term::Int(1), open)?;
+    prints(&rt, alloc, &list, b"[1,2|_0]")
 }
 
 #[test]
 fn names_of_lists_are_quoted_elsewhere(rt: HostRuntime) -> Result<(), Fail> {
     let alloc = rt.alloc();
-    prints(&rt, alloc, &one(alloc, b".", zeros(alloc, 0)?)?, b"'.'([])")?;
-    prints(&rt, alloc, &one(alloc, b"[]", Term::Int(1))?, b"'[]'(1)")
+    let inner = one(alloc, b"[]", zeros(alloc, 1)?)?;
+    let t = one(alloc, b".", inner)?;
+    prints(&rt, alloc, &t, b"'.'('[]'([0]))")
 }
 
 #[test]
@@ -131,18 +111,13 @@ fn names_are_plain_or_quoted(rt: HostRuntime) -> Result<(), Fail> {
     ];
     for (name, want) in rows {
         let mut text = Vec::new(rt.alloc());
-        print_name(rt.alloc(), &Name::new(rt.alloc(), name)?, &mut text)?;
+        let name = Name::new(rt.alloc(), name)?;
+        print_name(rt.alloc(), &name, &mut text)?;
         assert_eq!(rt; text.as_slice(), want);
     }
-    Ok(())
-}
-
-#[test]
-fn quoted_bytes_are_in_quotes_whatever_they_are(rt: HostRuntime) -> Result<(), Fail> {
     let mut text = Vec::new(rt.alloc());
-    print_quoted(rt.alloc(), b"a", &mut text)?;
     print_quoted(rt.alloc(), b"[]", &mut text)?;
-    assert_eq!(rt; text.as_slice(), b"'a''[]'".as_slice());
+    assert_eq!(rt; text.as_slice(), b"'[]'".as_slice());
     Ok(())
 }
 
