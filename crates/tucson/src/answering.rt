@@ -1,6 +1,6 @@
 //! A call, from its words and its input to what is written.
 ghost use Rattle.std.specs.Prelude.{◌≡◌, ◌↔◌, map, IsTrue};
-ghost use Rattle.tc_io.specs.Faults.{CountRises};
+ghost use Rattle.tc_io.specs.Faults.{Counts, CountRises};
 ghost use Rattle.tc_io.specs.Sinks.{appended, AppendsFront};
 ghost use Rattle.tucson.specs.Answer.{run_words, refused_text};
 ghost use Rattle.tucson.specs.Ending.{Ends, IsStopped, Writes};
@@ -29,7 +29,9 @@ fn asks_run(words: &[Vec<u8>]) -> bool
 // Writes a text. What stops the writing comes in place of the status.
 fn written<K: Sink>(status: Status, text: &[u8], sink: &mut K) -> Status
     requires { IsStopped status → ⊥ }
-    ensures { Writes status text.now
+    ensures writes { Counts (result ≡ Status.WriteFault)
+        (K.write_faults sink.old) (K.write_faults sink.new) }
+    ensures wrote { Writes status text.now
         (record {
           taken = K.taken sink.old;
           write_faults = K.write_faults sink.old;
@@ -55,7 +57,11 @@ pub fn answer_call<S: Source, K: Sink>(
     source: &mut S,
     sink: &mut K,
 ) -> Status
-    ensures { Ends (record {
+    ensures reads { Counts (result ≡ Status.ReadFault)
+        (S.read_faults source.old) (S.read_faults source.new) }
+    ensures writes { Counts (result ≡ Status.WriteFault)
+        (K.write_faults sink.old) (K.write_faults sink.new) }
+    ensures ends { Ends (record {
       words = map (λ w. w.items) words.now;
       source = record {
         left = S.left source.old;
@@ -96,7 +102,9 @@ pub fn answer_call<S: Source, K: Sink>(
 
 // Writes that the configuration is refused.
 fn refused<K: Sink>(sink: &mut K) -> Status
-    ensures { Writes (Status.Refused 0 Cause.Form) refused_text
+    ensures writes { Counts (result ≡ Status.WriteFault)
+        (K.write_faults sink.old) (K.write_faults sink.new) }
+    ensures wrote { Writes (Status.Refused 0 Cause.Form) refused_text
         (record {
           taken = K.taken sink.old;
           write_faults = K.write_faults sink.old;

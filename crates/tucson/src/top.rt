@@ -1,5 +1,6 @@
 //! The top call.
 ghost use Rattle.std.specs.Prelude.{◌≡◌, ◌≢◌, ℕ, ◌⊎◌, List, IfSome, map};
+ghost use Rattle.tc_io.specs.Faults.{Counts};
 ghost use Rattle.tucson.specs.Setup.{Setup, Spells};
 ghost use Rattle.tucson.specs.Answer.{run_words, IsNoForm};
 ghost use Rattle.tucson.specs.Ending.{Ends, IsUnlessStopped};
@@ -42,6 +43,12 @@ pub fn tucson<S: Source, K: Sink>(
         sure = K.sure sink.new;
       };
     }) result }
+
+    // Every fault of reading and of writing is told, and no other status stands for one.
+    ensures reads { Counts (result ≡ Status.ReadFault)
+        (S.read_faults source.old) (S.read_faults source.new) }
+    ensures writes { Counts (result ≡ Status.WriteFault)
+        (K.write_faults sink.old) (K.write_faults sink.new) }
 
     // The words and the input decide the status.
     ensures usage { map (λ w. w.items) words.now ≢ run_words
