@@ -9,8 +9,8 @@ use Rattle.atomic_table.proofs.Lists.{at_set, set_else}
 use Rattle.tc_turn.specs.declared.view.View.{View}
 use Rattle.tc_turn.specs.Owners.{entries_of}
 use Rattle.tc_turn.specs.Order.{one_if_below, one_if_in, one_if_record, ticket_count, number_count, turns_left, SomeOnTurn, IsStored, Fits, IsOrderly}
-use Rattle.tc_turn.proofs.Lists.{at_same, set_at, each_set}
-use Rattle.tc_turn.proofs.Sums.{sum_by-set_at}
+use Rattle.tc_lists.proofs.Gets.{at_same, sum_by-set_at}
+use Rattle.tc_turn.proofs.Lists.{set_at, each_set}
 
 abbrev pub Homes : Type 0 → Type 0
 Homes C = List (mathlib.Core.Option.Option (Option C))

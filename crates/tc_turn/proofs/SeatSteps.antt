@@ -4,7 +4,8 @@ use mathlib.Core.Logic.{dite}
 use mathlib.Core.Option.{some, none, some-injective, some-ne-none}
 use native.Mathlib.Decide.{ℕ_discrete}
 use lib.ListN.{get_elem?}
-use Rattle.std.proofs.lemmas.Option.{none-some}
+use Rattle.std.proofs.lemmas.Bool.{false≢true, true≢false}
+use Rattle.std.proofs.lemmas.Option.{none-some, same_Some}
 use Rattle.std.proofs.lemmas.List.Elements.{All-nil, All-cons}
 use Rattle.std.proofs.lemmas.List.Sums.{sum_by-cons, sum_by_push}
 use Rattle.atomic_table.specs.Table.{State, Me, Splits, Joins, Enters, opening, Final, Seen}
@@ -14,8 +15,9 @@ use Rattle.tc_turn.specs.declared.view.PassRecord.{PassRecord}
 use Rattle.tc_turn.specs.Owners.{entries_of}
 use Rattle.tc_turn.specs.Views.{number_after, blank_view, maker_view, rest_view, pass_view, record_of, with_ended}
 use Rattle.tc_turn.specs.Order.{one_if_same, one_if_below, one_if_in, one_if_record, ticket_count, number_count, turns_left, SomeOnTurn, IsStored, FitsRecord, Fits, IsOrderly}
-use Rattle.tc_turn.proofs.Lists.{at_same, set_at, each_set, true_from_false, false_from_true, Some-injective}
-use Rattle.tc_turn.proofs.Sums.{sum_by-set_at, le-sum_by, both-le-sum_by, one_if_below-more, one_if_below-le, one_if_below-outside, below_from_count, one_if_in-here}
+use Rattle.tc_lists.proofs.Gets.{at_same, sum_by-set_at, le-sum_by, both-le-sum_by}
+use Rattle.tc_turn.proofs.Lists.{set_at, each_set}
+use Rattle.tc_turn.proofs.Sums.{one_if_below-more, one_if_below-le, one_if_below-outside, below_from_count, one_if_in-here}
 use Rattle.tc_turn.proofs.Frames.{table, SomeOnTurn-set, SomeOnTurn-from_set, HasMaker-set}
 
 module _ {E O : Type 0} where
@@ -26,25 +28,25 @@ module _ {E O : Type 0} where
   SomeOnTurn-from_push views w off out =
       ⊎_elim
       (λ (e : get_elem? views out.0 ≡ some out.1). (out.0, out.1, e, out.3))
-      (λ (e : w ≡ out.1). true_from_false (sym out.3 ∙ sym (ap (λ (u : View E O). u.on_turn) e) ∙ off))
+      (λ (e : w ≡ out.1). absurd (true≢false (sym out.3 ∙ sym (ap (λ (u : View E O). u.on_turn) e) ∙ off)))
       (at_snoc views w out.1 out.0 out.2)
 
 module _ {E O : Type 0} (owner : E → Option ℕ) (known : List E) (first : O) (turn next : ℕ) where
   -- the view that is nobody's fits
   pub Fits-blank : (id : ℕ) → Fits owner known first turn next id blank_view
-  Fits-blank id = record { origin = λ x e. absurd (none-some x e); seen = (known, refl); floor = omega arith; mine = λ n e. absurd (none-some n e); on_turn = λ on. false_from_true on; holder = λ t e. absurd (none-some t e); maker = λ n e. absurd (none-some n e); ended = All-nil _ }
+  Fits-blank id = record { origin = λ x e. absurd (none-some x e); seen = (known, refl); floor = omega arith; mine = λ n e. absurd (none-some n e); on_turn = λ on. absurd (false≢true on); holder = λ t e. absurd (none-some t e); maker = λ n e. absurd (none-some n e); ended = All-nil _ }
 
   -- the maker and a new pass fit, once the next number is one more
   pub Fits-rest : (id : ℕ) (v : View E O) → v.next ≡ Some next → id ≡ 0 → Fits owner known first turn next id v → Fits owner known first turn (next + 1) id (rest_view v)
-  Fits-rest id v e here f = record { origin = f.origin; seen = f.seen; floor = f.floor; mine = f.mine; on_turn = f.on_turn; holder = f.holder; maker = λ n h. (here, Some-injective n (next + 1) (sym h ∙ ap number_after e)); ended = f.ended }
+  Fits-rest id v e here f = record { origin = f.origin; seen = f.seen; floor = f.floor; mine = f.mine; on_turn = f.on_turn; holder = f.holder; maker = λ n h. (here, same_Some n (next + 1) (sym h ∙ ap number_after e)); ended = f.ended }
 
   pub Fits-pass : (id me : ℕ) (v : View E O) → v.next ≡ Some next → ((n : ℕ) → next ≤ n → entries_of owner n known ≡ []) → Fits owner known first turn next me v → Fits owner known first turn (next + 1) id (pass_view v)
   Fits-pass id me v e unowned f = record {
     origin = f.origin;
     seen = (known, refl);
     floor = omega arith;
-    mine = λ n h. let same : next ≡ n = Some-injective next n (sym e ∙ h) in unowned n (omega arith);
-    on_turn = λ on. false_from_true on;
+    mine = λ n h. let same : next ≡ n = same_Some next n (sym e ∙ h) in unowned n (omega arith);
+    on_turn = λ on. absurd (false≢true on);
     holder = λ t h. absurd (none-some t h);
     maker = λ n h. absurd (none-some n h);
     ended = All-nil _;
@@ -199,11 +201,11 @@ module _ {C E O : Type 0} (history : C → List E) (origin : C → O) (owner : E
       same_value a b e = let inner : Some a ≡ Some b = some-injective (Some a) (Some b) (some-injective (some (Some a)) (some (Some b)) e) in cc
 
       off : (id : ℕ) (v : View E O) → get_elem? (m ∷ []) id ≡ some v → v.on_turn ≡ true → get_elem? (some (Some value) ∷ []) 0 ≡ some none
-      off zero v e on = true_from_false (sym on ∙ sym (ap (λ (u : View E O). u.on_turn) (some-injective m v e)))
+      off zero v e on = absurd (true≢false (sym on ∙ sym (ap (λ (u : View E O). u.on_turn) (some-injective m v e))))
       off (suc id) v e on = absurd (some-ne-none v (sym e))
 
       fits : Fits owner [] first 0 0 0 m
-      fits = record { origin = λ x e. cc; seen = ([], refl); floor = omega arith; mine = λ n e. absurd (none-some n e); on_turn = λ on. false_from_true on; holder = λ t e. absurd (none-some t e); maker = λ n e. (refl, Some-injective n 0 (sym e)); ended = All-nil _ }
+      fits = record { origin = λ x e. cc; seen = ([], refl); floor = omega arith; mine = λ n e. absurd (none-some n e); on_turn = λ on. absurd (false≢true on); holder = λ t e. absurd (none-some t e); maker = λ n e. (refl, same_Some n 0 (sym e)); ended = All-nil _ }
 
       each : (id : ℕ) (v : View E O) → get_elem? (m ∷ []) id ≡ some v → Fits owner [] first 0 0 id v
       each zero v e = subst (Fits owner [] first 0 0 0) (some-injective m v e) fits

@@ -1,12 +1,13 @@
 -- Each step of a pass keeps the rule, from every state that meets it.
-use Rattle.std.proofs.Common.{◌≡◌, ℕ, ◌+◌, ◌*◌, ◌%◌, ◌^◌, ◌<◌, ◌≤◌, ◌≢◌, List, [], ◌∷◌, ◌++◌, length, set, get_or, sym, refl, ap, ◌∙◌, subst, inl, inr, ⊎_elim, arith, true, false, Option, Some, None, sum_by, All, length-set, length-append, append-nil, mod-eq_of_lt}
+use Rattle.std.proofs.Common.{◌≡◌, ℕ, ◌+◌, ◌*◌, ◌%◌, ◌^◌, ◌<◌, ◌≤◌, ◌≢◌, List, [], ◌∷◌, ◌++◌, length, set, get_or, sym, refl, ap, ◌∙◌, subst, inl, inr, ⊎_elim, arith, true, false, Option, Some, None, sum_by, All, length-set, length-append, append-nil, mod-eq_of_lt, get_or-set_same}
 use mathlib.Core.Logic.{dite}
 use mathlib.Core.List.{IsPrefix}
 use mathlib.Core.Option.{some, none, some-injective, some-ne-none}
 use native.Mathlib.Decide.{ℕ_discrete}
 use lib.ListN.{get_elem?}
-use Rattle.std.proofs.lemmas.List.{set-get_or}
-use Rattle.std.proofs.lemmas.Option.{none-some}
+use Rattle.std.proofs.lemmas.Bool.{false≢true, true≢false}
+use Rattle.std.proofs.lemmas.List.{set-get_or, get_or-set_other}
+use Rattle.std.proofs.lemmas.Option.{none-some, same_Some}
 use Rattle.std.proofs.lemmas.List.Elements.{filter-append, All-nil, All-cons, All-head, All-tail}
 use Rattle.std.proofs.lemmas.List.Sums.{sum_by-cons}
 use Rattle.atomic_table.specs.Table.{State, Me, step, keeps, takes, gives, stepped, Allows}
@@ -17,8 +18,10 @@ use Rattle.tc_turn.specs.Owners.{entries_of, own_entries, OthersOwnNone}
 use Rattle.tc_turn.specs.Views.{with_ticket, with_turn, with_entries, without_turn, with_floor}
 use Rattle.tc_turn.specs.Order.{one_if_below, one_if_in, one_if_record, ticket_count, number_count, turns_left, SomeOnTurn, IsStored, FitsRecord, Fits, IsOrderly}
 use Rattle.tc_turn.specs.Steps.{TakesTicket, TakesTurn, SeesTurn, Publishes, PassesTurn, ReadsCount}
-use Rattle.tc_turn.proofs.Lists.{at_below, at_same, set_at, IsPrefix-same, IsPrefix-longer, IsPrefix-length, word-set_here, word-set_else, true_from_false, false_from_true, Some-injective}
-use Rattle.tc_turn.proofs.Sums.{le-sum_by, both-le-sum_by, one_if_same-same, one_if_below-more, one_if_below-le, below_from_count, one_if_in-here}
+use Rattle.tc_lists.proofs.Gets.{at_below, at_same, le-sum_by, both-le-sum_by}
+use Rattle.tc_lists.proofs.Prefixes.{IsPrefix-whole, IsPrefix-longer, length-IsPrefix}
+use Rattle.tc_turn.proofs.Lists.{set_at}
+use Rattle.tc_turn.proofs.Sums.{one_if_same-same, one_if_below-more, one_if_below-le, below_from_count, one_if_in-here}
 use Rattle.tc_turn.proofs.Frames.{Homes, table, SomeOnTurn-set, SomeOnTurn-from_set, Change, change_keeps}
 
 module _ {E O : Type 0} (owner : E → Option ℕ) (known : List E) (first : O) where
@@ -86,15 +89,15 @@ module _ {C E O : Type 0} (history : C → List E) (origin : C → O) (owner : E
       let w = with_ticket v t in
       let ws = set s.words 0 (t + 1) in
       let words_wide : length s.words ≡ 3 = o.wide in
-      let w0 : get_or ws 0 0 ≡ t + 1 = word-set_here s.words 0 (t + 1) (omega arith) in
-      let w1 : get_or ws 1 0 ≡ get_or s.words 1 0 = word-set_else s.words 0 1 (t + 1) (λ e. absurd (omega arith)) in
-      let w2 : get_or ws 2 0 ≡ get_or s.words 2 0 = word-set_else s.words 0 2 (t + 1) (λ e. absurd (omega arith)) in
+      let w0 : get_or ws 0 0 ≡ t + 1 = get_or-set_same s.words 0 (t + 1) 0 (omega arith) in
+      let w1 : get_or ws 1 0 ≡ get_or s.words 1 0 = get_or-set_other s.words 0 1 (t + 1) 0 (λ e. absurd (omega arith)) in
+      let w2 : get_or ws 2 0 ≡ get_or s.words 2 0 = get_or-set_other s.words 0 2 (t + 1) 0 (λ e. absurd (omega arith)) in
       let least : v.turns ≤ sum_by turns_left s.views = le-sum_by turns_left s.views id v at in
       let bound : t + sum_by turns_left s.views ≤ passes * share = o.bounded in
       let limit : passes * share < 18446744073709551616 = o.fit in
       let fits : t + 1 < 18446744073709551616 = omega (arith, least, bound, limit, some_left) in
       let f = o.each id v at in
-      let here : Fits owner o.known first (get_or ws 1 0) o.next id w = record { origin = f.origin; seen = f.seen; floor = f.floor; mine = f.mine; on_turn = λ on. true_from_false (sym on ∙ off); holder = λ u e. number; maker = f.maker; ended = f.ended } in
+      let here : Fits owner o.known first (get_or ws 1 0) o.next id w = record { origin = f.origin; seen = f.seen; floor = f.floor; mine = f.mine; on_turn = λ on. absurd (true≢false (sym on ∙ off)); holder = λ u e. number; maker = f.maker; ended = f.ended } in
       let change : Change history origin owner first passes share s o id v w ws s.homes o.known = record {
         me = at;
         wide = length-set s.words 0 (t + 1) ∙ o.wide;
@@ -126,7 +129,7 @@ module _ {C E O : Type 0} (history : C → List E) (origin : C → O) (owner : E
   stored_at_turn s o id v at mine off =
       ⊎_elim
       (λ out. dite (ℕ_discrete out.0 id)
-      (λ e. let here : get_elem? s.views id ≡ some out.1 = subst (λ (j : ℕ). get_elem? s.views j ≡ some out.1) e out.2 in true_from_false (sym out.3 ∙ sym (ap (λ (u : View E O). u.on_turn) (at_same s.views id v out.1 at here)) ∙ off))
+      (λ e. let here : get_elem? s.views id ≡ some out.1 = subst (λ (j : ℕ). get_elem? s.views j ≡ some out.1) e out.2 in absurd (true≢false (sym out.3 ∙ sym (ap (λ (u : View E O). u.on_turn) (at_same s.views id v out.1 at here)) ∙ off)))
       (λ ne. absurd (turn_alone s o id out.0 v out.1 at out.2 mine out.3 ne)))
       (λ h. h)
       o.place
@@ -143,14 +146,14 @@ module _ {C E O : Type 0} (history : C → List E) (origin : C → O) (owner : E
       let hs : Homes C = set s.homes 0 none in
       let is = o.slot value there in
       let words_wide : length s.words ≡ 3 = o.wide in
-      let w0 : get_or ws 0 0 ≡ get_or s.words 0 0 = word-set_else s.words 1 0 turn (λ e. absurd (omega arith)) in
-      let w1 : get_or ws 1 0 ≡ turn = word-set_here s.words 1 turn (omega arith) in
-      let w2 : get_or ws 2 0 ≡ get_or s.words 2 0 = word-set_else s.words 1 2 turn (λ e. absurd (omega arith)) in
+      let w0 : get_or ws 0 0 ≡ get_or s.words 0 0 = get_or-set_other s.words 1 0 turn 0 (λ e. absurd (omega arith)) in
+      let w1 : get_or ws 1 0 ≡ turn = get_or-set_same s.words 1 turn 0 (omega arith) in
+      let w2 : get_or ws 2 0 ≡ get_or s.words 2 0 = get_or-set_other s.words 1 2 turn 0 (λ e. absurd (omega arith)) in
       let f = o.each id v at in
       let empty : get_elem? hs 0 ≡ some none = set_here s.homes 0 none (at_below s.homes 0 (some (Some value)) there) in
       let here : Fits owner o.known first turn o.next id w = record {
         origin = f.origin;
-        seen = subst (λ (l : List E). IsPrefix l o.known) (sym is.0) (IsPrefix-same o.known);
+        seen = subst (λ (l : List E). IsPrefix l o.known) (sym is.0) (IsPrefix-whole o.known);
         floor = f.floor;
         mine = f.mine;
         on_turn = λ on. (mine, is.0);
@@ -196,7 +199,7 @@ module _ {C E O : Type 0} (history : C → List E) (origin : C → O) (owner : E
       let h = stored_at_turn s o id m.0 at mine off in
       let t = takes_turn id m s o at mine off h.0 h.1 in
       (with_turn m.0 (history h.0), takes 0 (Some h.0), h.1, t.0, ((λ _. t.1), (λ not_mine. absurd (not_mine mine)))))
-      (λ ne. (m.0, keeps, tt, read_keeps s o 1 id m at, ((λ mine. absurd (ne (Some-injective ticket turn (sym has ∙ mine)))), (λ _. refl))))
+      (λ ne. (m.0, keeps, tt, read_keeps s o 1 id m at, ((λ mine. absurd (ne (same_Some ticket turn (sym has ∙ mine)))), (λ _. refl))))
 
   -- the count of the known entries is read
   pub reads_count : (slots id : ℕ) (m : Seat) → Allows Rule slots id m 2 (λ n. n) (ReadsCount (step slots 2 0 0 none) m)
@@ -206,9 +209,9 @@ module _ {C E O : Type 0} (history : C → List E) (origin : C → O) (owner : E
       let w = with_floor v count in
       let ws = set s.words 2 count in
       let words_wide : length s.words ≡ 3 = o.wide in
-      let w0 : get_or ws 0 0 ≡ get_or s.words 0 0 = word-set_else s.words 2 0 count (λ e. absurd (omega arith)) in
-      let w1 : get_or ws 1 0 ≡ get_or s.words 1 0 = word-set_else s.words 2 1 count (λ e. absurd (omega arith)) in
-      let w2 : get_or ws 2 0 ≡ count = word-set_here s.words 2 count (omega arith) in
+      let w0 : get_or ws 0 0 ≡ get_or s.words 0 0 = get_or-set_other s.words 2 0 count 0 (λ e. absurd (omega arith)) in
+      let w1 : get_or ws 1 0 ≡ get_or s.words 1 0 = get_or-set_other s.words 2 1 count 0 (λ e. absurd (omega arith)) in
+      let w2 : get_or ws 2 0 ≡ count = get_or-set_same s.words 2 count 0 (omega arith) in
       let f = o.each id v at in
       let known_count : count ≡ length o.known = o.count in
       let here : Fits owner o.known first (get_or s.words 1 0) o.next id w = record { origin = f.origin; seen = f.seen; floor = omega (arith, known_count); mine = f.mine; on_turn = f.on_turn; holder = f.holder; maker = f.maker; ended = f.ended } in
@@ -229,7 +232,7 @@ module _ {C E O : Type 0} (history : C → List E) (origin : C → O) (owner : E
         ended_same = refl;
         bounded = omega (arith, w0);
       } in
-      (w, keeps, tt, change_keeps history origin owner first passes share s o id v w ws s.homes o.known change, (refl, omega (arith, f.floor, known_count), omega (arith, IsPrefix-length v.seen o.known f.seen, known_count)))
+      (w, keeps, tt, change_keeps history origin owner first passes share s o id v w ws s.homes o.known change, (refl, omega (arith, f.floor, known_count), omega (arith, length-IsPrefix v.seen o.known f.seen, known_count)))
 
   -- a ticket that some view has was taken
   pub ticket_taken : (s : State (Option C) (View E O)) → Rule s → (id t : ℕ) (v : View E O) → get_elem? s.views id ≡ some v → v.ticket ≡ Some t → t < get_or s.words 0 0
@@ -245,9 +248,9 @@ module _ {C E O : Type 0} (history : C → List E) (origin : C → O) (owner : E
       let ws = set s.words 1 (t + 1) in
       let hs : Homes C = set s.homes 0 (some (Some value)) in
       let words_wide : length s.words ≡ 3 = o.wide in
-      let w0 : get_or ws 0 0 ≡ get_or s.words 0 0 = word-set_else s.words 1 0 (t + 1) (λ e. absurd (omega arith)) in
-      let w1 : get_or ws 1 0 ≡ t + 1 = word-set_here s.words 1 (t + 1) (omega arith) in
-      let w2 : get_or ws 2 0 ≡ get_or s.words 2 0 = word-set_else s.words 1 2 (t + 1) (λ e. absurd (omega arith)) in
+      let w0 : get_or ws 0 0 ≡ get_or s.words 0 0 = get_or-set_other s.words 1 0 (t + 1) 0 (λ e. absurd (omega arith)) in
+      let w1 : get_or ws 1 0 ≡ t + 1 = get_or-set_same s.words 1 (t + 1) 0 (omega arith) in
+      let w2 : get_or ws 2 0 ≡ get_or s.words 2 0 = get_or-set_other s.words 1 2 (t + 1) 0 (λ e. absurd (omega arith)) in
       let f = o.each id v at in
       let turn = f.on_turn on in
       let taken : t < get_or s.words 0 0 = ticket_taken s o id t v at turn.0 in
@@ -259,10 +262,10 @@ module _ {C E O : Type 0} (history : C → List E) (origin : C → O) (owner : E
       let alone : (j : ℕ) (u : View E O) → j ≢ id → get_elem? s.views j ≡ some u → u.on_turn ≡ true → ⊥ = λ j u ne e on'. turn_alone s o id j v u at e turn.0 on' ne in
       let off : SomeOnTurn (set s.views id w) → ⊥ = λ out'.
       ⊎_elim
-      (λ (p : (out'.0 ≡ id) × (w ≡ out'.1)). true_from_false (sym out'.3 ∙ sym (ap (λ (u : View E O). u.on_turn) p.1)))
+      (λ (p : (out'.0 ≡ id) × (w ≡ out'.1)). absurd (true≢false (sym out'.3 ∙ sym (ap (λ (u : View E O). u.on_turn) p.1))))
       (λ (p : (out'.0 ≢ id) × (get_elem? s.views out'.0 ≡ some out'.1)). alone out'.0 out'.1 p.0 p.1 out'.3)
       (at_set s.views id out'.0 w out'.1 out'.2) in
-      let here : Fits owner o.known first (get_or ws 1 0) o.next id w = record { origin = f.origin; seen = f.seen; floor = f.floor; mine = f.mine; on_turn = λ on'. false_from_true on'; holder = λ u e. absurd (none-some u e); maker = f.maker; ended = f.ended } in
+      let here : Fits owner o.known first (get_or ws 1 0) o.next id w = record { origin = f.origin; seen = f.seen; floor = f.floor; mine = f.mine; on_turn = λ on'. absurd (false≢true on'); holder = λ u e. absurd (none-some u e); maker = f.maker; ended = f.ended } in
       let change : Change history origin owner first passes share s o id v w ws hs o.known = record {
         me = at;
         wide = length-set s.words 1 (t + 1) ∙ o.wide;
@@ -301,9 +304,9 @@ module _ {C E O : Type 0} (history : C → List E) (origin : C → O) (owner : E
       let w = with_entries v all (own_entries owner v.number all) in
       let ws = set s.words 2 (n + count) in
       let words_wide : length s.words ≡ 3 = o.wide in
-      let w0 : get_or ws 0 0 ≡ get_or s.words 0 0 = word-set_else s.words 2 0 (n + count) (λ e. absurd (omega arith)) in
-      let w1 : get_or ws 1 0 ≡ get_or s.words 1 0 = word-set_else s.words 2 1 (n + count) (λ e. absurd (omega arith)) in
-      let w2 : get_or ws 2 0 ≡ n + count = word-set_here s.words 2 (n + count) (omega arith) in
+      let w0 : get_or ws 0 0 ≡ get_or s.words 0 0 = get_or-set_other s.words 2 0 (n + count) 0 (λ e. absurd (omega arith)) in
+      let w1 : get_or ws 1 0 ≡ get_or s.words 1 0 = get_or-set_other s.words 2 1 (n + count) 0 (λ e. absurd (omega arith)) in
+      let w2 : get_or ws 2 0 ≡ n + count = get_or-set_same s.words 2 (n + count) 0 (omega arith) in
       let f = o.each id v at in
       let turn = f.on_turn on in
       let is : o.known ++ new ≡ all = ap (λ (l : List E). l ++ new) (sym turn.1) ∙ sym grown in
@@ -326,7 +329,7 @@ module _ {C E O : Type 0} (history : C → List E) (origin : C → O) (owner : E
       } in
       let here : Fits owner all first (get_or ws 1 0) o.next id w = record {
         origin = f.origin;
-        seen = IsPrefix-same all;
+        seen = IsPrefix-whole all;
         floor = omega (arith, f.floor, ap length is, length-append o.known new);
         mine = λ i has. ap (λ (x : Option ℕ). own_entries owner x all) (sym has);
         on_turn = λ _. (turn.0 ∙ ap (λ (y : ℕ). Some y) (sym w1), refl);

@@ -11,7 +11,7 @@ ghost use Rattle.tc_turn.specs.Steps.{TakesTurn};
 ghost use Rattle.tc_turn.specs.Seats.{IsIdle, Awaits, Holds, HasNewEntries, HasAllKnown, KnowsItsOwn};
 ghost use Rattle.tc_turn.specs.Passes.{IsEndedSeat};
 
-use crate::bells::Bells;
+use crate::bells::TicketBells;
 use crate::chronicle::Chronicle;
 use crate::entrance::Entrance;
 use crate::order::{
@@ -54,7 +54,7 @@ type TurnTable<C> = Table<
 pub(crate) struct TicketLock<C: Chronicle> {
     pub(crate) table: TurnTable<C>,
     entrance: Entrance,
-    bells: Bells,
+    bells: TicketBells,
     pub(crate) ghost sized: { (table.shared.table_id.words ≡ 3)
         × (table.shared.table_id.slots ≡ 1) },
 }
@@ -133,12 +133,10 @@ impl<C: Chronicle> TicketLock<C> {
                 }
             }
         }
-        let bell = self.bells.of(ticket);
-        let rung = bell.listen();
-        if shared.peek(TURNS) != ticket {
-            bell.sleep(rt, rung);
-        }
-        bell.rise();
+        let is_next = ||
+            requires { 1 < shared.now.table_id.words }
+        { shared.peek(TURNS) == ticket };
+        self.bells.of(ticket).sleep_unless(rt, is_next);
     }
 
     /// Takes the value out of the slot that the seat holds.
@@ -214,7 +212,7 @@ impl<C: Chronicle> TicketLock<C> {
         if self.table.shared.peek(TICKETS) == turn {
             self.entrance.ring();
         } else {
-            self.bells.of(turn).ring();
+            self.bells.of(turn).ring_sleepers();
         }
     }
 
@@ -248,7 +246,7 @@ impl<C: Chronicle> TicketLock<C> {
           [],
         )) }
     {
-        let bells = Bells::new(alloc)?;
+        let bells = TicketBells::new(alloc)?;
         match Table::new(alloc, &[0, 0, 0], slots, founding) {
             Ok((table, seat)) => Ok((
                 TicketLock {

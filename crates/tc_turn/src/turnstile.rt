@@ -12,9 +12,11 @@ use std::marker::Model;
 use std::snapshot::Snapshot;
 use std::sync::Wait;
 use tc_lists::NoMemory;
+use thiserror::Error;
 
 /// The pass has no turn left.
-#[derive(Clone, Copy, Debug, PartialEq, Eq)]
+#[derive(Clone, Copy, Debug, PartialEq, Eq, Drop, Error)]
+#[error("the pass has no turn left")]
 pub struct TurnsSpent;
 
 /// A ticket lock round a value, which each pass checks out for one turn at a time.

@@ -1,5 +1,5 @@
 use Rattle.std.proofs.Common.{◌≡◌, ℕ, ◌<◌, ◌≤◌, ◌++◌, List, length, get_or, take, drop, sum_by, false, ap, ◌∙◌, arith, append-nil}
-use Rattle.std.proofs.lemmas.List.{take_all, drop_all}
+use Rattle.tc_lists.proofs.Parts.{take-append_all}
 use Rattle.std.proofs.lemmas.List.Elements.{All-same}
 use Rattle.std.proofs.lemmas.List.Sums.{get_or-le-sum_by}
 use Rattle.tc_turn.specs.Order.{one_if_same}
@@ -7,10 +7,6 @@ use Rattle.tc_turn.specs.Passes.{TurnstileState, PassState, EndedState, IsPassOf
 use Rattle.tc_turn.proofs.Sums.{one_if_same-same}
 use Rattle.tc_turn.proofs.PassLists.{new_passes-own, length-new_passes, number-new_passes}
 use Rattle.tc_turn.proofs.tests.history_of.Goals as goal
-
--- the list that was lent whole is what was written to it
-written_back : {A : Type 0} (len : ℕ) (new items : List A) → length new ≡ length items → len ≡ length items → take len (new ++ drop (length new) items) ≡ new
-written_back len new items same long = ap (λ l. take len (new ++ l)) (drop_all (length new) items (omega arith)) ∙ ap (take len) (append-nil new) ∙ take_all len new (omega arith)
 
 abbrev IsFree : TurnstileState ℕ → PassState ℕ ℕ → Type 0
 IsFree t p = IsPassOf t p × (p.holds ≡ false)
@@ -40,7 +36,7 @@ end_all-requires g c =
     let all = c.in_ok-turnstile.all in
     let long : all.len ≡ length all.items = omega (arith, all.ok.0) in
     let same : length c.in_threads.new.passes ≡ length all.items = c.in_threads.auto.passes ∙ ap length c.as_mut_slice.ensures.value in
-    record { free = All-same (IsFree t) _ _ (written_back all.len c.in_threads.new.passes all.items same long) c.in_threads.ensures.free }
+    record { free = All-same (IsFree t) _ _ (take-append_all c.in_threads.new.passes all.items all.len same long) c.in_threads.ensures.free }
 
 pub close-requires-clause-whole : goal.close-requires-clause-whole
 close-requires-clause-whole g c =
@@ -49,6 +45,6 @@ close-requires-clause-whole g c =
     let made = c.in_ok-turnstile.ensures in
     let long : all.len ≡ length all.items = omega (arith, all.ok.0) in
     let same : length c.in_threads.new.passes ≡ length all.items = c.in_threads.auto.passes ∙ ap length c.as_mut_slice.ensures.value in
-    let back = written_back all.len c.in_threads.new.passes all.items same long in
+    let back = take-append_all c.in_threads.new.passes all.items all.len same long in
     let counts : (n : ℕ) → ended_count n c.in_ok-done.ended.items ≡ sum_by (λ (p : PassState ℕ ℕ). one_if_same p.number n) c.in_threads.new.passes = λ n. c.in_ok-done.ensures.numbers n ∙ ap (sum_by (λ (p : PassState ℕ ℕ). one_if_same p.number n)) back in
     λ n below. each_ended t _ c.args.passes c.as_mut_slice.result.now c.in_threads.new.passes c.in_ok-done.ended.items (c.as_mut_slice.ensures.value ∙ made.passes) c.in_threads.auto.passes c.in_threads.ensures.numbers counts n (omega (arith, below, made.turnstile.1))
