@@ -1,5 +1,5 @@
 -- An addition is kept, or taken back so that all is as before.
-use Rattle.std.proofs.Common.{◌+◌, ◌≡◌, ℕ, zero, suc, ◌-◌, ◌<◌, ◌≤◌, inl, inr, List, [], ◌∷◌, ◌++◌, length, reverse, take, drop, refl, sym, ap, ap₂, ◌∙◌, subst, arith, All, append-nil, length-append, length-take}
+use Rattle.std.proofs.Common.{◌+◌, ◌≡◌, ℕ, ◌-◌, ◌<◌, ◌≤◌, inl, inr, List, [], ◌∷◌, ◌++◌, length, reverse, take, drop, refl, sym, ap, ap₂, ◌∙◌, subst, arith, All, append-nil, length-append, length-take}
 use Rattle.std.specs.Prelude.{Some}
 use Rattle.std.proofs.Math.Path.{fun_ext}
 use Rattle.std.proofs.Math.ListN.{get_or-eq_default}
@@ -249,16 +249,6 @@ module _ (a : Arena) (l : Links) (added rest : List Added) (e : Added) (store : 
       variables = cut.variables ∙ store.variables ∙ sym variables;
       few = subst (λ x. x < 4294967296) (sym variables) store.few;
     }
-
-take_nil : {X : Type 0} (n : ℕ) → take {A = X} n [] ≡ []
-take_nil zero = refl
-take_nil (suc n) = refl
-
-pub take_fewer : {X : Type 0} (n m : ℕ) (xs : List X) → n ≤ m → take n (take m xs) ≡ take n xs
-take_fewer zero m xs h = refl
-take_fewer (suc n) m [] h = ap (take (suc n)) (take_nil m)
-take_fewer (suc n) zero (x ∷ xs) h = absurd (omega arith)
-take_fewer (suc n) (suc m) (x ∷ xs) h = ap (λ ys. x ∷ ys) (take_fewer n m xs (omega arith))
 
 -- terms that nothing makes equal are never equal beside any equations
 pub never_equal_adds : (a : Arena) (added : List Added) (j k : ℕ) (s t : Tree) → NeverEqual s t → NeverAdds a added (raised j s) (raised k t)

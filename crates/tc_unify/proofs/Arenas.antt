@@ -1,11 +1,11 @@
 -- The arena: what its nodes are, also once it grows or is cut.
-use Rattle.std.proofs.Common.{◌≡◌, ◌≢◌, ℕ, ◌+◌, ◌-◌, ◌<◌, ◌≤◌, ◌⊎◌, inl, inr, List, [], ◌∷◌, ◌++◌, length, length-append, length-drop, take, drop, append_assoc, get_or, refl, sym, ap, ap₂, ◌∙◌, subst, arith, Bool, true, false, cond, ltb, ℤ}
+use Rattle.std.proofs.Common.{◌≡◌, ◌≢◌, ℕ, ◌+◌, ◌-◌, ◌<◌, ◌≤◌, ◌⊎◌, inl, inr, List, [], ◌∷◌, ◌++◌, length, length-append, length-drop, take, drop, append_assoc, get_or, refl, sym, ap, ap₂, ◌∙◌, subst, arith, Bool, cond, ℤ}
 use Rattle.std.proofs.lemmas.Bool.Decides.{Decides-ltb}
-use Rattle.std.proofs.lemmas.Bool.{cases_lt, cases_order}
+use Rattle.std.proofs.lemmas.Bool.{cases_lt, cases_order, le-ltb}
 use Rattle.std.proofs.lemmas.List.{take-append-drop, take-append-le, drop-append-le, take_all, length-take-le, get_or_default}
 use Rattle.std.proofs.lemmas.List.Elements.{All-nil, All-cons, All-get_or, All-push, All-weaker}
 use Rattle.std.proofs.Math.ListN.{get_or-append, get_or-eq_default}
-use Rattle.std.proofs.Math.Seq.{take-append_seam, get_or-append_seam, drop-append_seam}
+use Rattle.std.proofs.Math.Seq.{take-append_seam, get_or-append_seam}
 use Rattle.std.proofs.Math.Path.{fun_ext}
 use Rattle.tc_term.specs.Tree.{Tree, Variable, Atomic, Number}
 use Rattle.tc_unify.specs.declared.names.TheConstants.{SHORT, SHORT_NAMES}
@@ -16,17 +16,10 @@ use Rattle.tc_unify.specs.declared.nodes.Node.TheVariants.{Atom, Int, Apply}
 use Rattle.tc_unify.specs.Nodes.{Shape, VariableNode, AtomNode, NumberNode, ApplyNode, IsVariable, IsTerm, IsHead, IsPlain, IsInOrder, InOrder, tree_of_node, applied, label}
 use Rattle.tc_unify.proofs.Labels.{IsWithin, label-same, label-labels}
 use Rattle.tc_unify.specs.Arena.{node_shape, outer_shape, shape_in, IsInside, HasLink, IsNodeWithin, IsArenaOf, IsArena, IsNodeOf, AreNodesOf, Grows, IsNodeFor, IsHeadFor, shape_of, node_tree, Begins}
-use Rattle.std.proofs.Common.{Result, IfOk, OnOk, OnErr, Ok, Err}
 use Rattle.tc_unify.specs.declared.nodes.Arena.{Arena}
 use Rattle.std.specs.Prelude.{bytes_eq, slice_range, Decides}
 use Rattle.std.proofs.lemmas.Slice.Eq.{bytes_eq-Decides}
-
-not_below : (k n : ℕ) → n ≤ k → ltb k n ≡ false
-not_below k n h = by_test (ltb k n) refl
-  where
-    by_test : (b : Bool) → ltb k n ≡ b → ltb k n ≡ false
-    by_test true e = (let below = (Decides-ltb k n).0 e in absurd (omega arith))
-    by_test false e = e
+use Rattle.tc_lists.proofs.Parts.{take-drop-append}
 
 -- what a term's node is
 pub shape_in-term : (nodes : List Node) (text : List ℕ) (k : ℕ) → k < FIRST_NAME → shape_in nodes text k ≡ node_shape text (get_or nodes k (Atom 0 0))
@@ -38,7 +31,7 @@ shape_in-term nodes text k h =
 pub shape_in-outer : (nodes : List Node) (text : List ℕ) (k : ℕ) → FIRST_NAME ≤ k → shape_in nodes text k ≡ outer_shape k
 unfolding shape_in
 shape_in-outer nodes text k h =
-    ap (λ b. cond b (node_shape text (get_or nodes k (Atom 0 0))) (outer_shape k)) (not_below k FIRST_NAME h)
+    ap (λ b. cond b (node_shape text (get_or nodes k (Atom 0 0))) (outer_shape k)) (le-ltb k FIRST_NAME h)
 
 outer_shape-name : (k : ℕ) → k < FIRST_VARIABLE → outer_shape k ≡ AtomNode (name_at (k - FIRST_NAME))
 unfolding outer_shape
@@ -48,7 +41,7 @@ outer_shape-name k h =
 outer_shape-variable : (k : ℕ) → FIRST_VARIABLE ≤ k → outer_shape k ≡ VariableNode (k - FIRST_VARIABLE)
 unfolding outer_shape
 outer_shape-variable k h =
-    ap (λ b. cond b (AtomNode (name_at (k - FIRST_NAME))) (VariableNode (k - FIRST_VARIABLE))) (not_below k FIRST_VARIABLE h)
+    ap (λ b. cond b (AtomNode (name_at (k - FIRST_NAME))) (VariableNode (k - FIRST_VARIABLE))) (le-ltb k FIRST_VARIABLE h)
 
 pub shape_in-name : (nodes : List Node) (text : List ℕ) (k : ℕ) → FIRST_NAME ≤ k → k < FIRST_VARIABLE → shape_in nodes text k ≡ AtomNode (name_at (k - FIRST_NAME))
 shape_in-name nodes text k h i = shape_in-outer nodes text k h ∙ outer_shape-name k i
@@ -418,20 +411,6 @@ Grows-trans old mid new g h = record {
   variables = h.variables ∙ g.variables;
 }
 
--- the name of an atom that was pushed
-pub name_pushed : (text name longer : List ℕ) → longer ≡ text ++ name → take (length name) (drop (length text) longer) ≡ name
-name_pushed text name longer e =
-    ap (λ bytes. take (length name) (drop (length text) bytes)) e ∙ ap (take (length name)) (drop-append_seam text name) ∙ take_all (length name) name (omega arith)
-
--- by cases on whether memory was there
-pub ok_at : {E : Type 0} (r : Result ℕ E) (P : ℕ → Type 0) (Q : Type 0) (n : ℕ) → IfOk r (λ k. k ≡ n) → OnOk r Q → (Q → P n) → IfOk r P
-ok_at (Ok k) P Q n e q f = subst P (sym e) (f q)
-ok_at (Err x) P Q n e q f = tt
-
-pub ok_or_err : {X E : Type 0} (r : Result X E) (Q R Y : Type 0) → OnOk r Q → OnErr r R → (Q → Y) → (R → Y) → Y
-ok_or_err (Ok x) Q R Y q r f g = f q
-ok_or_err (Err x) Q R Y q r f g = g r
-
 -- an arena without a new node, on a text that has grown
 pub IsArena-same : (old new : Arena) → IsArena old → Begins old.text.items new.text.items → new.variables ≡ old.variables → new.nodes.items ≡ old.nodes.items → IsArena new
 IsArena-same old new arena text variables nodes =
@@ -446,7 +425,7 @@ atom_pushed old new name from long arena start text variables few nodes =
     let longer : Begins old.text.items new.text.items = subst (Begins old.text.items) (sym text) (Begins-append old.text.items name) in
     let node = Atom from (length name) in
     let next : IsNext old.nodes.items new.text.items old.variables node = (omega (arith, ap length text, length-append old.text.items name), long) in
-    let same = ap (λ i. take (length name) (drop i new.text.items)) start ∙ name_pushed old.text.items name new.text.items text in
+    let same = ap (λ i. take (length name) (drop i new.text.items)) start ∙ ap (λ bytes. take (length name) (drop (length old.text.items) bytes)) text ∙ take-drop-append old.text.items name in
     let is = shape_pushed old new node arena longer variables nodes next few ∙ ap AtomNode same in (
       IsArena-pushed old new node arena longer variables nodes next few,
       record {

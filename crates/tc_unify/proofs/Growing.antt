@@ -1,10 +1,10 @@
 -- An arena that grows keeps what its links mean.
-use Rattle.std.proofs.Common.{◌≡◌, ℕ, ◌+◌, ◌<◌, ◌≤◌, ◌⊎◌, inl, inr, List, [], ◌∷◌, length, map, reverse, refl, sym, ap, ◌∙◌, subst, arith, All}
+use Rattle.std.proofs.Common.{◌≡◌, ℕ, ◌+◌, ◌<◌, ◌≤◌, ◌⊎◌, inl, inr, List, [], ◌∷◌, length, reverse, sym, ap, ◌∙◌, subst, arith, All}
 use Rattle.std.proofs.Math.Path.{fun_ext}
 use Rattle.std.proofs.Math.ListN.{get_or-eq_default}
 use Rattle.std.proofs.lemmas.Bool.{cases_lt}
-use Rattle.std.proofs.lemmas.List.{reverse-append}
-use Rattle.std.proofs.lemmas.List.Elements.{All-nil, All-cons, All-head, All-tail, All-push, All-weaker, All-map}
+use Rattle.std.proofs.lemmas.List.{reverse-reverse}
+use Rattle.std.proofs.lemmas.List.Elements.{All-weaker, All-map}
 use Rattle.tc_term.specs.Tree.{Tree}
 use Rattle.tc_term.specs.Equations.{Equation, at}
 use Rattle.tc_unify.specs.declared.nodes.TheConstants.{FIRST_VARIABLE}
@@ -21,6 +21,7 @@ use Rattle.tc_unify.specs.Meeting.{IsLinked}
 use Rattle.tc_unify.specs.Stores.{equation_of, said_of, IsLevel, AreLevels}
 use Rattle.tc_unify.proofs.Arenas.{inside_link, Begins-length, shape_in-grows, label-grows, IsTerm-below, term_below}
 use Rattle.tc_unify.proofs.Tables.{link_in-term, link_in-variable}
+use Rattle.tc_lists.proofs.Elements.{All-from_map, All-reverse}
 
 pub level_of : (count : ℕ) (nodes : List Node) (text : List ℕ) (link : ℕ → ℕ) (trail : List ℕ) (added : List Added) → AreLevels count nodes text link trail added → IsLevel count nodes text link trail added
 level_of count nodes text link trail [] h = h
@@ -136,27 +137,13 @@ AreLevels-same count other nodes nodes2 text text2 link link2 trail trail2 added
     (subst (λ x. AreLevels count nodes text x trail2 added) (sym (fun_ext e))
     (subst (λ x. AreLevels count nodes text link x added) (sym r) h))))
 
-All-reversed : {X : Type 0} (P : X → Type 0) (xs : List X) → All P xs → All P (reverse xs)
-All-reversed P [] h = h
-All-reversed P (x ∷ xs) h =
-    subst (All P) (sym (reverse-append (x ∷ []) xs)) (All-push P (reverse xs) x (All-reversed P xs (All-tail P x xs h)) (All-head P x xs h))
-
-reversed_twice : {X : Type 0} (xs : List X) → reverse (reverse xs) ≡ xs
-reversed_twice [] = refl
-reversed_twice (x ∷ xs) =
-    ap reverse (reverse-append (x ∷ []) xs) ∙ reverse-append (reverse xs) (x ∷ []) ∙ ap (λ ys. x ∷ ys) (reversed_twice xs)
-
-All-of_map : {X Y : Type 0} (P : Y → Type 0) (f : X → Y) (xs : List X) → All P (map f xs) → All (λ x. P (f x)) xs
-All-of_map P f [] h = All-nil (λ x. P (f x))
-All-of_map P f (x ∷ xs) h = All-cons (λ y. P (f y)) x xs (All-head P (f x) (map f xs) h) (All-of_map P f xs (All-tail P (f x) (map f xs) h))
-
 -- what holds of all equations holds in either order
 pub said_backward : (P : Equation → Type 0) (added : List Added) → All P (said_of added) → All P (said_of (reverse added))
 said_backward P added h =
     All-map P equation_of (reverse added)
-    (All-reversed (λ e. P (equation_of e)) added (All-of_map P equation_of added h))
+    (All-reverse (λ e. P (equation_of e)) added (All-from_map P equation_of added h))
 
 pub said_forward : (P : Equation → Type 0) (added : List Added) → All P (said_of (reverse added)) → All P (said_of added)
 said_forward P added h =
-    subst (λ xs. All P (said_of xs)) (reversed_twice added)
+    subst (λ xs. All P (said_of xs)) (reverse-reverse added)
     (said_backward P (reverse added) h)

@@ -22,9 +22,7 @@ use Rattle.tc_unify.specs.Walks.{Awaits, Descends, IsBelowAll, IsOpenIn}
 use Rattle.tc_unify.specs.Marks.{mark_of, steps_of, IsListed, IsMarked, IsStarted, IsStep, Knows, Keeps, IsEndless, unseen, walk_work}
 use Rattle.tc_unify.proofs.Roots.{root-ends, root-fixed}
 use Rattle.tc_unify.proofs.Walks.{IsFinite-same, Awaits-more, Awaits-skipped, Awaits-passed, Awaits-entered, Descends-entered, Descends-open}
-
-pub reverse-push : {X : Type 0} (xs : List X) (x : X) → reverse (xs ++ x ∷ []) ≡ x ∷ reverse xs
-reverse-push xs x = reverse-append xs (x ∷ [])
+use Rattle.tc_lists.proofs.Reversals.{reverse_push}
 
 pub IsListed-push : (nodes : List ℕ) (n k : ℕ) → IsListed nodes k → IsListed (nodes ++ n ∷ []) k
 IsListed-push [] n k h = absurd h
@@ -187,7 +185,7 @@ module _ (a : Arena) (l : Links) (linked : IsLinked a l) (w new : Walk) (r : ℕ
       (mark-set w.marks.items r k Finite (omega arith))
 
   steps_before : steps_of w ≡ Leave r ∷ steps_of new
-  steps_before = ap reverse before ∙ reverse-push new.steps.items (Leave r)
+  steps_before = ap reverse before ∙ reverse_push new.steps.items (Leave r)
 
   pub Knows-left : Knows a l new
   Knows-left = record {
@@ -295,7 +293,7 @@ module _ (a : Arena) (l : Links) (nodes : List ℕ) (steps : List Step) (i n : �
   -- a node more is to be entered
   pub IsStarted-push : (new : List Step) → IsNodeOf a n → new ≡ steps ++ Enter n ∷ [] → IsStarted a l (take (i + 1) nodes) new
   IsStarted-push new inside pushed =
-      let turned : reverse new ≡ Enter n ∷ reverse steps = ap reverse pushed ∙ reverse-push steps (Enter n) in
+      let turned : reverse new ≡ Enter n ∷ reverse steps = ap reverse pushed ∙ reverse_push steps (Enter n) in
       record {
         awaits =
             subst (Awaits (shape_of a) (link_of l) (take (i + 1) nodes) (IsFinite (shape_of a) (link_of l))) (sym turned)
@@ -320,5 +318,5 @@ module _ (a : Arena) (l : Links) (nodes : List ℕ) (steps : List Step) (i n : �
 pub step_taken : (a : Arena) (l : Links) (seen : List ℕ) (steps rest : List Step) (s t : Step) → steps ≡ rest ++ s ∷ [] → s ≡ t → All (IsStep a l seen) steps → IsStep a l seen t × (reverse steps ≡ t ∷ reverse rest)
 step_taken a l seen steps rest s t e f all = (
   subst (IsStep a l seen) f (All-pop (IsStep a l seen) steps rest (Some s) e all).1,
-  ap reverse e ∙ reverse-push rest s ∙ ap (λ x. x ∷ reverse rest) f,
+  ap reverse e ∙ reverse_push rest s ∙ ap (λ x. x ∷ reverse rest) f,
 )

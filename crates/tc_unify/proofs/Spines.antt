@@ -1,5 +1,5 @@
 -- A node's name and arguments, and terms put together argument by argument.
-use Rattle.std.proofs.Common.{inl, inr, suc, drop-cons, ◌≡◌, ◌≢◌, ℕ, ◌+◌, ◌<◌, ◌≤◌, List, [], ◌∷◌, ◌++◌, length, reverse, refl, sym, ap, ◌∙◌, subst, arith, take, drop, get_or, length-take, length-drop, ℤ}
+use Rattle.std.proofs.Common.{inl, inr, ◌≡◌, ◌≢◌, ℕ, ◌+◌, ◌<◌, ◌≤◌, List, [], ◌∷◌, ◌++◌, length, reverse, refl, sym, ap, ◌∙◌, subst, arith, get_or, ℤ}
 use Rattle.tc_term.specs.Tree.{Tree, Atomic, Variable, nodes, depth, name_bytes}
 use Rattle.tc_unify.specs.declared.nodes.Arena.{Arena}
 use Rattle.tc_unify.specs.declared.nodes.Node.{Node}
@@ -8,9 +8,9 @@ use Rattle.tc_unify.specs.Nodes.{applied, applied_over, Shape, VariableNode, Ato
 use Rattle.tc_unify.specs.declared.nodes.TheConstants.{FIRST_NAME, FIRST_VARIABLE}
 use Rattle.std.proofs.lemmas.Bool.{cases_lt}
 use Rattle.tc_unify.specs.Arena.{IsArena, IsNodeOf, IsNodeWithin, node_shape, shape_of, node_tree}
-use Rattle.tc_unify.proofs.Marks.{reverse-push}
 use Rattle.tc_unify.proofs.Labels.{IsSpine, IsSpine-applied, IsSpine-label, applied-injective, nodes-positive, nodes-applied, depth-applied, name_bytes-applied, label-labels}
 use Rattle.tc_unify.proofs.Arenas.{shape_of-read, named_node, outer_plain, shape_in-name, shape_in-variable}
+use Rattle.tc_lists.proofs.Reversals.{reverse_push}
 
 pub IsSpine-applied_over : {X : Type 0} (f : X → Tree) (s : Tree) (xs : List X) → IsSpine s → IsSpine (applied_over f s xs)
 IsSpine-applied_over f s [] h = h
@@ -40,12 +40,6 @@ name_bytes-applied_over f s [] h = omega arith
 name_bytes-applied_over f s (x ∷ xs) h =
     omega (arith, name_bytes-applied s (f x) h, name_bytes-applied_over f (applied s (f x)) xs (IsSpine-applied s (f x)))
 
--- the next argument, and the others
-pub drop_next : {X : Type 0} (xs : List X) (i : ℕ) (x : X) → i < length xs → x ≡ get_or xs i x → drop i xs ≡ x ∷ drop (i + 1) xs
-drop_next xs i x h e =
-    let one : suc i ≡ i + 1 = omega arith in
-    drop-cons xs i x h ∙ ap (λ y. y ∷ drop (suc i) xs) (sym e) ∙ ap (λ j. x ∷ drop j xs) one
-
 -- the node of one argument more
 pub spine_next : (a : Arena) (rest head argument : ℕ) (x : Node) → IsArena a → rest < length a.nodes.items → x ≡ get_or a.nodes.items rest x → x ≡ Apply head argument
     → IsHead (shape_of a head) × IsNodeOf a head × IsNodeOf a argument × ((v : ℕ → Tree) → label (shape_of a) v rest ≡ applied (label (shape_of a) v head) (label (shape_of a) v argument))
@@ -62,7 +56,7 @@ pub spine_tree : (F : ℕ → Tree) (t : Tree) (rest head argument : ℕ) (argum
     → t ≡ applied_over F (F head) (reverse more)
 spine_tree F t rest head argument arguments more so_far one pushed =
     so_far ∙ ap (λ u. applied_over F u (reverse arguments)) one
-    ∙ ap (applied_over F (F head)) (sym (ap reverse pushed ∙ reverse-push arguments argument))
+    ∙ ap (applied_over F (F head)) (sym (ap reverse pushed ∙ reverse_push arguments argument))
 
 pub term_inside : (a : Arena) (k : ℕ) → IsNodeOf a k → k < FIRST_NAME → k < length a.nodes.items
 term_inside a k (inl h) below = h
@@ -120,9 +114,6 @@ label-atom a v k name arena e = label-labels (shape_of a) v arena.order k ∙ ap
 pub name_within : (a : Arena) (k from len : ℕ) (x : Node) → IsArena a → k < length a.nodes.items → x ≡ get_or a.nodes.items k x → x ≡ Atom from len → from + len ≤ length a.text.items
 name_within a k from len x arena below read is =
     (subst (IsNodeWithin a.nodes.items a.text.items a.variables) (sym read ∙ is) (arena.within k x below)).0
-
-pub length-name : (text : List ℕ) (from len : ℕ) → from + len ≤ length text → len ≡ length (take len (drop from text))
-length-name text from len within = omega (arith, length-take len (drop from text), length-drop from text)
 
 -- a node that is no number can have arguments
 pub head_read : (a : Arena) (k : ℕ) (x : Node) → IsArena a → k < length a.nodes.items → x ≡ get_or a.nodes.items k x → ((n : ℤ) → x ≢ Int n) → IsHead (shape_of a k)

@@ -1,11 +1,11 @@
 -- Tables of links: what they give, and what a write or a rewinding leaves.
-use Rattle.std.proofs.Common.{◌≡◌, ◌≢◌, ℕ, zero, suc, ◌+◌, ◌-◌, ◌<◌, ◌≤◌, ◌⊎◌, inl, inr, List, [], ◌∷◌, ◌++◌, length, get_or, set, refl, sym, ap, ◌∙◌, subst, arith, Bool, true, false, cond, ltb, ◌==◌, true≢false, append_assoc, append-nil, take, drop, length-append, length-take, All}
+use Rattle.std.proofs.Common.{◌≡◌, ◌≢◌, ℕ, zero, suc, ◌+◌, ◌-◌, ◌<◌, ◌≤◌, ◌⊎◌, inl, inr, List, [], ◌∷◌, ◌++◌, length, get_or, set, refl, sym, ap, ◌∙◌, subst, arith, Bool, true, false, cond, ◌==◌, true≢false, append_assoc, append-nil, take, drop, length-append, length-take, All}
 use Rattle.std.specs.Prelude.{Some}
 use Rattle.std.proofs.Math.ListN.{get_or-append, get_or-eq_default}
 use Rattle.std.proofs.Math.Seq.{get_or-append_seam}
 use Rattle.std.proofs.lemmas.List.Elements.{All-head, All-tail, All-pop}
 use Rattle.std.proofs.lemmas.Bool.Decides.{Decides-ltb, Decides-eqb, nat_tests}
-use Rattle.std.proofs.lemmas.Bool.{cases_lt, cases_order}
+use Rattle.std.proofs.lemmas.Bool.{cases_lt, cases_order, le-ltb}
 use Rattle.std.proofs.lemmas.List.{get_or-set_same, get_or-set_other, drop-append-le, take-append-le, get_or-take}
 use Rattle.tc_unify.specs.declared.nodes.TheConstants.{FIRST_VARIABLE}
 use Rattle.tc_unify.specs.declared.links.Links.{Links}
@@ -13,13 +13,6 @@ use Rattle.tc_unify.specs.Links.{linked, root, Falls}
 use Rattle.tc_unify.specs.Tables.{link_in, link_of, own_links, unlinked_in, rewound, HasNode, Extends}
 use Rattle.tc_unify.proofs.Steps.{linked_cases}
 use Rattle.tc_unify.proofs.Roots.{root-link, root-keeps}
-
-not_below : (k n : ℕ) → n ≤ k → ltb k n ≡ false
-not_below k n h = by_test (ltb k n) refl
-  where
-    by_test : (b : Bool) → ltb k n ≡ b → ltb k n ≡ false
-    by_test true e = (let below = (Decides-ltb k n).0 e in absurd (omega arith))
-    by_test false e = e
 
 pub link_in-term : (terms variables : List ℕ) (k : ℕ) → k < FIRST_VARIABLE → link_in terms variables k ≡ get_or terms k k
 unfolding link_in
@@ -29,7 +22,7 @@ link_in-term terms variables k h =
 pub link_in-variable : (terms variables : List ℕ) (k : ℕ) → FIRST_VARIABLE ≤ k → link_in terms variables k ≡ get_or variables (k - FIRST_VARIABLE) k
 unfolding link_in
 link_in-variable terms variables k h =
-    ap (λ b. cond b (get_or terms k k) (get_or variables (k - FIRST_VARIABLE) k)) (not_below k FIRST_VARIABLE h)
+    ap (λ b. cond b (get_or terms k k) (get_or variables (k - FIRST_VARIABLE) k)) (le-ltb k FIRST_VARIABLE h)
 
 linked-at : (link : ℕ → ℕ) (a b : ℕ) → linked link a b a ≡ b
 linked-at link a b = elim (linked_cases link a b a) [ inl at ↦ at.1 | inr off ↦ absurd (off.0 refl) ]

@@ -8,12 +8,12 @@ use Rattle.tc_term.specs.declared.terms.Term.TheVariants.{Int}
 use Rattle.tc_unify.specs.Nodes.{AtomNode, label}
 use Rattle.tc_unify.specs.Arena.{IsNodeOf, shape_of}
 use Rattle.tc_unify.specs.Values.{IsFixed, of_node}
-use Rattle.tc_unify.proofs.Marks.{reverse-push}
 use Rattle.tc_unify.proofs.Meetings.{root_term, root_node}
 use Rattle.tc_unify.proofs.Spines.{term_inside, head_read, head_outer, named_spine}
 use Rattle.tc_unify.proofs.Fixed.{IsSpent-head, spent_next, builds_next, none_next, number_fixed, free_value, full_value, leaf_value, none_value, name_least, spine_builds}
 use Rattle.tc_unify.proofs.values.+node_value.Goals.{then-end-lt-FIRST_NAME+in_default, else-end-lt-FIRST_NAME}
 use Rattle.tc_unify.proofs.values.+node_value.Goals as goal
+use Rattle.tc_lists.proofs.Reversals.{reverse_push}
 
 pub returns-then-end-ge-FIRST_VARIABLE : goal.returns-then-end-ge-FIRST_VARIABLE
 returns-then-end-ge-FIRST_VARIABLE t c =
@@ -114,7 +114,7 @@ loop-argument-preserved t c =
     let l = c.args.links.now in
     let inv = c.loop-argument.invariant in
     let rest = c.pop.new.self.items in
-    let next = ap reverse c.in-Some-pop.ensures.items ∙ reverse-push rest c.in-Some-pop.argument in
+    let next = ap reverse c.in-Some-pop.ensures.items ∙ reverse_push rest c.in-Some-pop.argument in
     record {
       deep = inv.deep;
       arguments = (All-pop (IsNodeOf a) c.loop-argument.spine.arguments.items rest (Some c.in-Some-pop.argument) c.in-Some-pop.ensures.items inv.arguments).0;
@@ -130,7 +130,7 @@ returns-in-None t c =
     let l = c.args.links.now in
     let inv = c.loop-argument.invariant in
     let rest = c.pop.new.self.items in
-    let next = ap reverse c.in-Some-pop.ensures.items ∙ reverse-push rest c.in-Some-pop.argument in
+    let next = ap reverse c.in-Some-pop.ensures.items ∙ reverse_push rest c.in-Some-pop.argument in
     none_value a l c.requires.solved (of_node a c.args.node) c.args.depth c.args.room.now c.node_value.new.room
     (none_next a l c.requires.solved (λ v. label (shape_of a) (at v)) (of_node a c.args.node) c.name.inside.bytes.items c.loop-argument.values.items c.in-Some-pop.argument (reverse c.loop-argument.spine.arguments.items) (reverse rest) c.args.depth c.args.room.now c.loop-argument.room
     next inv.deep inv.spent inv.value c.in_ok-value.field-0 c.node_value.new.room c.in-None.is c.in_ok-value.ensures)

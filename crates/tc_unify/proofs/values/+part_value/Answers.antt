@@ -6,9 +6,9 @@ use Rattle.tc_term.specs.TreeView.{tree_of}
 use Rattle.tc_unify.specs.Nodes.{applied_over}
 use Rattle.tc_unify.specs.Values.{IsValue, of_term}
 use Rattle.tc_unify.proofs.Copied.{args_fit}
-use Rattle.tc_unify.proofs.Spines.{drop_next}
 use Rattle.tc_unify.proofs.Fixed.{IsSpent-head, spent_next, builds_next, none_next, none_value, built_value, term_builds, of_variable}
 use Rattle.tc_unify.proofs.values.+part_value.Goals as goal
+use Rattle.tc_lists.proofs.Parts.{drop_read}
 
 pub loop-arg-init : goal.loop-arg-init
 loop-arg-init t c =
@@ -39,7 +39,7 @@ returns-in-None t c =
     let inv = c.loop-arg.invariant in
     none_value a l c.requires.solved (of_term c.args.shift c.args.term.now) c.args.depth c.args.room.now c.part_value.new.room
     (none_next a l c.requires.solved (λ v x. of_term c.args.shift x v) (of_term c.args.shift c.args.term.now) c.in-Comp.name c.loop-arg.values.items c.arg-item.result (drop c.loop-arg.arg-index items) (drop (c.loop-arg.arg-index + 1) items) c.args.depth c.args.room.now c.loop-arg.room
-    (drop_next items c.loop-arg.arg-index c.arg-item.result c.loop-arg-test.true c.arg-item.is) inv.deep inv.spent inv.value c.in_ok-value-in-Comp.field-0 c.part_value.new.room c.in-None.is c.in_ok-value-in-Comp.ensures)
+    (drop_read items c.loop-arg.arg-index c.arg-item.result c.loop-arg-test.true c.arg-item.is) inv.deep inv.spent inv.value c.in_ok-value-in-Comp.field-0 c.part_value.new.room c.in-None.is c.in_ok-value-in-Comp.ensures)
 
 pub loop-arg-preserved : goal.loop-arg-preserved
 loop-arg-preserved t c =
@@ -47,7 +47,7 @@ loop-arg-preserved t c =
     let l = c.args.links.now in
     let items = c.items-arg-items.result.now in
     let inv = c.loop-arg.invariant in
-    let next = drop_next items c.loop-arg.arg-index c.arg-item.result c.loop-arg-test.true c.arg-item.is in
+    let next = drop_read items c.loop-arg.arg-index c.arg-item.result c.loop-arg-test.true c.arg-item.is in
     record {
       deep = inv.deep;
       args = inv.args;
