@@ -10,7 +10,7 @@ use Rattle.tc_read.specs.Items.{kept_item}
 use Rattle.tc_read.specs.Views.{token_view}
 use Rattle.tc_read.specs.Variables.{names_view}
 use Rattle.tc_read.specs.Scanner.{first_at, Gathers}
-use Rattle.tc_read.specs.Answers.{IsFault, IsTermAnswer, place_by}
+use Rattle.tc_read.specs.ReadAnswers.{IsFault, IsTermAnswer, place_by}
 use Rattle.tc_read.specs.declared.fault.ReadFault.{ReadFault}
 use Rattle.tc_read.specs.declared.fault.ReadFault.TheVariants as fault
 use Rattle.tc_read.specs.declared.measured.Item.{Item}

@@ -7,27 +7,27 @@ use Rattle.tc_term.specs.declared.terms.Term.{Term}
 use Rattle.tc_read.proofs.Cells.{prepended, prepended-none, prepended-push, prepended-last}
 use Rattle.tc_read.specs.Front.{Read, argument, arguments, before}
 use Rattle.tc_read.specs.Seen.{term_seen}
-use Rattle.tc_read.specs.declared.room.Room.{Room}
+use Rattle.tc_read.specs.declared.budget.Budget.{Budget}
 use Rattle.std.proofs.lemmas.Bool.{ne_eqb}
 
 -- what stands behind an argument
-module _ (more : Room → List ℕ → Read Trees) (t : Tree) (room : Room) (s : List ℕ) where
-  pub argument-other : (b : ℕ) → b ≢ 41 → b ≢ 44 → argument more (Some (t, room, b ∷ s)) ≡ None
-  argument-other b n m = ap (λ p. if p then Some (Last t, room, s) else (if b == 44 then before t (more room s) else None)) (ne_eqb b 41 n)
-      ∙ ap (λ p. if p then before t (more room s) else None) (ne_eqb b 44 m)
+module _ (more : Budget → List ℕ → Read Trees) (t : Tree) (budget : Budget) (s : List ℕ) where
+  pub argument-other : (b : ℕ) → b ≢ 41 → b ≢ 44 → argument more (Some (t, budget, b ∷ s)) ≡ None
+  argument-other b n m = ap (λ p. if p then Some (Last t, budget, s) else (if b == 44 then before t (more budget s) else None)) (ne_eqb b 41 n)
+      ∙ ap (λ p. if p then before t (more budget s) else None) (ne_eqb b 44 m)
 
-module _ (read : Room → List ℕ → Read Tree) (items : List Term) (n m : ℕ) (room : Room) (bytes : List ℕ) (whole : Read Trees)
-    (kept : prepended items (arguments read n room bytes) ≡ whole) (left : n ≡ suc m)
-    (found : Option (Term × Room × Bor (List ℕ))) (seen : term_seen found ≡ read room bytes) where
+module _ (read : Budget → List ℕ → Read Tree) (items : List Term) (n m : ℕ) (budget : Budget) (bytes : List ℕ) (whole : Read Trees)
+    (kept : prepended items (arguments read n budget bytes) ≡ whole) (left : n ≡ suc m)
+    (found : Option (Term × Budget × Bor (List ℕ))) (seen : term_seen found ≡ read budget bytes) where
   read_next : prepended items (argument (arguments read m) (term_seen found)) ≡ whole
   read_next = ap (λ r. prepended items (argument (arguments read m) r)) seen
-      ∙ ap (λ k. prepended items (arguments read k room bytes)) (sym left) ∙ kept
+      ∙ ap (λ k. prepended items (arguments read k budget bytes)) (sym left) ∙ kept
 
   pub none_next : found ≡ None → None ≡ whole
   none_next e = sym (prepended-none items)
       ∙ ap (λ f. prepended items (argument (arguments read m) (term_seen f))) (sym e) ∙ read_next
 
-  module _ (t : Term) (next : Room) (after : Bor (List ℕ)) (is : found ≡ Some (t, next, after)) where
+  module _ (t : Term) (next : Budget) (after : Bor (List ℕ)) (is : found ≡ Some (t, next, after)) where
     behind_next : (s : List ℕ) → after.now ≡ s → prepended items (argument (arguments read m) (Some (tree_of t, next, s))) ≡ whole
     behind_next s e = ap (λ x. prepended items (argument (arguments read m) (Some (tree_of t, next, x)))) (sym e)
         ∙ ap (λ f. prepended items (argument (arguments read m) (term_seen f))) (sym is) ∙ read_next

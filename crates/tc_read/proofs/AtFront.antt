@@ -27,7 +27,7 @@ use Rattle.tc_read.proofs.Texts.{text_in-Atomic, text_in-Number, text_in-nil}
 use Rattle.tc_read.specs.Budget.{paid, then_in, whole}
 use Rattle.tc_read.specs.Canonical.{EndsTerm, IsCanonicalAt, IsLongestCanonicalAt}
 use Rattle.tc_read.specs.Front.{Read, arguments, atom, called, canonical_at, compound, head, is_cell, leaf, name_at, named, number, or_head, quoted_at, reads, unplain, word_at}
-use Rattle.tc_read.specs.declared.room.Room.{Room}
+use Rattle.tc_read.specs.declared.budget.Budget.{Budget}
 use Rattle.std.proofs.lemmas.Option.{same_Some}
 use Rattle.tc_lists.proofs.Parts.{append_parts}
 use Rattle.tc_lists.proofs.Bools.{and_parts}
@@ -63,24 +63,24 @@ abbrev Shorter : List ℕ → Read Tree → Type 0
 Shorter s None = Unit {0}
 Shorter s (Some (t, left, rest)) = length rest ≤ length s
 
-compound-shorter : (d : ℕ) (room : Room) (name s : List ℕ) (found : Read Trees) → IsTookAll d room s found → Shorter s (compound name found)
-compound-shorter d room name s None took = tt
-compound-shorter d room name s (Some (args, left, rest)) took =
+compound-shorter : (d : ℕ) (budget : Budget) (name s : List ℕ) (found : Read Trees) → IsTookAll d budget s found → Shorter s (compound name found)
+compound-shorter d budget name s None took = tt
+compound-shorter d budget name s (Some (args, left, rest)) took =
     if_by (Shorter s) (is_cell name args) None (Some (Compound name args, left, rest)) (λ cell. tt)
     (λ other. omega (arith, ap length took.text, length-append (texts_of args) (41 ∷ rest)))
 
-called-shorter : (d : ℕ) (room : Room) (name s : List ℕ) → Shorter s (called (reads d) name room s)
-called-shorter d room name s = by (paid (length name) room)
+called-shorter : (d : ℕ) (budget : Budget) (name s : List ℕ) → Shorter s (called (reads d) name budget s)
+called-shorter d budget name s = by (paid (length name) budget)
   where
-    by : (o : Option Room) → Shorter s (compound name (then_in o (λ now. arguments (reads d Alone) now.nodes now s)))
+    by : (o : Option Budget) → Shorter s (compound name (then_in o (λ now. arguments (reads d Alone) now.room.nodes now s)))
     by None = tt
-    by (Some next) = compound-shorter d next name s (arguments (reads d Alone) next.nodes next s) (arguments-took d (reads d Alone) (reads-took d Alone) next.nodes next s)
+    by (Some next) = compound-shorter d next name s (arguments (reads d Alone) next.room.nodes next s) (arguments-took d (reads d Alone) (reads-took d Alone) next.room.nodes next s)
 
-atom-shorter : (room : Room) (name rest : List ℕ) → Shorter rest (atom name room rest)
-atom-shorter room name rest =
-    if_by (Shorter rest) (is_nil name) None (leaf (paid (length name) room) (Atomic name) rest) (λ nil. tt) (λ other. by (paid (length name) room))
+atom-shorter : (budget : Budget) (name rest : List ℕ) → Shorter rest (atom name budget rest)
+atom-shorter budget name rest =
+    if_by (Shorter rest) (is_nil name) None (leaf (paid (length name) budget) (Atomic name) rest) (λ nil. tt) (λ other. by (paid (length name) budget))
   where
-    by : (o : Option Room) → Shorter rest (leaf o (Atomic name) rest)
+    by : (o : Option Budget) → Shorter rest (leaf o (Atomic name) rest)
     by None = tt
     by (Some left) = omega arith
 
@@ -88,12 +88,12 @@ longer-shorter : (b : ℕ) (s : List ℕ) (found : Read Tree) → Shorter s foun
 longer-shorter b s None short = tt
 longer-shorter b s (Some (t, left, rest)) short = omega (arith, short)
 
-named-shorter : (d : ℕ) (room : Room) (name rest : List ℕ) → Shorter rest (named (reads d) room name rest)
-named-shorter d room name [] = atom-shorter room name []
-named-shorter d room name (b ∷ s) =
-    if_by (Shorter (b ∷ s)) (b == 40) (called (reads d) name room s) (atom name room (b ∷ s))
-    (λ bracket. longer-shorter b s (called (reads d) name room s) (called-shorter d room name s))
-    (λ other. atom-shorter room name (b ∷ s))
+named-shorter : (d : ℕ) (budget : Budget) (name rest : List ℕ) → Shorter rest (named (reads d) budget name rest)
+named-shorter d budget name [] = atom-shorter budget name []
+named-shorter d budget name (b ∷ s) =
+    if_by (Shorter (b ∷ s)) (b == 40) (called (reads d) name budget s) (atom name budget (b ∷ s))
+    (λ bracket. longer-shorter b s (called (reads d) name budget s) (called-shorter d budget name s))
+    (λ other. atom-shorter budget name (b ∷ s))
 
 -- where a name of an atom is found, a term is
 record AtName (bytes more : List ℕ) : Type 0 where
@@ -110,7 +110,7 @@ name-longest bytes more at = by (reads 1000 Alone whole bytes) shorter
     shorter : Shorter at.rest (reads 1000 Alone whole bytes)
     shorter = subst (Shorter at.rest) (sym (node-named 999 whole bytes at.name at.rest at.found)) (named-shorter 999 whole at.name at.rest)
 
-    alone : head (name_at 65535 bytes) ≡ Some (Atomic at.name, record whole { nodes = whole.nodes - 1; name_bytes = whole.name_bytes - length at.name }, at.rest)
+    alone : head (name_at 65535 bytes) ≡ Some (Atomic at.name, record whole { room = record { nodes = whole.room.nodes - 1; name_bytes = whole.room.name_bytes - length at.name } }, at.rest)
     alone = ap head at.found ∙ atom-again at.name whole _ at.rest at.some (some-paid (length at.name) whole (omega arith) at.enough)
 
     by : (found : Read Tree) → Shorter at.rest found → LeavesAtMost more (or_head bytes found)
@@ -171,7 +171,7 @@ text-AtName name more some enough = by (is_name name) refl
     }
 
 -- what is read as a whole term
-whole-longest : (bytes more : List ℕ) (t : Tree) (left : Room) → reads 1000 Alone whole bytes ≡ Some (t, left, more) → LeavesAtMost more (canonical_at bytes)
+whole-longest : (bytes more : List ℕ) (t : Tree) (left : Budget) → reads 1000 Alone whole bytes ≡ Some (t, left, more) → LeavesAtMost more (canonical_at bytes)
 whole-longest bytes more t left e = subst (λ found. LeavesAtMost more (or_head bytes found)) (sym e) (omega arith)
 
 number-longest : (bytes more : List ℕ) (z : ℤ) → HasIntegers (Number z) → bytes ≡ signed_decimal z ++ more → LeavesAtMost more (canonical_at bytes)
@@ -229,7 +229,7 @@ pub front-none : (text : List ℕ) (from : ℕ) → canonical_at (drop from text
 front-none text from e p behind at =
     subst (LeavesAtMost at.rest) e (canonical_at-longest p (drop from text) at.rest (IsCanonicalAt-stands text from behind p at))
 
-module _ (text : List ℕ) (from : ℕ) (t : Tree) (left : Room) (rest : List ℕ) (inside : from ≤ length text)
+module _ (text : List ℕ) (from : ℕ) (t : Tree) (left : Budget) (rest : List ℕ) (inside : from ≤ length text)
     (e : canonical_at (drop from text) ≡ Some (t, left, rest)) where
   pub front-stands : Stands (drop from text) t rest
   front-stands = subst (IsStanding (drop from text)) e (canonical_at-stands (drop from text))
@@ -276,7 +276,7 @@ IsLongestCanonicalAt-same text from p q behind end one other =
     (IsCanonicalAt-same text from p q end (subst (IsCanonicalAt text from p) same one.stands) other.stands, same)
 
 -- what is printed before something that goes on no term is read there
-printed-found : (p : Tree) (behind : List ℕ) → Stands (text_in Alone p ++ behind) p behind → EndsTerm behind → (left : Room) × (canonical_at (text_in Alone p ++ behind) ≡ Some (p, left, behind))
+printed-found : (p : Tree) (behind : List ℕ) → Stands (text_in Alone p ++ behind) p behind → EndsTerm behind → (left : Budget) × (canonical_at (text_in Alone p ++ behind) ≡ Some (p, left, behind))
 printed-found p behind stands ends =
     let (left, e) = pattern-spent p stands.pattern in
     (left, ap (or_head (text_in Alone p ++ behind)) (reads-alone-again p (again p) 1000 whole left behind e stands.pattern.template.fits.integers (Ends-stops p behind ends)))

@@ -6,7 +6,7 @@ use Rattle.tc_term.specs.TreeView.{tree_of, trees_of}
 use Rattle.tc_term.specs.declared.terms.Term.{Term}
 use Rattle.tc_term.specs.Tree.{Trees, Last}
 use Rattle.tc_read.specs.Front.{Read, before, is_cell, node, reads, tail}
-use Rattle.tc_read.specs.declared.room.Room.{Room}
+use Rattle.tc_read.specs.declared.budget.Budget.{Budget}
 
 one_less : (d : ℕ) → d ≡ suc d - 1
 one_less d = omega arith
@@ -35,17 +35,17 @@ pub prepended-push : (ts : List Term) (t : Term) (read : Read Trees) → prepend
 prepended-push [] t read = refl
 prepended-push (u ∷ ts) t read = ap (before (tree_of u)) (prepended-push ts t read)
 
-pub prepended-last : (ts : List Term) (t : Term) (room : Room) (rest : List ℕ) →
-    prepended ts (Some (Last (tree_of t), room, rest)) ≡ Some (trees_of (ts ++ t ∷ []), room, rest)
-prepended-last [] t room rest = refl
-prepended-last (u ∷ []) t room rest = refl
-prepended-last (u ∷ v ∷ ts) t room rest = ap (before (tree_of u)) (prepended-last (v ∷ ts) t room rest)
+pub prepended-last : (ts : List Term) (t : Term) (budget : Budget) (rest : List ℕ) →
+    prepended ts (Some (Last (tree_of t), budget, rest)) ≡ Some (trees_of (ts ++ t ∷ []), budget, rest)
+prepended-last [] t budget rest = refl
+prepended-last (u ∷ []) t budget rest = refl
+prepended-last (u ∷ v ∷ ts) t budget rest = ap (before (tree_of u)) (prepended-last (v ∷ ts) t budget rest)
 
 -- a term of some depth is read from one level deeper
-pub reads-alone : (d : ℕ) (room : Room) (bytes : List ℕ) → 0 < d → reads d Alone room bytes ≡ node (reads (d - 1)) room bytes
-reads-alone zero room bytes some = absurd (omega (arith, some))
-reads-alone (suc d) room bytes some = ap (λ k. node (reads k) room bytes) (one_less d)
+pub reads-alone : (d : ℕ) (budget : Budget) (bytes : List ℕ) → 0 < d → reads d Alone budget bytes ≡ node (reads (d - 1)) budget bytes
+reads-alone zero budget bytes some = absurd (omega (arith, some))
+reads-alone (suc d) budget bytes some = ap (λ k. node (reads k) budget bytes) (one_less d)
 
-pub reads-behind : (d : ℕ) (room : Room) (bytes : List ℕ) → 0 < d → reads d Behind room bytes ≡ tail (reads (d - 1)) room bytes
-reads-behind zero room bytes some = absurd (omega (arith, some))
-reads-behind (suc d) room bytes some = ap (λ k. tail (reads k) room bytes) (one_less d)
+pub reads-behind : (d : ℕ) (budget : Budget) (bytes : List ℕ) → 0 < d → reads d Behind budget bytes ≡ tail (reads (d - 1)) budget bytes
+reads-behind zero budget bytes some = absurd (omega (arith, some))
+reads-behind (suc d) budget bytes some = ap (λ k. tail (reads k) budget bytes) (one_less d)

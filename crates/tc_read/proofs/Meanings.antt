@@ -135,8 +135,8 @@ parts_are (r ∷ rs) = by_wide r.wide refl (parts_are rs)
     step k ps e f = ap (λ x. joined x (parts (map kept_of rs))) e ∙ ap (joined k) f
 
     by_room : (b : Bool) → fits_all (terms (r ∷ rs)) ≡ b → r.wide ≡ None → fits r.term ≡ true → wide_of_all rs ≡ None → parts (map kept_of rs) ≡ Whole (terms rs) → PartsAre (r ∷ rs)
-    by_room true room e f g q = are_whole (wide_at None e ∙ g) (step (Small r.term) (Whole (terms rs)) (at None e ∙ ap (λ b. small_if b r.term) f) q ∙ ap (λ b. whole_if b (terms (r ∷ rs))) room)
-    by_room false room e f g q = are_oversized (wide_at None e ∙ g) (step (Small r.term) (Whole (terms rs)) (at None e ∙ ap (λ b. small_if b r.term) f) q ∙ ap (λ b. whole_if b (terms (r ∷ rs))) room) room
+    by_room true budget e f g q = are_whole (wide_at None e ∙ g) (step (Small r.term) (Whole (terms rs)) (at None e ∙ ap (λ b. small_if b r.term) f) q ∙ ap (λ b. whole_if b (terms (r ∷ rs))) budget)
+    by_room false budget e f g q = are_oversized (wide_at None e ∙ g) (step (Small r.term) (Whole (terms rs)) (at None e ∙ ap (λ b. small_if b r.term) f) q ∙ ap (λ b. whole_if b (terms (r ∷ rs))) budget) budget
 
     by_fits : (b : Bool) → fits r.term ≡ b → r.wide ≡ None → PartsAre rs → PartsAre (r ∷ rs)
     by_fits true f e (are_wide place g q) = are_wide place (wide_at None e ∙ g) (step (Small r.term) (Wide_at place) (at None e ∙ ap (λ b. small_if b r.term) f) q)

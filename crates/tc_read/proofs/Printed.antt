@@ -29,7 +29,7 @@ use Rattle.tc_read.specs.Front.{is_barred, is_cell}
 use Rattle.tc_read.specs.Lexing.{Begins}
 use Rattle.tc_term.specs.NameBytes.{has_read_names, have_read_names}
 use Rattle.tc_term.specs.Readable.{opened, opened_in_all}
-use Rattle.tc_read.specs.declared.room.Room.{Room}
+use Rattle.tc_read.specs.declared.budget.Budget.{Budget}
 use Rattle.tc_lists.proofs.Bools.{and_parts}
 
 -- a term that is read, with no integer too wide
@@ -80,23 +80,23 @@ no_layout_name [] rest e = absurd (cc)
 no_layout_name (b ∷ s) rest e = no_layout_word b (s ++ rest) (and_parts (is_ascii_lowercase b) (list_all is_word s) e).0
 
 -- the number of a variable, and what is known behind it
-variable-known : (n : ℕ) (room left : Room) → then_in (in_room n room) (paid 0) ≡ Some left → room.variables ≤ 256 →
-    (number_of (variable_names room.variables) (variable_name n) ≡ n) × (known_after (variable_names room.variables) (variable_name n) ≡ variable_names left.variables) × (n < 2 ^ 64)
-variable-known n room left e small =
-    let (mid, there, more) = then_in-some (in_room n room) (paid 0) left e in by mid (numbered-some n room mid there) (ap (λ r. r.variables) (paid-some 0 mid left more).is)
+variable-known : (n : ℕ) (budget left : Budget) → then_in (in_room n budget) (paid 0) ≡ Some left → budget.variables ≤ 256 →
+    (number_of (variable_names budget.variables) (variable_name n) ≡ n) × (known_after (variable_names budget.variables) (variable_name n) ≡ variable_names left.variables) × (n < 2 ^ 64)
+variable-known n budget left e small =
+    let (mid, there, more) = then_in-some (in_room n budget) (paid 0) left e in by mid (numbered-some n budget mid there) (ap (λ r. r.variables) (paid-some 0 mid left more).is)
   where
-    by : (mid : Room) → Numbered n room mid → mid.variables ≡ left.variables →
-        (number_of (variable_names room.variables) (variable_name n) ≡ n) × (known_after (variable_names room.variables) (variable_name n) ≡ variable_names left.variables) × (n < 2 ^ 64)
+    by : (mid : Budget) → Numbered n budget mid → mid.variables ≡ left.variables →
+        (number_of (variable_names budget.variables) (variable_name n) ≡ n) × (known_after (variable_names budget.variables) (variable_name n) ≡ variable_names left.variables) × (n < 2 ^ 64)
     by mid (old below few is) same =
         let bound : n < 2 ^ 64 = omega (arith, few) in (
-          number-old room.variables n small bound below,
-          known-old room.variables n small bound below ∙ ap variable_names (ap (λ r. r.variables) is ∙ same),
+          number-old budget.variables n small bound below,
+          known-old budget.variables n small bound below ∙ ap variable_names (ap (λ r. r.variables) is ∙ same),
           bound,
         )
     by mid (new next few is) same =
         let bound : n < 2 ^ 64 = omega (arith, few) in (
-          number-new room.variables n small bound next,
-          known-new room.variables n small bound next ∙ ap variable_names (ap (λ r. r.variables) is ∙ same),
+          number-new budget.variables n small bound next,
+          known-new budget.variables n small bound next ∙ ap variable_names (ap (λ r. r.variables) is ∙ same),
           bound,
         )
 
@@ -175,22 +175,22 @@ module _ (clauses : Bool) (size : ℕ) (stop : Stop) where
     pub names : all_known known tokens ≡ all_known known' ts
     pub means : Means (numbered known tokens) (numbered known' ts)
 
-  abbrev pub TermSpelt : (s : List ℕ) (ts : List At) (room left : Room) (t : Tree) → Type 0
-  TermSpelt s ts room left t = Spelt s ts (variable_names room.variables) (variable_names left.variables) (opened Alone t) stays (λ x y. Operand reading x (plain t) y)
+  abbrev pub TermSpelt : (s : List ℕ) (ts : List At) (budget left : Budget) (t : Tree) → Type 0
+  TermSpelt s ts budget left t = Spelt s ts (variable_names budget.variables) (variable_names left.variables) (opened Alone t) stays (λ x y. Operand reading x (plain t) y)
 
   -- a term behind an element: nothing in it goes on that
-  pub record TailSpelt (s : List ℕ) (ts : List At) (room left : Room) (t : Tree) : Type 0 where
-    pub spelt : Spelt s ts (variable_names room.variables) (variable_names left.variables) (opened Behind t) falls (GoesOn t)
+  pub record TailSpelt (s : List ℕ) (ts : List At) (budget left : Budget) (t : Tree) : Type 0 where
+    pub spelt : Spelt s ts (variable_names budget.variables) (variable_names left.variables) (opened Behind t) falls (GoesOn t)
     pub follows : Follows s
     pub not_called : (known : List (List ℕ)) → NotCalled (numbered known spelt.tokens)
 
   -- a term, by itself and behind an element
   pub record Spelled (t : Tree) : Type 0 where
-    pub alone : (d : ℕ) (room left : Room) → spent d room t ≡ Some left → room.variables ≤ 256 → HasIntegers t → has_read_names t ≡ true →
+    pub alone : (d : ℕ) (budget left : Budget) → spent d budget t ≡ Some left → budget.variables ≤ 256 → HasIntegers t → has_read_names t ≡ true →
         (rest : List ℕ) (ts : List At) → Follows rest → ((known : List (List ℕ)) → NotCalled (numbered known ts)) → Scan clauses size rest ts stop →
-        TermSpelt (text_in Alone t ++ rest) ts room left t
-    pub behind : (d : ℕ) (room left : Room) → spent d room t ≡ Some left → room.variables ≤ 256 → HasIntegers t → has_read_names t ≡ true →
-        (rest : List ℕ) (ts : List At) → Scan clauses size rest ts stop → TailSpelt (text_in Behind t ++ rest) ts room left t
+        TermSpelt (text_in Alone t ++ rest) ts budget left t
+    pub behind : (d : ℕ) (budget left : Budget) → spent d budget t ≡ Some left → budget.variables ≤ 256 → HasIntegers t → has_read_names t ≡ true →
+        (rest : List ℕ) (ts : List At) → Scan clauses size rest ts stop → TailSpelt (text_in Behind t ++ rest) ts budget left t
 
   same_text : (s s' : List ℕ) (ts : List At) (known known' : List (List ℕ)) (most : ℕ) (level : ℕ → ℕ) (Means : List Token → List Token → Type 0) → s ≡ s' →
       Spelt s' ts known known' most level Means → Spelt s ts known known' most level Means
@@ -203,18 +203,18 @@ module _ (clauses : Bool) (size : ℕ) (stop : Stop) where
     means = spelt.means;
   }
 
-  same_tail : (s s' : List ℕ) (ts : List At) (room left : Room) (t : Tree) → s ≡ s' → TailSpelt s' ts room left t → TailSpelt s ts room left t
+  same_tail : (s s' : List ℕ) (ts : List At) (budget left : Budget) (t : Tree) → s ≡ s' → TailSpelt s' ts budget left t → TailSpelt s ts budget left t
   unfolding same_text
-  same_tail s s' ts room left t e tail = record {
-    spelt = same_text s s' ts (variable_names room.variables) (variable_names left.variables) (opened Behind t) falls (GoesOn t) e tail.spelt;
+  same_tail s s' ts budget left t e tail = record {
+    spelt = same_text s s' ts (variable_names budget.variables) (variable_names left.variables) (opened Behind t) falls (GoesOn t) e tail.spelt;
     follows = subst Follows (sym e) tail.follows;
     not_called = tail.not_called;
   }
 
-  variable-spelt : (n : ℕ) (room left : Room) → then_in (in_room n room) (paid 0) ≡ Some left → room.variables ≤ 256 →
-      (rest : List ℕ) (ts : List At) → Follows rest → Scan clauses size rest ts stop → TermSpelt (95 ∷ decimal n ++ rest) ts room left (Variable n)
-  variable-spelt n room left e small rest ts follows scan =
-      let known = variable-known n room left e small in
+  variable-spelt : (n : ℕ) (budget left : Budget) → then_in (in_room n budget) (paid 0) ≡ Some left → budget.variables ≤ 256 →
+      (rest : List ℕ) (ts : List At) → Follows rest → Scan clauses size rest ts stop → TermSpelt (95 ∷ decimal n ++ rest) ts budget left (Variable n)
+  variable-spelt n budget left e small rest ts follows scan =
+      let known = variable-known n budget left e small in
       let s = 95 ∷ decimal n ++ rest in
       record {
         tokens = at (size - length s) (spelled.Variable (variable_name n)) ∷ ts;
@@ -227,9 +227,9 @@ module _ (clauses : Bool) (size : ℕ) (stop : Stop) where
             (ap₂ (λ i k. grammar.Variable i ∷ numbered k ts) (sym known.0) (sym known.1)) variable;
       }
 
-  number-spelt : (z : ℤ) (room left : Room) → room.variables ≡ left.variables → FitsSigned w64 z →
-      (rest : List ℕ) (ts : List At) → Follows rest → Scan clauses size rest ts stop → TermSpelt (signed_decimal z ++ rest) ts room left (Number z)
-  number-spelt (pos n) room left same fits rest ts follows scan =
+  number-spelt : (z : ℤ) (budget left : Budget) → budget.variables ≡ left.variables → FitsSigned w64 z →
+      (rest : List ℕ) (ts : List At) → Follows rest → Scan clauses size rest ts stop → TermSpelt (signed_decimal z ++ rest) ts budget left (Number z)
+  number-spelt (pos n) budget left same fits rest ts follows scan =
       let bound = fits.sfits in
       let small : n < 2 ^ 63 = omega arith in
       let s = decimal n ++ rest in
@@ -240,8 +240,8 @@ module _ (clauses : Bool) (size : ℕ) (stop : Stop) where
         wide = ap (λ b. or_else (if b then Some place else None) (first_wide ts)) (not_less n small);
         most = λ n. omega arith;
         names = ap (λ k. all_known (variable_names k) ts) same;
-        means = subst (λ k. Operand reading (grammar.Integer true n place ∷ numbered (variable_names room.variables) ts) (plain (Number (pos n))) (numbered (variable_names k) ts)) same
-            (subst (λ r. Operand reading (grammar.Integer true n place ∷ numbered (variable_names room.variables) ts) r (numbered (variable_names room.variables) ts))
+        means = subst (λ k. Operand reading (grammar.Integer true n place ∷ numbered (variable_names budget.variables) ts) (plain (Number (pos n))) (numbered (variable_names k) ts)) same
+            (subst (λ r. Operand reading (grammar.Integer true n place ∷ numbered (variable_names budget.variables) ts) r (numbered (variable_names budget.variables) ts))
             (ap (λ b. record { term = Number (pos n); wide = if b then Some place else None }) (not_wide n small)) integer);
       }
     where
@@ -250,7 +250,7 @@ module _ (clauses : Bool) (size : ℕ) (stop : Stop) where
 
       not_wide : (n : ℕ) → n < 2 ^ 63 → is_wide false n ≡ false
       not_wide n h = grind (arith, nat_tests)
-  number-spelt (negsuc n) room left same fits rest ts follows scan =
+  number-spelt (negsuc n) budget left same fits rest ts follows scan =
       let bound = fits.sfits in
       let small : suc n ≤ 2 ^ 63 = omega arith in
       let s = decimal (suc n) ++ rest in
@@ -263,8 +263,8 @@ module _ (clauses : Bool) (size : ℕ) (stop : Stop) where
         wide = ap (λ b. or_else (if b then Some place else None) (first_wide ts)) (not_less (suc n) small);
         most = λ n. omega arith;
         names = ap (λ k. all_known (variable_names k) ts) same;
-        means = subst (λ k. Operand reading (grammar.Symbol Minus ∷ grammar.Integer true (suc n) place ∷ numbered (variable_names room.variables) ts) (plain (Number (negsuc n))) (numbered (variable_names k) ts)) same
-            (subst (λ r. Operand reading (grammar.Symbol Minus ∷ grammar.Integer true (suc n) place ∷ numbered (variable_names room.variables) ts) r (numbered (variable_names room.variables) ts))
+        means = subst (λ k. Operand reading (grammar.Symbol Minus ∷ grammar.Integer true (suc n) place ∷ numbered (variable_names budget.variables) ts) (plain (Number (negsuc n))) (numbered (variable_names k) ts)) same
+            (subst (λ r. Operand reading (grammar.Symbol Minus ∷ grammar.Integer true (suc n) place ∷ numbered (variable_names budget.variables) ts) r (numbered (variable_names budget.variables) ts))
             (ap (λ b. record { term = Number (negsuc n); wide = if b then Some place else None }) (not_less (suc n) small)) negative);
       }
     where
@@ -304,12 +304,12 @@ module _ (clauses : Bool) (size : ℕ) (stop : Stop) where
         means = λ known. refl;
       })
 
-  atom-spelt : (name : List ℕ) (room left : Room) → is_nil name ≡ false → room.variables ≡ left.variables → list_all is_name_byte name ≡ true →
+  atom-spelt : (name : List ℕ) (budget left : Budget) → is_nil name ≡ false → budget.variables ≡ left.variables → list_all is_name_byte name ≡ true →
       (rest : List ℕ) (ts : List At) → Follows rest → ((known : List (List ℕ)) → NotCalled (numbered known ts)) → Scan clauses size rest ts stop →
-      TermSpelt (name_text name ++ rest) ts room left (Atomic name)
-  atom-spelt name room left some same all rest ts follows not_called scan =
+      TermSpelt (name_text name ++ rest) ts budget left (Atomic name)
+  atom-spelt name budget left some same all rest ts follows not_called scan =
       let spelt = name-spelt name rest ts all follows scan in
-      let known = variable_names room.variables in
+      let known = variable_names budget.variables in
       record {
         tokens = spelt.at_name ∷ ts;
         scan = spelt.scan;
@@ -322,17 +322,17 @@ module _ (clauses : Bool) (size : ℕ) (stop : Stop) where
 
   -- a term that is no list, behind a bar
   barred-spelled : (t : Tree) → is_barred t ≡ true →
-      ((d : ℕ) (room left : Room) → spent d room t ≡ Some left → room.variables ≤ 256 → HasIntegers t → has_read_names t ≡ true →
+      ((d : ℕ) (budget left : Budget) → spent d budget t ≡ Some left → budget.variables ≤ 256 → HasIntegers t → has_read_names t ≡ true →
       (rest : List ℕ) (ts : List At) → Follows rest → ((known : List (List ℕ)) → NotCalled (numbered known ts)) → Scan clauses size rest ts stop →
-      TermSpelt (text_in Alone t ++ rest) ts room left t) → Spelled t
+      TermSpelt (text_in Alone t ++ rest) ts budget left t) → Spelled t
   barred-spelled t bar alone = record {
     alone = alone;
-    behind = λ d room left e small integers all rest ts scan.
+    behind = λ d budget left e small integers all rest ts scan.
         let close = at (size - length (93 ∷ rest)) (Punctuation CloseList) in
-        let spelt = alone d room left e small integers all (93 ∷ rest) (close ∷ ts) (refl, λ h. omega (arith, h)) (λ known. tt) (add_close_list rest ts scan) in
+        let spelt = alone d budget left e small integers all (93 ∷ rest) (close ∷ ts) (refl, λ h. omega (arith, h)) (λ known. tt) (add_close_list rest ts scan) in
         let split : text_in Behind t ++ rest ≡ 124 ∷ (text_in Alone t ++ 93 ∷ rest) =
         ap (λ x. x ++ rest) (text_in-barred t bar) ∙ ap (λ x. 124 ∷ x) (append_assoc (text_in Alone t) (codes "]") rest) in
-        same_tail (text_in Behind t ++ rest) (124 ∷ (text_in Alone t ++ 93 ∷ rest)) ts room left t split (record {
+        same_tail (text_in Behind t ++ rest) (124 ∷ (text_in Alone t ++ 93 ∷ rest)) ts budget left t split (record {
           spelt = record {
             tokens = at (size - length (124 ∷ (text_in Alone t ++ 93 ∷ rest))) (Punctuation Bar) ∷ spelt.tokens;
             scan = add_bar (text_in Alone t ++ 93 ∷ rest) spelt.tokens spelt.scan;
@@ -351,15 +351,15 @@ module _ (clauses : Bool) (size : ℕ) (stop : Stop) where
   EachSpelled (Last t) = Spelled t
   EachSpelled (More t ts) = Spelled t × EachSpelled ts
 
-  abbrev ArgumentsSpelt : (s : List ℕ) (us : List At) (room left : Room) (ts : Trees) → Type 0
-  ArgumentsSpelt s us room left ts = Spelt s us (variable_names room.variables) (variable_names left.variables) (opened_in_all ts) falls (λ x y. Arguments reading x (plain (first ts)) (others ts) y)
+  abbrev ArgumentsSpelt : (s : List ℕ) (us : List At) (budget left : Budget) (ts : Trees) → Type 0
+  ArgumentsSpelt s us budget left ts = Spelt s us (variable_names budget.variables) (variable_names left.variables) (opened_in_all ts) falls (λ x y. Arguments reading x (plain (first ts)) (others ts) y)
 
-  arguments-spelt : (ts : Trees) → EachSpelled ts → (d : ℕ) (room left : Room) → spent_all d room ts ≡ Some left → room.variables ≤ 256 → HaveIntegers ts → have_read_names ts ≡ true →
-      (rest : List ℕ) (us : List At) → Scan clauses size rest us stop → ArgumentsSpelt (texts_of ts ++ 41 ∷ rest) us room left ts
-  arguments-spelt (Last t) each d room left e small integers all rest us scan =
+  arguments-spelt : (ts : Trees) → EachSpelled ts → (d : ℕ) (budget left : Budget) → spent_all d budget ts ≡ Some left → budget.variables ≤ 256 → HaveIntegers ts → have_read_names ts ≡ true →
+      (rest : List ℕ) (us : List At) → Scan clauses size rest us stop → ArgumentsSpelt (texts_of ts ++ 41 ∷ rest) us budget left ts
+  arguments-spelt (Last t) each d budget left e small integers all rest us scan =
       let close = at (size - length (41 ∷ rest)) (Punctuation spelled.Close) in
-      let spelt = each.alone d room left e small integers all (41 ∷ rest) (close ∷ us) (refl, λ h. omega (arith, h)) (λ known. tt) (add_close rest us scan) in
-      same_text (texts_of (Last t) ++ 41 ∷ rest) (text_in Alone t ++ 41 ∷ rest) us (variable_names room.variables) (variable_names left.variables) (opened Alone t) falls
+      let spelt = each.alone d budget left e small integers all (41 ∷ rest) (close ∷ us) (refl, λ h. omega (arith, h)) (λ known. tt) (add_close rest us scan) in
+      same_text (texts_of (Last t) ++ 41 ∷ rest) (text_in Alone t ++ 41 ∷ rest) us (variable_names budget.variables) (variable_names left.variables) (opened Alone t) falls
       (λ x y. Arguments reading x (plain t) [] y) (ap (λ x. x ++ 41 ∷ rest) (texts_of-Last t)) (record {
         tokens = spelt.tokens;
         scan = spelt.scan;
@@ -368,19 +368,19 @@ module _ (clauses : Bool) (size : ℕ) (stop : Stop) where
         names = spelt.names;
         means = last_argument (operand spelt.means);
       })
-  arguments-spelt (More t ts) each d room left e small integers all rest us scan =
-      let (mid, there, more) = then_in-some (spent d room t) (λ now. spent_all d now ts) left e in
-      let taken = spent-takes t d room mid there in
+  arguments-spelt (More t ts) each d budget left e small integers all rest us scan =
+      let (mid, there, more) = then_in-some (spent d budget t) (λ now. spent_all d now ts) left e in
+      let taken = spent-takes t d budget mid there in
       let both = and_parts (has_read_names t) (have_read_names ts) all in
       let after = texts_of ts ++ 41 ∷ rest in
       let last = arguments-spelt ts each.1 d mid left more (taken.few small) integers.1 both.1 rest us scan in
       let comma = at (size - length (44 ∷ after)) (Punctuation Comma) in
-      let one = each.0.alone d room mid there small integers.0 both.0 (44 ∷ after) (comma ∷ last.tokens) (refl, λ h. omega (arith, h)) (λ known. tt) (add_comma after last.tokens last.scan) in
+      let one = each.0.alone d budget mid there small integers.0 both.0 (44 ∷ after) (comma ∷ last.tokens) (refl, λ h. omega (arith, h)) (λ known. tt) (add_comma after last.tokens last.scan) in
       let split : texts_of (More t ts) ++ 41 ∷ rest ≡ text_in Alone t ++ 44 ∷ after =
       ap (λ x. x ++ 41 ∷ rest) (texts_of-More t ts)
       ∙ append_assoc (text_in Alone t ++ codes ",") (texts_of ts) (41 ∷ rest)
       ∙ append_assoc (text_in Alone t) (codes ",") after in
-      same_text (texts_of (More t ts) ++ 41 ∷ rest) (text_in Alone t ++ 44 ∷ after) us (variable_names room.variables) (variable_names left.variables) (opened_in_all (More t ts)) falls
+      same_text (texts_of (More t ts) ++ 41 ∷ rest) (text_in Alone t ++ 44 ∷ after) us (variable_names budget.variables) (variable_names left.variables) (opened_in_all (More t ts)) falls
       (λ x y. Arguments reading x (plain t) (others (More t ts)) y) split (record {
         tokens = one.tokens;
         scan = one.scan;
@@ -391,13 +391,13 @@ module _ (clauses : Bool) (size : ℕ) (stop : Stop) where
       })
 
   called-spelt : (name : List ℕ) (ts : Trees) → is_cell name ts ≡ false → EachSpelled ts →
-      (d : ℕ) (room left : Room) → spent d room (Compound name ts) ≡ Some left → room.variables ≤ 256 → HaveIntegers ts → (list_all is_name_byte name && have_read_names ts) ≡ true →
-      (rest : List ℕ) (us : List At) → Scan clauses size rest us stop → TermSpelt (text_in Alone (Compound name ts) ++ rest) us room left (Compound name ts)
-  called-spelt name ts other each zero room left e small integers all rest us scan = absurd (cc)
-  called-spelt name ts other each (suc d) room left e small integers all rest us scan =
-      let (mid, there, more) = then_in-some (paid (length name) room) (λ now. spent_all d now ts) left e in
-      let first_paid = paid-some (length name) room mid there in
-      let same : room.variables ≡ mid.variables = ap (λ r. r.variables) first_paid.is in
+      (d : ℕ) (budget left : Budget) → spent d budget (Compound name ts) ≡ Some left → budget.variables ≤ 256 → HaveIntegers ts → (list_all is_name_byte name && have_read_names ts) ≡ true →
+      (rest : List ℕ) (us : List At) → Scan clauses size rest us stop → TermSpelt (text_in Alone (Compound name ts) ++ rest) us budget left (Compound name ts)
+  called-spelt name ts other each zero budget left e small integers all rest us scan = absurd (cc)
+  called-spelt name ts other each (suc d) budget left e small integers all rest us scan =
+      let (mid, there, more) = then_in-some (paid (length name) budget) (λ now. spent_all d now ts) left e in
+      let first_paid = paid-some (length name) budget mid there in
+      let same : budget.variables ≡ mid.variables = ap (λ r. r.variables) first_paid.is in
       let both = and_parts (list_all is_name_byte name) (have_read_names ts) all in
       let inside = texts_of ts ++ 41 ∷ rest in
       let last = arguments-spelt ts each d mid left more (omega (arith, small, same)) integers both.1 rest us scan in
@@ -408,7 +408,7 @@ module _ (clauses : Bool) (size : ℕ) (stop : Stop) where
       ∙ append_assoc (name_text name ++ codes "(" ++ texts_of ts) (codes ")") rest
       ∙ append_assoc (name_text name ++ codes "(") (texts_of ts) (41 ∷ rest)
       ∙ append_assoc (name_text name) (codes "(") inside in
-      let known = variable_names room.variables in
+      let known = variable_names budget.variables in
       let known' = variable_names left.variables in
       let from_mid : variable_names mid.variables ≡ known = ap variable_names (sym same) in
       same_text (text_in Alone (Compound name ts) ++ rest) (name_text name ++ 40 ∷ inside) us known known' (opened Alone (Compound name ts)) stays
@@ -434,28 +434,28 @@ module _ (clauses : Bool) (size : ℕ) (stop : Stop) where
   -- lists
   nil-spelled : Spelled (Atomic (codes "[]"))
   nil-spelled = record {
-    alone = λ d room left e small integers all rest ts follows not_called scan.
-        let same : room.variables ≡ left.variables = nil_same d room left e in
+    alone = λ d budget left e small integers all rest ts follows not_called scan.
+        let same : budget.variables ≡ left.variables = nil_same d budget left e in
         let close = at (size - length (93 ∷ rest)) (Punctuation CloseList) in
-        same_text (text_in Alone (Atomic (codes "[]")) ++ rest) (91 ∷ 93 ∷ rest) ts (variable_names room.variables) (variable_names left.variables) 1 stays
+        same_text (text_in Alone (Atomic (codes "[]")) ++ rest) (91 ∷ 93 ∷ rest) ts (variable_names budget.variables) (variable_names left.variables) 1 stays
         (λ x y. Operand reading x (plain (Atomic (codes "[]"))) y) (ap (λ x. x ++ rest) (text_in-nil Alone (codes "[]") refl)) (record {
           tokens = at (size - length (91 ∷ 93 ∷ rest)) (Punctuation OpenList) ∷ close ∷ ts;
           scan = add_open_list (93 ∷ rest) (close ∷ ts) (add_close_list rest ts scan);
           wide = refl;
           most = λ n. omega (arith, ap (λ m. most_open m ts) (back n));
           names = ap (λ k. all_known (variable_names k) ts) same;
-          means = subst (λ k. Operand reading (grammar.OpenList ∷ grammar.CloseList ∷ numbered (variable_names room.variables) ts) (plain (Atomic (codes "[]"))) (numbered (variable_names k) ts)) same no_items;
+          means = subst (λ k. Operand reading (grammar.OpenList ∷ grammar.CloseList ∷ numbered (variable_names budget.variables) ts) (plain (Atomic (codes "[]"))) (numbered (variable_names k) ts)) same no_items;
         });
-    behind = λ d room left e small integers all rest ts scan.
-        let same : room.variables ≡ left.variables = nil_same d room left e in
-        same_tail (text_in Behind (Atomic (codes "[]")) ++ rest) (93 ∷ rest) ts room left (Atomic (codes "[]")) (ap (λ x. x ++ rest) (text_in-nil Behind (codes "[]") refl)) (record {
+    behind = λ d budget left e small integers all rest ts scan.
+        let same : budget.variables ≡ left.variables = nil_same d budget left e in
+        same_tail (text_in Behind (Atomic (codes "[]")) ++ rest) (93 ∷ rest) ts budget left (Atomic (codes "[]")) (ap (λ x. x ++ rest) (text_in-nil Behind (codes "[]") refl)) (record {
           spelt = record {
             tokens = at (size - length (93 ∷ rest)) (Punctuation CloseList) ∷ ts;
             scan = add_close_list rest ts scan;
             wide = refl;
             most = λ n. omega arith;
             names = ap (λ k. all_known (variable_names k) ts) same;
-            means = subst (λ k. GoesOn (Atomic (codes "[]")) (grammar.CloseList ∷ numbered (variable_names room.variables) ts) (numbered (variable_names k) ts)) same
+            means = subst (λ k. GoesOn (Atomic (codes "[]")) (grammar.CloseList ∷ numbered (variable_names budget.variables) ts) (numbered (variable_names k) ts)) same
                 (λ x a derives. last_item derives);
           };
           follows = (refl, λ h. omega (arith, h));
@@ -463,23 +463,23 @@ module _ (clauses : Bool) (size : ℕ) (stop : Stop) where
         });
   }
     where
-      nil_same : (d : ℕ) (room left : Room) → spent d room (Atomic (codes "[]")) ≡ Some left → room.variables ≡ left.variables
-      nil_same zero room left e = absurd (cc)
-      nil_same (suc d) room left e = ap (λ r. r.variables) (paid-some 2 room left e).is
+      nil_same : (d : ℕ) (budget left : Budget) → spent d budget (Atomic (codes "[]")) ≡ Some left → budget.variables ≡ left.variables
+      nil_same zero budget left e = absurd (cc)
+      nil_same (suc d) budget left e = ap (λ r. r.variables) (paid-some 2 budget left e).is
 
   -- a head, and what follows behind it
-  abbrev CellSpelt : (t u : Tree) (ts : List At) (room left : Room) (rest : List ℕ) → Type 0
-  CellSpelt t u ts room left rest =
-      Spelt (text_in Alone t ++ (text_in Behind u ++ rest)) ts (variable_names room.variables) (variable_names left.variables) (max (opened Alone t) (opened Behind u)) falls
+  abbrev CellSpelt : (t u : Tree) (ts : List At) (budget left : Budget) (rest : List ℕ) → Type 0
+  CellSpelt t u ts budget left rest =
+      Spelt (text_in Alone t ++ (text_in Behind u ++ rest)) ts (variable_names budget.variables) (variable_names left.variables) (max (opened Alone t) (opened Behind u)) falls
       (λ x y. Items reading x (plain (Compound (codes ".") (More t (Last u)))) y)
 
-  cell-spelt : (t u : Tree) → Spelled t → Spelled u → (d : ℕ) (room left : Room) → spent d room (Compound (codes ".") (More t (Last u))) ≡ Some left → room.variables ≤ 256 →
-      HasIntegers t × HasIntegers u → (has_read_names t && has_read_names u) ≡ true → (rest : List ℕ) (ts : List At) → Scan clauses size rest ts stop → CellSpelt t u ts room left rest
-  cell-spelt t u one other zero room left e small integers all rest ts scan = absurd (cc)
-  cell-spelt t u one other (suc d) room left e small integers all rest ts scan =
-      let (start, at_start, more) = then_in-some (paid 1 room) (λ now. then_in (spent d now t) (λ next. spent d next u)) left e in
+  cell-spelt : (t u : Tree) → Spelled t → Spelled u → (d : ℕ) (budget left : Budget) → spent d budget (Compound (codes ".") (More t (Last u))) ≡ Some left → budget.variables ≤ 256 →
+      HasIntegers t × HasIntegers u → (has_read_names t && has_read_names u) ≡ true → (rest : List ℕ) (ts : List At) → Scan clauses size rest ts stop → CellSpelt t u ts budget left rest
+  cell-spelt t u one other zero budget left e small integers all rest ts scan = absurd (cc)
+  cell-spelt t u one other (suc d) budget left e small integers all rest ts scan =
+      let (start, at_start, more) = then_in-some (paid 1 budget) (λ now. then_in (spent d now t) (λ next. spent d next u)) left e in
       let (mid, at_first, at_last) = then_in-some (spent d start t) (λ next. spent d next u) left more in
-      let same : start.variables ≡ room.variables = sym (ap (λ r. r.variables) (paid-some 1 room start at_start).is) in
+      let same : start.variables ≡ budget.variables = sym (ap (λ r. r.variables) (paid-some 1 budget start at_start).is) in
       let few : start.variables ≤ 256 = omega (arith, small, same) in
       let taken = spent-takes t d start mid at_first in
       let both = and_parts (has_read_names t) (has_read_names u) all in
@@ -498,10 +498,10 @@ module _ (clauses : Bool) (size : ℕ) (stop : Stop) where
 
   cell-spelled : (t u : Tree) → Spelled t → Spelled u → Spelled (Compound (codes ".") (More t (Last u)))
   cell-spelled t u one other = record {
-    alone = λ d room left e small integers all rest ts follows not_called scan.
-        let cell = cell-spelt t u one other d room left e small integers all rest ts scan in
+    alone = λ d budget left e small integers all rest ts follows not_called scan.
+        let cell = cell-spelt t u one other d budget left e small integers all rest ts scan in
         let inside = text_in Alone t ++ (text_in Behind u ++ rest) in
-        same_text (text_in Alone (Compound (codes ".") (More t (Last u))) ++ rest) (91 ∷ inside) ts (variable_names room.variables) (variable_names left.variables)
+        same_text (text_in Alone (Compound (codes ".") (More t (Last u))) ++ rest) (91 ∷ inside) ts (variable_names budget.variables) (variable_names left.variables)
         (max (opened Alone t) (opened Behind u) + 1) stays (λ x y. Operand reading x (plain (Compound (codes ".") (More t (Last u)))) y)
         (ap (λ x. x ++ rest) (text_in-cell Alone (codes ".") t u refl) ∙ ap (λ x. 91 ∷ x) (append_assoc (text_in Alone t) (text_in Behind u) rest)) (record {
           tokens = at (size - length (91 ∷ inside)) (Punctuation OpenList) ∷ cell.tokens;
@@ -511,10 +511,10 @@ module _ (clauses : Bool) (size : ℕ) (stop : Stop) where
           names = cell.names;
           means = items cell.means;
         });
-    behind = λ d room left e small integers all rest ts scan.
-        let cell = cell-spelt t u one other d room left e small integers all rest ts scan in
+    behind = λ d budget left e small integers all rest ts scan.
+        let cell = cell-spelt t u one other d budget left e small integers all rest ts scan in
         let inside = text_in Alone t ++ (text_in Behind u ++ rest) in
-        same_tail (text_in Behind (Compound (codes ".") (More t (Last u))) ++ rest) (44 ∷ inside) ts room left (Compound (codes ".") (More t (Last u)))
+        same_tail (text_in Behind (Compound (codes ".") (More t (Last u))) ++ rest) (44 ∷ inside) ts budget left (Compound (codes ".") (More t (Last u)))
         (ap (λ x. x ++ rest) (text_in-cell Behind (codes ".") t u refl) ∙ ap (λ x. 44 ∷ x) (append_assoc (text_in Alone t) (text_in Behind u) rest)) (record {
           spelt = record {
             tokens = at (size - length (44 ∷ inside)) (Punctuation Comma) ∷ cell.tokens;
@@ -534,7 +534,7 @@ module _ (clauses : Bool) (size : ℕ) (stop : Stop) where
     where
       by : (args : Trees) → EachSpelled args → (p : Bool) → is_cell name args ≡ p → Spelled (Compound name args)
       by args each false e = barred-spelled (Compound name args) (ap (λ p. if p then false else true) e)
-          (λ d room left spent small integers all rest ts follows not_called scan. called-spelt name args e each d room left spent small integers all rest ts scan)
+          (λ d budget left spent small integers all rest ts follows not_called scan. called-spelt name args e each d budget left spent small integers all rest ts scan)
       by (Last t) each true e = absurd (cc)
       by (More t (Last u)) each true e = subst (λ n. Spelled (Compound n (More t (Last u)))) (sym ((bytes_eq-Decides name (codes ".")).0 e)) (cell-spelled t u each.0 each.1)
       by (More t (More u ts)) each true e = absurd (cc)
@@ -544,37 +544,37 @@ module _ (clauses : Bool) (size : ℕ) (stop : Stop) where
     where
       by : (p : Bool) → is_nil name ≡ p → Spelled (Atomic name)
       by true e = subst (λ n. Spelled (Atomic n)) (sym ((bytes_eq-Decides name (codes "[]")).0 e)) nil-spelled
-      by false e = barred-spelled (Atomic name) (ap (λ p. if p then false else true) e) (λ d room left spent small integers all rest ts follows not_called scan.
-          same_text (text_in Alone (Atomic name) ++ rest) (name_text name ++ rest) ts (variable_names room.variables) (variable_names left.variables) (opened Alone (Atomic name)) stays
+      by false e = barred-spelled (Atomic name) (ap (λ p. if p then false else true) e) (λ d budget left spent small integers all rest ts follows not_called scan.
+          same_text (text_in Alone (Atomic name) ++ rest) (name_text name ++ rest) ts (variable_names budget.variables) (variable_names left.variables) (opened Alone (Atomic name)) stays
           (λ x y. Operand reading x (plain (Atomic name)) y) (ap (λ x. x ++ rest) (text_in-Atomic Alone name e))
-          (atom-spelt name room left e (leaf_same d (length name) room left (Atomic name) spent) all rest ts follows not_called scan))
+          (atom-spelt name budget left e (leaf_same d (length name) budget left (Atomic name) spent) all rest ts follows not_called scan))
         where
-          leaf_same : (d size : ℕ) (room left : Room) (t : Tree) → spent d room (Atomic name) ≡ Some left → room.variables ≡ left.variables
-          leaf_same zero size room left t e = absurd (cc)
-          leaf_same (suc d) size room left t e = ap (λ r. r.variables) (paid-some (length name) room left e).is
+          leaf_same : (d size : ℕ) (budget left : Budget) (t : Tree) → spent d budget (Atomic name) ≡ Some left → budget.variables ≡ left.variables
+          leaf_same zero size budget left t e = absurd (cc)
+          leaf_same (suc d) size budget left t e = ap (λ r. r.variables) (paid-some (length name) budget left e).is
 
   variable-spelled : (n : ℕ) → Spelled (Variable n)
   variable-spelled n = barred-spelled (Variable n) refl by
     where
-      by : (d : ℕ) (room left : Room) → spent d room (Variable n) ≡ Some left → room.variables ≤ 256 → Unit {0} → true ≡ true →
+      by : (d : ℕ) (budget left : Budget) → spent d budget (Variable n) ≡ Some left → budget.variables ≤ 256 → Unit {0} → true ≡ true →
           (rest : List ℕ) (ts : List At) → Follows rest → ((known : List (List ℕ)) → NotCalled (numbered known ts)) → Scan clauses size rest ts stop →
-          TermSpelt (text_in Alone (Variable n) ++ rest) ts room left (Variable n)
-      by zero room left e small integers all rest ts follows not_called scan = absurd (cc)
-      by (suc d) room left e small integers all rest ts follows not_called scan =
-          same_text (text_in Alone (Variable n) ++ rest) (95 ∷ decimal n ++ rest) ts (variable_names room.variables) (variable_names left.variables) 0 stays
-          (λ x y. Operand reading x (plain (Variable n)) y) (ap (λ x. x ++ rest) (text_in-Variable Alone n)) (variable-spelt n room left e small rest ts follows scan)
+          TermSpelt (text_in Alone (Variable n) ++ rest) ts budget left (Variable n)
+      by zero budget left e small integers all rest ts follows not_called scan = absurd (cc)
+      by (suc d) budget left e small integers all rest ts follows not_called scan =
+          same_text (text_in Alone (Variable n) ++ rest) (95 ∷ decimal n ++ rest) ts (variable_names budget.variables) (variable_names left.variables) 0 stays
+          (λ x y. Operand reading x (plain (Variable n)) y) (ap (λ x. x ++ rest) (text_in-Variable Alone n)) (variable-spelt n budget left e small rest ts follows scan)
 
   number-spelled : (z : ℤ) → Spelled (Number z)
   number-spelled z = barred-spelled (Number z) refl by
     where
-      by : (d : ℕ) (room left : Room) → spent d room (Number z) ≡ Some left → room.variables ≤ 256 → FitsSigned w64 z → true ≡ true →
+      by : (d : ℕ) (budget left : Budget) → spent d budget (Number z) ≡ Some left → budget.variables ≤ 256 → FitsSigned w64 z → true ≡ true →
           (rest : List ℕ) (ts : List At) → Follows rest → ((known : List (List ℕ)) → NotCalled (numbered known ts)) → Scan clauses size rest ts stop →
-          TermSpelt (text_in Alone (Number z) ++ rest) ts room left (Number z)
-      by zero room left e small integers all rest ts follows not_called scan = absurd (cc)
-      by (suc d) room left e small integers all rest ts follows not_called scan =
-          same_text (text_in Alone (Number z) ++ rest) (signed_decimal z ++ rest) ts (variable_names room.variables) (variable_names left.variables) 0 stays
+          TermSpelt (text_in Alone (Number z) ++ rest) ts budget left (Number z)
+      by zero budget left e small integers all rest ts follows not_called scan = absurd (cc)
+      by (suc d) budget left e small integers all rest ts follows not_called scan =
+          same_text (text_in Alone (Number z) ++ rest) (signed_decimal z ++ rest) ts (variable_names budget.variables) (variable_names left.variables) 0 stays
           (λ x y. Operand reading x (plain (Number z)) y) (ap (λ x. x ++ rest) (text_in-Number Alone z))
-          (number-spelt z room left (ap (λ r. r.variables) (paid-some 0 room left e).is) integers rest ts follows scan)
+          (number-spelt z budget left (ap (λ r. r.variables) (paid-some 0 budget left e).is) integers rest ts follows scan)
 
   -- each term is
   mutual

@@ -16,13 +16,13 @@ use Rattle.tc_read.proofs.Spent.{pattern-spent, spent-takes}
 use Rattle.tc_read.specs.Budget.{whole}
 use Rattle.tc_term.specs.NameBytes.{has_read_names}
 use Rattle.tc_term.specs.Readable.{IsReadable}
-use Rattle.tc_read.specs.declared.room.Room.{Room}
+use Rattle.tc_read.specs.declared.budget.Budget.{Budget}
 
 canonical-text : (t : Tree) → IsPattern t → canonical t ≡ text_in Alone t
 canonical-text t pattern = ap text_of (renumbered-pattern t pattern)
 
 -- the last rules, for tokens that are a term
-module _ (clauses : Bool) (size place behind : ℕ) (stop : Stop) (t : Tree) (left : Room) (s : List ℕ) (readable : IsReadable t)
+module _ (clauses : Bool) (size place behind : ℕ) (stop : Stop) (t : Tree) (left : Budget) (s : List ℕ) (readable : IsReadable t)
     (few : left.variables ≤ 256) (spelt : TermSpelt clauses size stop s [] whole left t) where
   judged : Judged place behind (length (all_known [] spelt.tokens)) (plain t) (Found t behind)
   judged =
@@ -42,7 +42,7 @@ module _ (clauses : Bool) (size place behind : ℕ) (stop : Stop) (t : Tree) (le
       no_more : (n : ℕ) → n ≤ 200 → nat_lt 200 n ≡ false
       no_more n h = grind (arith, nat_tests)
 
-ended : (clauses : Bool) (size : ℕ) (stop : Stop) (t : Tree) (left : Room) (s : List ℕ) → IsReadable t → left.variables ≤ 256 →
+ended : (clauses : Bool) (size : ℕ) (stop : Stop) (t : Tree) (left : Budget) (s : List ℕ) → IsReadable t → left.variables ≤ 256 →
     (spelt : TermSpelt clauses size stop s [] whole left t) → Ended size spelt.tokens stop (Found t (place_behind size stop))
 ended clauses size stop t left s readable few spelt =
     subst (λ b. When b (Found t (place_behind size stop) ≡ TooBig (first_place size spelt.tokens stop)) (Parsed (first_place size spelt.tokens stop) (place_behind size stop) spelt.tokens (Found t (place_behind size stop))))
@@ -51,7 +51,7 @@ ended clauses size stop t left s readable few spelt =
 
 -- a template before this end
 spelt-read : (clauses : Bool) (size : ℕ) (stop : Stop) (rest : List ℕ) → Follows rest → Scan clauses size rest [] stop → (t : Tree) → IsReadable t →
-    (left : Room) × (left.variables ≤ 256) × TermSpelt clauses size stop (text_in Alone t ++ rest) [] whole left t
+    (left : Budget) × (left.variables ≤ 256) × TermSpelt clauses size stop (text_in Alone t ++ rest) [] whole left t
 spelt-read clauses size stop rest follows scan t readable =
     let (left, e) = pattern-spent t readable.pattern in
     let out = spelled_out clauses size stop t in

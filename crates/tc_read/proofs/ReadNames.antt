@@ -17,18 +17,18 @@ use Rattle.std.proofs.lemmas.Option.{same_Some}
 
 -- The names of a term that is read.
 
-abbrev IsRead : List ℕ → Type 0
-IsRead name = list_all is_name_byte name ≡ true
+abbrev IsName : List ℕ → Type 0
+IsName name = list_all is_name_byte name ≡ true
 
 abbrev IsNamed : Token → Type 0
-IsNamed (grammar.Name b name) = IsRead name
+IsNamed (grammar.Name b name) = IsName name
 IsNamed _ = Unit {0}
 
 abbrev AreNamed : List Token → Type 0
 AreNamed [] = Unit {0}
 AreNamed (t ∷ ts) = IsNamed t × AreNamed ts
 
-sign_named : (s : Sign) → IsRead (sign_bytes s)
+sign_named : (s : Sign) → IsName (sign_bytes s)
 sign_named EqColonEq = refl
 sign_named EqBackEq = refl
 sign_named EqLess = refl
@@ -43,7 +43,7 @@ sign_named Minus = refl
 sign_named Star = refl
 sign_named Ask = refl
 
-operator_named : (s : Sign) → IsRead (operator_of s).name
+operator_named : (s : Sign) → IsName (operator_of s).name
 operator_named EqColonEq = refl
 operator_named EqBackEq = refl
 operator_named EqLess = refl
@@ -58,15 +58,15 @@ operator_named Minus = refl
 operator_named Star = refl
 operator_named Ask = refl
 
-along : (op o : Operator) → IsRead o.name → Some o ≡ Some op → IsRead op.name
-along op o h e = subst (λ (q : Operator). IsRead q.name) (same_Some _ _ e) h
+along : (op o : Operator) → IsName o.name → Some o ≡ Some op → IsName op.name
+along op o h e = subst (λ (q : Operator). IsName q.name) (same_Some _ _ e) h
 
-word_operator_named : (b c : Bool) (op : Operator) → (if b then Some (xfx (codes "is") 700) else (if c then Some (yfx (codes "mod") 400) else None)) ≡ Some op → IsRead op.name
+word_operator_named : (b c : Bool) (op : Operator) → (if b then Some (xfx (codes "is") 700) else (if c then Some (yfx (codes "mod") 400) else None)) ≡ Some op → IsName op.name
 word_operator_named true c op e = along op (xfx (codes "is") 700) refl e
 word_operator_named false true op e = along op (yfx (codes "mod") 400) refl e
 word_operator_named false false op e = cc
 
-infix_named : (t : Token) (op : Operator) → infix_of t ≡ Some op → IsRead op.name
+infix_named : (t : Token) (op : Operator) → infix_of t ≡ Some op → IsName op.name
 infix_named grammar.Comma op e = along op (grammar.xfy (codes ",") 1000) refl e
 infix_named (grammar.Symbol s) op e = along op (operator_of s) (operator_named s) e
 infix_named (grammar.Name true name) op e = word_operator_named (bytes_eq name (codes "is")) (bytes_eq name (codes "mod")) op e
@@ -79,9 +79,9 @@ infix_named grammar.OpenList op e = cc
 infix_named grammar.CloseList op e = cc
 infix_named grammar.Bar op e = cc
 
-functor_named : (t : Token) (name : List ℕ) → IsNamed t → functor_of t ≡ Some name → IsRead name
-functor_named (grammar.Name b n) name h e = subst IsRead (same_Some _ _ e) h
-functor_named (grammar.Symbol s) name h e = subst IsRead (same_Some _ _ e) (sign_named s)
+functor_named : (t : Token) (name : List ℕ) → IsNamed t → functor_of t ≡ Some name → IsName name
+functor_named (grammar.Name b n) name h e = subst IsName (same_Some _ _ e) h
+functor_named (grammar.Symbol s) name h e = subst IsName (same_Some _ _ e) (sign_named s)
 functor_named (grammar.Variable n) name h e = cc
 functor_named (grammar.Integer g n p) name h e = cc
 functor_named (grammar.Open g) name h e = cc
@@ -150,11 +150,11 @@ lower_byte b h = grind (arith, nat_tests)
 high_byte : (b : ℕ) → 32 ≤ b → is_name_byte b ≡ true
 high_byte b h = grind (arith, nat_tests)
 
-words_named : (s : List ℕ) → AllByRecursion (λ c. is_word c ≡ true) s → IsRead s
+words_named : (s : List ℕ) → AllByRecursion (λ c. is_word c ≡ true) s → IsName s
 words_named [] h = refl
 words_named (b ∷ s) h = and_from (is_name_byte b) (list_all is_name_byte s) (word_byte b h.0) (words_named s h.1)
 
-word_named : (s : List ℕ) → spelled.IsWordFrom is_name_start s → IsRead s
+word_named : (s : List ℕ) → spelled.IsWordFrom is_name_start s → IsName s
 word_named [] h = absurd h
 word_named (b ∷ s) h = and_from (is_name_byte b) (list_all is_name_byte s) (lower_byte b h.0) (words_named s h.1)
 
@@ -171,13 +171,13 @@ escape_byte b c e = by (b == 39) (b == 92) (b == 110) (b == 116) e
     by false false false true e = at 9 e refl
     by false false false false e = cc
 
-inside_named : {s m : List ℕ} → Inside s m → IsRead m
+inside_named : {s m : List ℕ} → Inside s m → IsName m
 inside_named closed = refl
 inside_named (doubled {m = m} x) = inside_named x
 inside_named (escaped {b = b} {c = c} {m = m} e x) = and_from (is_name_byte c) (list_all is_name_byte m) (escape_byte b c e) (inside_named x)
 inside_named (plain {b = b} {m = m} h q w x) = and_from (is_name_byte b) (list_all is_name_byte m) (high_byte b h) (inside_named x)
 
-quoted_named : (s m : List ℕ) → spelled.IsQuoted s m → IsRead m
+quoted_named : (s m : List ℕ) → spelled.IsQuoted s m → IsName m
 quoted_named [] m h = absurd h
 quoted_named (b ∷ s) m h = inside_named h.1
 
@@ -190,7 +190,7 @@ mark_named g spelled.Comma = tt
 mark_named g spelled.Bar = tt
 
 lexeme_named : (known : List (List ℕ)) (g : Bool) (place : ℕ) (s : List ℕ) (l : Lexeme) → Spells s l → IsNamed (token_of known g place l)
-lexeme_named known g place s (Word w) k = subst IsRead k.0 (word_named s k.1)
+lexeme_named known g place s (Word w) k = subst IsName k.0 (word_named s k.1)
 lexeme_named known g place s (Variable w) k = tt
 lexeme_named known g place s (Number n) k = tt
 lexeme_named known g place s (Quoted m) k = quoted_named s m k

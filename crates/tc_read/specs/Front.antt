@@ -5,29 +5,30 @@ use Rattle.tc_term.specs.Bytes.{is_word, is_name_start}
 use Rattle.std.specs.declared.option.Option.{Option}
 use Rattle.std.specs.List.{prefix_len}
 use Rattle.tc_lists.specs.Decimals.{number_at, integer_at}
+use Rattle.tc_term.specs.Limits.{most_depth, most_name_bytes}
 use Rattle.tc_term.specs.Text.{Place, Alone, Behind, is_name, is_nil, is_dot}
 use Rattle.tc_term.specs.Tokens.{escape}
 use Rattle.tc_term.specs.Tree.{Tree, Variable, Atomic, Number, Compound, Trees, Last, More}
 use Rattle.tc_read.specs.Budget.{paid, numbered, then_in, whole}
 use Rattle.tc_read.specs.Views.{meant}
-use Rattle.tc_read.specs.declared.room.Room.{Room}
+use Rattle.tc_read.specs.declared.budget.Budget.{Budget}
 
 -- what is read, the room that is left, and the bytes behind it
 abbrev pub Read : Type 0 → Type 0
-Read X = Option (X × Room × List ℕ)
+Read X = Option (X × Budget × List ℕ)
 
 -- a term without arguments, where there is room for it
-abbrev pub leaf : Option Room → Tree → List ℕ → Read Tree
+abbrev pub leaf : Option Budget → Tree → List ℕ → Read Tree
 leaf None t rest = None
 leaf (Some left) t rest = Some (t, left, rest)
 
-abbrev pub variable : Room → Option (ℕ × List ℕ) → Read Tree
-variable room None = None
-variable room (Some (n, rest)) = leaf (then_in (numbered n room) (paid 0)) (Variable n) rest
+abbrev pub variable : Budget → Option (ℕ × List ℕ) → Read Tree
+variable budget None = None
+variable budget (Some (n, rest)) = leaf (then_in (numbered n budget) (paid 0)) (Variable n) rest
 
-abbrev pub number : Room → Option (ℤ × List ℕ) → Read Tree
-number room None = None
-number room (Some (z, rest)) = leaf (paid 0 room) (Number z) rest
+abbrev pub number : Budget → Option (ℤ × List ℕ) → Read Tree
+number budget None = None
+number budget (Some (z, rest)) = leaf (paid 0 budget) (Number z) rest
 
 abbrev pub with_byte : ℕ → Option (List ℕ × List ℕ) → Option (List ℕ × List ℕ)
 with_byte b None = None
@@ -76,12 +77,12 @@ is_barred (Number z) = true
 is_barred (Compound name args) = if is_cell name args then false else true
 
 -- the empty list
-abbrev pub nil : Room → List ℕ → Read Tree
-nil room rest = leaf (paid 2 room) (Atomic (codes "[]")) rest
+abbrev pub nil : Budget → List ℕ → Read Tree
+nil budget rest = leaf (paid 2 budget) (Atomic (codes "[]")) rest
 
 -- an atom that isn't the empty list
-abbrev pub atom : List ℕ → Room → List ℕ → Read Tree
-atom name room rest = if is_nil name then None else leaf (paid (length name) room) (Atomic name) rest
+abbrev pub atom : List ℕ → Budget → List ℕ → Read Tree
+atom name budget rest = if is_nil name then None else leaf (paid (length name) budget) (Atomic name) rest
 
 -- a compound that isn't a list cell
 abbrev pub compound : List ℕ → Read Trees → Read Tree
@@ -94,16 +95,16 @@ before t None = None
 before t (Some (ts, left, rest)) = Some (More t ts, left, rest)
 
 -- behind an argument: the closing bracket, or a comma and further arguments
-abbrev pub argument : (Room → List ℕ → Read Trees) → Read Tree → Read Trees
+abbrev pub argument : (Budget → List ℕ → Read Trees) → Read Tree → Read Trees
 argument more None = None
-argument more (Some (t, room, [])) = None
-argument more (Some (t, room, b ∷ s)) = if b == 41 then Some (Last t, room, s)
-    else (if b == 44 then before t (more room s) else None)
+argument more (Some (t, budget, [])) = None
+argument more (Some (t, budget, b ∷ s)) = if b == 41 then Some (Last t, budget, s)
+    else (if b == 44 then before t (more budget s) else None)
 
 -- at most so many arguments
-abbrev pub arguments : (Room → List ℕ → Read Tree) → ℕ → Room → List ℕ → Read Trees
-arguments read zero room bytes = None
-arguments read (suc n) room bytes = argument (arguments read n) (read room bytes)
+abbrev pub arguments : (Budget → List ℕ → Read Tree) → ℕ → Budget → List ℕ → Read Trees
+arguments read zero budget bytes = None
+arguments read (suc n) budget bytes = argument (arguments read n) (read budget bytes)
 
 -- a list cell of this head
 abbrev pub cell_of : Tree → Read Tree → Read Tree
@@ -111,9 +112,9 @@ cell_of t None = None
 cell_of t (Some (u, left, rest)) = Some (Compound (codes ".") (More t (Last u)), left, rest)
 
 -- behind a first element
-abbrev pub cell : (Room → List ℕ → Read Tree) → Read Tree → Read Tree
+abbrev pub cell : (Budget → List ℕ → Read Tree) → Read Tree → Read Tree
 cell more None = None
-cell more (Some (t, room, rest)) = cell_of t (more room rest)
+cell more (Some (t, budget, rest)) = cell_of t (more budget rest)
 
 -- the closing bracket of a list behind a tail that is no list
 abbrev pub barred : Read Tree → Read Tree
@@ -122,48 +123,48 @@ barred (Some (t, left, [])) = None
 barred (Some (t, left, b ∷ s)) = if b == 93 && is_barred t then Some (t, left, s) else None
 
 -- terms one level deeper, in each place
-module _ (below : Place → Room → List ℕ → Read Tree) where
+module _ (below : Place → Budget → List ℕ → Read Tree) where
   -- a compound behind its name and the opening bracket
-  abbrev pub called : List ℕ → Room → List ℕ → Read Tree
-  called name room bytes = compound name
-      (then_in (paid (length name) room) (λ left. arguments (below Alone) left.nodes left bytes))
+  abbrev pub called : List ℕ → Budget → List ℕ → Read Tree
+  called name budget bytes = compound name
+      (then_in (paid (length name) budget) (λ left. arguments (below Alone) left.room.nodes left bytes))
 
   -- behind a name
-  abbrev pub named : Room → List ℕ → List ℕ → Read Tree
-  named room name [] = atom name room []
-  named room name (b ∷ s) = if b == 40 then called name room s else atom name room (b ∷ s)
+  abbrev pub named : Budget → List ℕ → List ℕ → Read Tree
+  named budget name [] = atom name budget []
+  named budget name (b ∷ s) = if b == 40 then called name budget s else atom name budget (b ∷ s)
 
-  abbrev pub named_or_number : Room → List ℕ → Option (List ℕ × List ℕ) → Read Tree
-  named_or_number room bytes None = number room (integer_at bytes)
-  named_or_number room bytes (Some (name, rest)) = named room name rest
+  abbrev pub named_or_number : Budget → List ℕ → Option (List ℕ × List ℕ) → Read Tree
+  named_or_number budget bytes None = number budget (integer_at bytes)
+  named_or_number budget bytes (Some (name, rest)) = named budget name rest
 
   -- a list cell, from its head on
-  abbrev pub element : Room → List ℕ → Read Tree
-  element room bytes = then_in (paid 1 room) (λ left. cell (below Behind) (below Alone left bytes))
+  abbrev pub element : Budget → List ℕ → Read Tree
+  element budget bytes = then_in (paid 1 budget) (λ left. cell (below Behind) (below Alone left bytes))
 
   -- a list behind its opening bracket
-  abbrev pub list : Room → List ℕ → Read Tree
-  list room [] = None
-  list room (b ∷ s) = if b == 93 then nil room s else element room (b ∷ s)
+  abbrev pub list : Budget → List ℕ → Read Tree
+  list budget [] = None
+  list budget (b ∷ s) = if b == 93 then nil budget s else element budget (b ∷ s)
 
   -- a term by itself
-  abbrev pub node : Room → List ℕ → Read Tree
-  node room [] = None
-  node room (b ∷ s) = if b == 95 then variable room (number_at 255 s)
-      else (if b == 91 then list room s
-      else named_or_number room (b ∷ s) (name_at room.name_bytes (b ∷ s)))
+  abbrev pub node : Budget → List ℕ → Read Tree
+  node budget [] = None
+  node budget (b ∷ s) = if b == 95 then variable budget (number_at 255 s)
+      else (if b == 91 then list budget s
+      else named_or_number budget (b ∷ s) (name_at budget.room.name_bytes (b ∷ s)))
 
   -- a term behind an element of a list, with the closing bracket
-  abbrev pub tail : Room → List ℕ → Read Tree
-  tail room [] = None
-  tail room (b ∷ s) = if b == 93 then nil room s
-      else (if b == 44 then element room s else (if b == 124 then barred (node room s) else None))
+  abbrev pub tail : Budget → List ℕ → Read Tree
+  tail budget [] = None
+  tail budget (b ∷ s) = if b == 93 then nil budget s
+      else (if b == 44 then element budget s else (if b == 124 then barred (node budget s) else None))
 
 -- a term of at most this depth, in its place
-abbrev pub reads : ℕ → Place → Room → List ℕ → Read Tree
-reads zero place room bytes = None
-reads (suc d) Alone room bytes = node (reads d) room bytes
-reads (suc d) Behind room bytes = tail (reads d) room bytes
+abbrev pub reads : ℕ → Place → Budget → List ℕ → Read Tree
+reads zero place budget bytes = None
+reads (suc d) Alone budget bytes = node (reads d) budget bytes
+reads (suc d) Behind budget bytes = tail (reads d) budget bytes
 
 -- the name at the front as an atom
 abbrev pub head : Option (List ℕ × List ℕ) → Read Tree
@@ -171,9 +172,9 @@ head None = None
 head (Some (name, rest)) = atom name whole rest
 
 abbrev pub or_head : List ℕ → Read Tree → Read Tree
-or_head bytes None = head (name_at 65535 bytes)
+or_head bytes None = head (name_at most_name_bytes bytes)
 or_head bytes (Some r) = Some r
 
 -- a template: the whole term at the front, or its name alone
 abbrev pub canonical_at : List ℕ → Read Tree
-canonical_at bytes = or_head bytes (reads 1000 Alone whole bytes)
+canonical_at bytes = or_head bytes (reads most_depth Alone whole bytes)

@@ -3,6 +3,7 @@
 use Rattle.std.specs.Prelude.{ℕ, ◌+◌, max, Bool, true, false, ◌&&◌, nat_le, List, [], ◌∷◌, Option, Some, None}
 use Rattle.tc_term.specs.Tree.{Tree, Compound, nodes, depth, name_bytes}
 use Rattle.tc_term.specs.Grammar.{Meaning}
+use Rattle.tc_term.specs.Limits.{most_depth, most_name_bytes, most_nodes}
 use Rattle.tc_term.specs.Faults.{Reading, reading, trees}
 
 -- what is kept of a part of a text: a term that fits; that it doesn't fit; or the place of the
@@ -32,7 +33,8 @@ all_name_bytes [] = 0
 all_name_bytes (t ∷ ts) = name_bytes t + all_name_bytes ts
 
 abbrev pub fits_by : ℕ → ℕ → ℕ → Bool
-fits_by a b c = nat_le a 10000 && (nat_le b 1000 && nat_le c 65535)
+fits_by a b c =
+    nat_le a most_nodes && (nat_le b most_depth && nat_le c most_name_bytes)
 
 abbrev pub fits : Tree → Bool
 fits t = fits_by (nodes t) (depth t) (name_bytes t)

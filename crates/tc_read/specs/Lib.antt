@@ -12,7 +12,7 @@ pub mod Brackets
 pub mod Variables
 pub mod Scanner
 pub mod Scan
-pub mod Answers
+pub mod ReadAnswers
 pub mod Written
 pub mod Budget
 pub mod Front

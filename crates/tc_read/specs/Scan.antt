@@ -22,9 +22,9 @@ IsEnd (b ∷ s) = (b ≡ 46) × IsBehindEnd s
 
 -- the bytes, at the end of a text of this size, have no token before this end, or one before other
 -- tokens
-abbrev pub IsFound : Bool → ℕ → List ℕ → Found → Type 0
-IsFound clauses size s (End stop) = Scan clauses size s [] (stop_view stop)
-IsFound clauses size s (Token lexeme place direct after) =
+abbrev pub StandsNext : Bool → ℕ → List ℕ → Found → Type 0
+StandsNext clauses size s (End stop) = Scan clauses size s [] (stop_view stop)
+StandsNext clauses size s (Token lexeme place direct after) =
     ((ts : List At) (stop : scanned.Stop) → Scan clauses size after.now ts stop →
     Scan clauses size s (record { lexeme = lexeme_view lexeme; place = place; glued = direct }
     ∷ ts) stop)

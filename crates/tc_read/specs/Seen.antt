@@ -6,15 +6,15 @@ use Rattle.tc_term.specs.declared.terms.Term.{Term}
 use Rattle.tc_term.specs.Tree.{Tree, Trees}
 use Rattle.tc_term.specs.TreeView.{tree_of}
 use Rattle.tc_read.specs.Front.{Read}
-use Rattle.tc_read.specs.declared.room.Room.{Room}
+use Rattle.tc_read.specs.declared.budget.Budget.{Budget}
 
-abbrev pub term_seen : Option (Term × Room × Bor (List ℕ)) → Read Tree
+abbrev pub term_seen : Option (Term × Budget × Bor (List ℕ)) → Read Tree
 term_seen None = None
-term_seen (Some (t, room, rest)) = Some (tree_of t, room, rest.now)
+term_seen (Some (t, budget, rest)) = Some (tree_of t, budget, rest.now)
 
-abbrev pub arguments_seen : Option (Trees × Room × Bor (List ℕ)) → Read Trees
+abbrev pub arguments_seen : Option (Trees × Budget × Bor (List ℕ)) → Read Trees
 arguments_seen None = None
-arguments_seen (Some (ts, room, rest)) = Some (ts, room, rest.now)
+arguments_seen (Some (ts, budget, rest)) = Some (ts, budget, rest.now)
 
 abbrev pub name_seen : Option (List ℕ × Bor (List ℕ)) → Option (List ℕ × List ℕ)
 name_seen None = None

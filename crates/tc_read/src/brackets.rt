@@ -1,10 +1,12 @@
 //! How many brackets are open.
 ghost use Rattle.std.specs.Prelude.{◌≤◌, ◌+◌, ℕ, max};
 ghost use Rattle.tc_term.specs.Faults.{open_behind};
+ghost use Rattle.tc_term.specs.Limits.{most_brackets};
 ghost use Rattle.tc_read.specs.Lexemes.{lexeme_view};
 
 use crate::lexeme::{Lexeme, Mark};
 
+/// The most brackets that are open at once.
 const MOST: usize = 200;
 
 /// The brackets that are open, until they are too many at some place.
@@ -12,7 +14,7 @@ const MOST: usize = 200;
 pub struct Brackets {
     pub count: usize,
     pub too_many: bool,
-    ghost few: { count ≤ 200 },
+    ghost few: { count ≤ most_brackets },
 }
 
 impl Brackets {

@@ -3,6 +3,7 @@
 //! The next byte decides what stands there. Only where a whole term doesn't stand at the place may
 //! its name alone, so the reader goes back once at most.
 ghost use Rattle.std.specs.Prelude.{◌≡◌, ◌≤◌, IfNone, IfOk, IfSome, codes, length, ℕ};
+ghost use Rattle.tc_term.specs.Limits.{most_name_bytes};
 ghost use Rattle.tc_term.specs.Text.{Alone, Behind};
 ghost use Rattle.tc_term.specs.Tree.{Compound, Last, More, Tree};
 ghost use Rattle.tc_term.specs.TreeView.{tree_of};
@@ -11,11 +12,11 @@ ghost use Rattle.tc_read.specs.Front.{arguments, barred, called, canonical_at, e
 ghost use Rattle.tc_read.specs.Front.{is_barred, is_cell, list, name_at, named, node, reads, tail};
 ghost use Rattle.tc_read.specs.Seen.{arguments_seen, term_seen};
 
+use crate::budget::Budget;
 use crate::layout::next_byte;
 use crate::leaves::{Front, atom, nil, number, variable};
 use crate::printed_names::name_at;
 use crate::read::rest_from;
-use crate::room::{Room, WHOLE, paid};
 use std::alloc::Global;
 use tc_lists::NoMemory;
 use tc_term::{Args, MAX_DEPTH, Name, Pattern, Term};
@@ -47,13 +48,13 @@ fn is_barred(term: &Term) -> bool
 fn called<'a>(
     alloc: Global,
     depth: usize,
-    room: Room,
+    budget: Budget,
     name: Name,
     bytes: &'a [u8],
 ) -> Read<'a, Term>
-    ensures { IfOk result (λ r. term_seen r ≡ called (reads depth) name room bytes.now) }
+    ensures { IfOk result (λ r. term_seen r ≡ called (reads depth) name budget bytes.now) }
 {
-    let Some(left) = paid(room, name.bytes().len()) else {
+    let Some(left) = budget.paid(name.bytes().len()) else {
         return Ok(None);
     };
     let Some((args, left, rest)) = arguments(alloc, depth, left, bytes)? else {
@@ -67,15 +68,15 @@ fn called<'a>(
 
 /// Arguments, up to and with the closing bracket.
 #[cycle(canonical)]
-fn arguments<'a>(alloc: Global, depth: usize, room: Room, bytes: &'a [u8]) -> Read<'a, Args>
+fn arguments<'a>(alloc: Global, depth: usize, budget: Budget, bytes: &'a [u8]) -> Read<'a, Args>
     ensures { IfOk result
-        (λ r. arguments_seen r ≡ arguments (reads depth Alone) room.nodes room bytes.now) }
+        (λ r. arguments_seen r ≡ arguments (reads depth Alone) budget.room.nodes budget bytes.now) }
 {
     let mut terms = Vec::new(alloc);
-    let mut left = room;
+    let mut left = budget;
     let mut rest = bytes;
-    for _ in 0..room.nodes {
-        let Some((term, room, after)) = alone(alloc, depth, left, rest)? else {
+    for _ in 0..budget.room.nodes {
+        let Some((term, budget, after)) = alone(alloc, depth, left, rest)? else {
             return Ok(None);
         };
         terms.push(term)?;
@@ -83,12 +84,12 @@ fn arguments<'a>(alloc: Global, depth: usize, room: Room, bytes: &'a [u8]) -> Re
             return Ok(None);
         };
         if byte == b')' {
-            return Ok(Some((Args::new(terms), room, behind)));
+            return Ok(Some((Args::new(terms), budget, behind)));
         }
         if byte != b',' {
             return Ok(None);
         }
-        left = room;
+        left = budget;
         rest = behind;
     }
     Ok(None)
@@ -96,21 +97,27 @@ fn arguments<'a>(alloc: Global, depth: usize, room: Room, bytes: &'a [u8]) -> Re
 
 /// A term behind a name: a compound where a bracket follows, else an atom.
 #[cycle(canonical)]
-fn named<'a>(alloc: Global, depth: usize, room: Room, name: Name, bytes: &'a [u8]) -> Read<'a, Term>
-    ensures { IfOk result (λ r. term_seen r ≡ named (reads depth) room name bytes.now) }
+fn named<'a>(
+    alloc: Global,
+    depth: usize,
+    budget: Budget,
+    name: Name,
+    bytes: &'a [u8],
+) -> Read<'a, Term>
+    ensures { IfOk result (λ r. term_seen r ≡ named (reads depth) budget name bytes.now) }
 {
     match next_byte(bytes) {
-        Some((b'(', after)) => called(alloc, depth, room, name, after),
-        _ => Ok(atom(name, room, bytes)),
+        Some((b'(', after)) => called(alloc, depth, budget, name, after),
+        _ => Ok(atom(name, budget, bytes)),
     }
 }
 
 /// A list cell, from its head on.
 #[cycle(canonical)]
-fn element<'a>(alloc: Global, depth: usize, room: Room, bytes: &'a [u8]) -> Read<'a, Term>
-    ensures { IfOk result (λ r. term_seen r ≡ element (reads depth) room bytes.now) }
+fn element<'a>(alloc: Global, depth: usize, budget: Budget, bytes: &'a [u8]) -> Read<'a, Term>
+    ensures { IfOk result (λ r. term_seen r ≡ element (reads depth) budget bytes.now) }
 {
-    let Some(left) = paid(room, 1) else {
+    let Some(left) = budget.paid(1) else {
         return Ok(None);
     };
     let Some((first, left, after)) = alone(alloc, depth, left, bytes)? else {
@@ -135,38 +142,38 @@ fn cell(alloc: Global, first: Term, last: Term) -> Result<Term, NoMemory>
 
 /// A list behind its opening bracket.
 #[cycle(canonical)]
-fn list<'a>(alloc: Global, depth: usize, room: Room, bytes: &'a [u8]) -> Read<'a, Term>
-    ensures { IfOk result (λ r. term_seen r ≡ list (reads depth) room bytes.now) }
+fn list<'a>(alloc: Global, depth: usize, budget: Budget, bytes: &'a [u8]) -> Read<'a, Term>
+    ensures { IfOk result (λ r. term_seen r ≡ list (reads depth) budget bytes.now) }
 {
     match next_byte(bytes) {
         None => Ok(None),
-        Some((b']', after)) => nil(alloc, room, after),
-        Some(_) => element(alloc, depth, room, bytes),
+        Some((b']', after)) => nil(alloc, budget, after),
+        Some(_) => element(alloc, depth, budget, bytes),
     }
 }
 
 /// A term by itself, whose arguments are of at most this depth.
 #[cycle(canonical)]
-fn node<'a>(alloc: Global, depth: usize, room: Room, bytes: &'a [u8]) -> Read<'a, Term>
-    ensures { IfOk result (λ r. term_seen r ≡ node (reads depth) room bytes.now) }
+fn node<'a>(alloc: Global, depth: usize, budget: Budget, bytes: &'a [u8]) -> Read<'a, Term>
+    ensures { IfOk result (λ r. term_seen r ≡ node (reads depth) budget bytes.now) }
 {
     match next_byte(bytes) {
         None => Ok(None),
-        Some((b'_', after)) => Ok(variable(room, after)),
-        Some((b'[', after)) => list(alloc, depth, room, after),
-        Some(_) => match name_at(alloc, bytes, room.name_bytes)? {
-            None => Ok(number(room, bytes)),
-            Some((name, rest)) => named(alloc, depth, room, name, rest),
+        Some((b'_', after)) => Ok(variable(budget, after)),
+        Some((b'[', after)) => list(alloc, depth, budget, after),
+        Some(_) => match name_at(alloc, bytes, budget.room.name_bytes)? {
+            None => Ok(number(budget, bytes)),
+            Some((name, rest)) => named(alloc, depth, budget, name, rest),
         },
     }
 }
 
 /// The closing bracket of a list behind its tail.
 #[cycle(canonical)]
-fn closed<'a>(alloc: Global, depth: usize, room: Room, bytes: &'a [u8]) -> Read<'a, Term>
-    ensures { IfOk result (λ r. term_seen r ≡ barred (node (reads depth) room bytes.now)) }
+fn closed<'a>(alloc: Global, depth: usize, budget: Budget, bytes: &'a [u8]) -> Read<'a, Term>
+    ensures { IfOk result (λ r. term_seen r ≡ barred (node (reads depth) budget bytes.now)) }
 {
-    let Some((term, left, rest)) = node(alloc, depth, room, bytes)? else {
+    let Some((term, left, rest)) = node(alloc, depth, budget, bytes)? else {
         return Ok(None);
     };
     match next_byte(rest) {
@@ -177,54 +184,54 @@ fn closed<'a>(alloc: Global, depth: usize, room: Room, bytes: &'a [u8]) -> Read<
 
 /// A term behind an element of a list, with the closing bracket.
 #[cycle(canonical)]
-fn tail<'a>(alloc: Global, depth: usize, room: Room, bytes: &'a [u8]) -> Read<'a, Term>
-    ensures { IfOk result (λ r. term_seen r ≡ tail (reads depth) room bytes.now) }
+fn tail<'a>(alloc: Global, depth: usize, budget: Budget, bytes: &'a [u8]) -> Read<'a, Term>
+    ensures { IfOk result (λ r. term_seen r ≡ tail (reads depth) budget bytes.now) }
 {
     match next_byte(bytes) {
-        Some((b']', after)) => nil(alloc, room, after),
-        Some((b',', after)) => element(alloc, depth, room, after),
-        Some((b'|', after)) => closed(alloc, depth, room, after),
+        Some((b']', after)) => nil(alloc, budget, after),
+        Some((b',', after)) => element(alloc, depth, budget, after),
+        Some((b'|', after)) => closed(alloc, depth, budget, after),
         _ => Ok(None),
     }
 }
 
 /// A term of at most this depth by itself.
 #[cycle(canonical)]
-fn alone<'a>(alloc: Global, depth: usize, room: Room, bytes: &'a [u8]) -> Read<'a, Term>
-    ensures { IfOk result (λ r. term_seen r ≡ reads depth Alone room bytes.now) }
+fn alone<'a>(alloc: Global, depth: usize, budget: Budget, bytes: &'a [u8]) -> Read<'a, Term>
+    ensures { IfOk result (λ r. term_seen r ≡ reads depth Alone budget bytes.now) }
 {
     if depth == 0 {
         return Ok(None);
     }
-    node(alloc, depth - 1, room, bytes)
+    node(alloc, depth - 1, budget, bytes)
 }
 
 /// A term of at most this depth behind an element of a list.
 #[cycle(canonical)]
-fn behind<'a>(alloc: Global, depth: usize, room: Room, bytes: &'a [u8]) -> Read<'a, Term>
-    ensures { IfOk result (λ r. term_seen r ≡ reads depth Behind room bytes.now) }
+fn behind<'a>(alloc: Global, depth: usize, budget: Budget, bytes: &'a [u8]) -> Read<'a, Term>
+    ensures { IfOk result (λ r. term_seen r ≡ reads depth Behind budget bytes.now) }
 {
     if depth == 0 {
         return Ok(None);
     }
-    tail(alloc, depth - 1, room, bytes)
+    tail(alloc, depth - 1, budget, bytes)
 }
 
 /// The name at the front as an atom.
 fn head<'a>(alloc: Global, bytes: &'a [u8]) -> Read<'a, Term>
-    ensures { IfOk result (λ r. term_seen r ≡ head (name_at 65535 bytes.now)) }
+    ensures { IfOk result (λ r. term_seen r ≡ head (name_at most_name_bytes bytes.now)) }
 {
-    let Some((name, rest)) = name_at(alloc, bytes, WHOLE.name_bytes)? else {
+    let Some((name, rest)) = name_at(alloc, bytes, Budget::whole().room.name_bytes)? else {
         return Ok(None);
     };
-    Ok(atom(name, WHOLE, rest))
+    Ok(atom(name, Budget::whole(), rest))
 }
 
 /// The template at the front, as a term, with what stands behind it.
 fn at_front<'a>(alloc: Global, bytes: &'a [u8]) -> Read<'a, Term>
     ensures { IfOk result (λ r. term_seen r ≡ canonical_at bytes.now) }
 {
-    match alone(alloc, MAX_DEPTH, WHOLE, bytes)? {
+    match alone(alloc, MAX_DEPTH, Budget::whole(), bytes)? {
         None => head(alloc, bytes),
         Some(found) => Ok(Some(found)),
     }

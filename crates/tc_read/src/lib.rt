@@ -1,11 +1,10 @@
 //! Terms read from text: what is read is what the tokens spell, and each fault has its place.
 //!
-//! A text is read clause by clause:
+//! A text is read clause by clause, up to its end or its first fault:
 //!
-//! ```text
+//! ```rattle
 //! let mut from = 0;
-//! while let Some((clause, behind)) = read_clause(alloc, text, from)? {
-//!     take(clause);
+//! while let Some((_, behind)) = read_clause(alloc, text, from)? {
 //!     from = behind;
 //! }
 //! ```
@@ -15,6 +14,7 @@
 
 mod begin;
 mod brackets;
+mod budget;
 mod build;
 mod canonical;
 mod close;
@@ -35,7 +35,6 @@ mod printed_names;
 mod quote;
 mod quoted;
 mod read;
-mod room;
 mod scan;
 mod scanner;
 mod tokens;

@@ -8,9 +8,7 @@ ghost use Rattle.tc_read.specs.Lexemes.{lexeme_view};
 ghost use Rattle.tc_read.specs.Lexing.{Begins};
 
 use crate::layout::next_byte;
-use crate::lexeme::{
-    Lexeme, digits_length, is_variable_start, punctuation, symbol, word_length,
-};
+use crate::lexeme::{Lexeme, digits_length, is_variable_start, punctuation, symbol, word_length};
 use crate::quoted::quoted_length;
 
 /// The longest token at the front, and what stands behind it.

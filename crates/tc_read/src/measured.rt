@@ -1,5 +1,6 @@
 //! Terms with their sizes.
 ghost use Rattle.std.specs.Prelude.{◌≡◌, ◌≤◌, length, map, reverse, ◌<◌};
+ghost use Rattle.tc_term.specs.Limits.{most_depth, most_name_bytes, most_nodes};
 ghost use Rattle.tc_term.specs.Tree as tree;
 ghost use Rattle.tc_term.specs.TreeView.{tree_of};
 ghost use Rattle.tc_read.specs.Kept.{all_nodes, all_depth, all_name_bytes};
@@ -16,9 +17,9 @@ pub struct Measured {
     ghost counted: { nodes ≡ tree.nodes (tree_of term) },
     ghost deep: { depth ≡ tree.depth (tree_of term) },
     ghost named: { name_bytes ≡ tree.name_bytes (tree_of term) },
-    ghost few: { nodes ≤ 10000 },
-    ghost flat: { depth ≤ 1000 },
-    ghost short: { name_bytes ≤ 65535 },
+    ghost few: { nodes ≤ most_nodes },
+    ghost flat: { depth ≤ most_depth },
+    ghost short: { name_bytes ≤ most_name_bytes },
 }
 
 /// What is kept of a part of a text: a term that fits, that it doesn't fit, or the place of its
@@ -40,9 +41,9 @@ pub struct Several {
     ghost counted: { nodes ≡ all_nodes (reverse (map tree_of terms.items)) },
     ghost deep: { depth ≡ all_depth (reverse (map tree_of terms.items)) },
     ghost named: { name_bytes ≡ all_name_bytes (reverse (map tree_of terms.items)) },
-    ghost few: { nodes < 10000 },
-    ghost flat: { depth < 1000 },
-    ghost short: { name_bytes ≤ 65535 },
+    ghost few: { nodes < most_nodes },
+    ghost flat: { depth < most_depth },
+    ghost short: { name_bytes ≤ most_name_bytes },
 }
 
 /// What is kept of arguments, from one of them on to the last.

@@ -3,11 +3,12 @@ ghost use Rattle.std.specs.Prelude.{◌≡◌, ◌<◌, ◌≤◌, [], IfOk, IfS
 ghost use Rattle.std.specs.List.{range_with_len};
 ghost use Rattle.tc_term.specs.Faults.{Ended, IsRead, Judged, Reading, first_place, first_wide, place_behind};
 ghost use Rattle.tc_term.specs.Layouts.{At};
+ghost use Rattle.tc_term.specs.Limits.{most_variables};
 ghost use Rattle.tc_term.specs.Layouts as text;
 ghost use Rattle.tc_term.specs.Variables as tree;
 ghost use Rattle.tc_read.specs.Items.{kept_item};
 ghost use Rattle.tc_read.specs.Kept.{kept_of};
-ghost use Rattle.tc_read.specs.Answers.{IsAnswer, IsTermAnswer, place_by};
+ghost use Rattle.tc_read.specs.ReadAnswers.{IsClauseAnswer, IsTermAnswer, place_by};
 ghost use Rattle.tc_read.specs.Scanner.{Gathers};
 
 use crate::fault::ReadFault;
@@ -21,7 +22,7 @@ use tc_term::{MAX_VARIABLES, NotPattern, Pattern};
 /// The template of what was parsed, with so many variables, behind the first token at this place.
 fn judge(item: Item, variables: usize, place: usize) -> Result<Pattern, ReadFault>
     ensures { (behind : ℕ) (r : Reading) → kept_of r ≡ kept_item item
-        → (variables ≤ 256 → tree.variables r.term ≡ range_with_len 0 variables)
+        → (variables ≤ most_variables → tree.variables r.term ≡ range_with_len 0 variables)
         → IsTermAnswer (Judged place behind variables r) behind result }
 {
     match item {
@@ -110,7 +111,7 @@ pub fn read_clause(
     from: usize,
 ) -> Result<Option<(Pattern, usize)>, ReadFault>
     requires { from ≤ length text.now }
-    ensures read { IsAnswer (IsRead true (length text.now) (drop from text.now)) result }
+    ensures read { IsClauseAnswer (IsRead true (length text.now) (drop from text.now)) result }
     ensures behind { IfOk result
         (λ r. IfSome r (λ found. (from < found.1) × (found.1 ≤ length text.now))) }
 {

@@ -2,7 +2,7 @@
 ghost use Rattle.std.specs.Prelude.{◌≡◌, true, IfOk, IsTrue, IfNone, IfSome, List, length, ℕ, ◌↔◌};
 ghost use Rattle.tc_term.specs.Layouts.{At, IsBehindEnd, Scan};
 ghost use Rattle.tc_term.specs.Tokens.{BeginsNone};
-ghost use Rattle.tc_read.specs.Scan.{IsEnd, IsFound, IsScanned, stop_view};
+ghost use Rattle.tc_read.specs.Scan.{IsEnd, StandsNext, IsScanned, stop_view};
 
 use crate::layout::{behind_layout, behind_piece, next_byte};
 use crate::lexeme::Lexeme;
@@ -62,7 +62,7 @@ fn is_behind_end(after: &[u8]) -> bool
 
 /// What stands next in the rest of a text of this size.
 fn find<'a>(rest: &'a [u8], size: usize, clauses: bool) -> Found<'a>
-    ensures { IsFound clauses size rest.now result }
+    ensures { StandsNext clauses size rest.now result }
 {
     let start = behind_layout(rest);
     let place = size.saturating_sub(start.len());

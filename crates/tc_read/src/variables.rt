@@ -1,7 +1,8 @@
 //! The variables of a text, numbered by first appearance.
-ghost use Rattle.std.specs.Prelude.{◌≡◌, ◌≤◌, [], IfOk, OnOk, length, vec_len};
+ghost use Rattle.std.specs.Prelude.{◌≡◌, ◌+◌, ◌≤◌, [], IfOk, OnOk, length, vec_len};
 ghost use Rattle.std.specs.List.{position};
 ghost use Rattle.std.specs.Str.{bytes_eq};
+ghost use Rattle.tc_term.specs.Limits.{most_variables};
 ghost use Rattle.tc_term.specs.Faults.{is_anonymous, known_after, learned, number_of};
 
 use std::alloc::Global;
@@ -15,7 +16,7 @@ const MOST: usize = MAX_VARIABLES + 1;
 #[derive(Drop)]
 pub struct Variables<'a> {
     pub known: Vec<&'a [u8]>,
-    ghost few: { vec_len known ≤ 257 },
+    ghost few: { vec_len known ≤ most_variables + 1 },
 }
 
 /// Whether the name is a `_` alone.

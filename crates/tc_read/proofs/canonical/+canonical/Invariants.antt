@@ -38,4 +38,4 @@ decreases-tail l = l.depth * 10 + 6
 abbrev pub invariant-arguments-loop : goal.invariant-arguments-loop
 invariant-arguments-loop l =
     prepended l.terms.items (arguments (reads l.depth Alone) (l.end - l.counter) l.left l.rest)
-    ≡ arguments (reads l.depth Alone) l.fn.room.nodes l.fn.room l.fn.bytes
+    ≡ arguments (reads l.depth Alone) l.fn.budget.room.nodes l.fn.budget l.fn.bytes
