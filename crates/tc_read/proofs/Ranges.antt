@@ -6,14 +6,10 @@ use Rattle.std.proofs.lemmas.List.FromFn.{get_or-range_with_len, length-range_wi
 use Rattle.std.specs.List.{range_with_len}
 use mathlib.Core.List.{IsPrefix}
 use Rattle.tc_lists.proofs.Prefixes.{IsPrefix-append, IsPrefix-trans, IsPrefix-whole, get_or-IsPrefix, length-IsPrefix}
-use Rattle.tc_term.proofs.Places.{Stands-range, map-range, place_in-range, with_number_cases}
+use Rattle.tc_term.proofs.Places.{Stands-range, place_in-range, with_number_cases}
 use Rattle.tc_term.specs.Tree.{Tree, Variable, Atomic, Number, Compound, Trees, Last, More}
 use Rattle.tc_term.specs.Variables.{with_number, variables_after, variables_after_all}
 use Rattle.tc_lists.proofs.Ranges.{range_with_len_more, is_range, get_or-range, range_with_len_same}
-
-map-same : (ms : List ℕ) → map (λ k. k) ms ≡ ms
-map-same [] = refl
-map-same (m ∷ ms) = ap (λ l. m ∷ l) (map-same ms)
 
 -- a number below the end is there
 pub with_number-old : (v n : ℕ) → n < v → with_number (range_with_len 0 v) n ≡ range_with_len 0 v
