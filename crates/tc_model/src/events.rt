@@ -214,4 +214,14 @@ impl Context {
     {
         &self.centre
     }
+
+    /// An equal context.
+    pub fn copy(&self, alloc: Global) -> Result<Context, NoMemory>
+        ensures { IfOk result (λ context. context ≡ self.now) }
+    {
+        Ok(Context {
+            agent: self.agent.copy(alloc)?,
+            centre: self.centre.copy(alloc)?,
+        })
+    }
 }

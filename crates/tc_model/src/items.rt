@@ -8,8 +8,11 @@ use tc_term::Ground;
 /// What a goal of a reaction did to the tuples.
 #[derive(Drop)]
 pub enum Effect {
+    /// It put the tuple, behind all others.
     Put(Ground),
+    /// It took the tuple away.
     Took(Ground),
+    /// It read the tuple, which stays.
     Read(Ground),
 }
 

@@ -1,5 +1,5 @@
 //! What holds of every run and of every history.
-ghost use Rattle.std.specs.Prelude.{◌≡◌, ◌<◌, ◌+◌, List, [], ◌++◌, All, AllPairs, Some, ℕ};
+ghost use Rattle.std.specs.Prelude.{◌≡◌, ◌<◌, ◌+◌, List, [], ◌++◌, All, AllPairs, Some, IfSome, ℕ};
 ghost use mathlib.Core.List.{IsPrefix};
 ghost use Rattle.tc_model.specs.declared.calls.CallId.{CallId};
 ghost use Rattle.tc_model.specs.declared.entries.Entry.{Entry};
@@ -19,7 +19,7 @@ ghost use Rattle.tc_model.specs.Calls.{id_of, calls_of};
 ghost use Rattle.tc_model.specs.Replies.{reply_in};
 ghost use Rattle.tc_model.specs.Run.{IsRunBy, IsRun, IsFirstRun};
 ghost use Rattle.tc_model.specs.Entries.{IsWellFormed, weight};
-ghost use Rattle.tc_model.specs.Typed.{IsTyped, IsTypedCall};
+ghost use Rattle.tc_model.specs.Typed.{IsTyped, IsTypedCall, IsTypedReply};
 
 /// A run in which every choice is the first is a run.
 pub fn first_run_is_run()
@@ -55,6 +55,12 @@ pub fn first_run_is_typed()
 pub fn typed_history_leads_to_a_typed_state()
     ensures { (origin : Origin) (history : List Entry) → IsOrigin origin → All IsTyped history
         → IsTypedState (after_history (opening origin) history) }
+{}
+
+/// The replies of a typed history are typed.
+pub fn replies_are_typed()
+    ensures { (history : List Entry) (id : CallId) → All IsTyped history
+        → IfSome (reply_in history id) IsTypedReply }
 {}
 
 /// A reply stays the same however the history goes on.

@@ -3,6 +3,17 @@
 //!
 //! An entry records what was chosen, so the entries of a history fix the state that they lead to.
 //! Nothing here knows how a centre serves a call, or how text is read.
+//!
+//! ```
+//! let name = Name::new(alloc, b"c")?;
+//! let agents = vec![in alloc; Name::new(alloc, b"a")?]?;
+//! check_origin(&name, &agents, 1000, &[], &Clauses::new(alloc))?;
+//!
+//! let id = CallId { agent: 0, number: 1 };
+//! let (outcome, items) = (Outcome::Done, Seq::empty(alloc));
+//! let entry = Entry::Called { id, op: Op::SetSpec(Clauses::new(alloc)), outcome, items };
+//! let same = entry.copy(alloc)?;
+//! ```
 #![tactic(auto)]
 
 mod calls;
@@ -27,7 +38,7 @@ pub use goals::Goal;
 pub use items::{Effect, Item};
 pub use laws::{
     beginning_is_run, entries_fix_the_state, first_run_is_run, first_run_is_typed,
-    nothing_waits_uncalled, numbers_rise, reply_stays, run_is_well_formed,
+    nothing_waits_uncalled, numbers_rise, replies_are_typed, reply_stays, run_is_well_formed,
     typed_history_leads_to_a_typed_state, waiting_calls_have_no_reply, weights_add,
 };
 pub use limits::{
@@ -36,3 +47,4 @@ pub use limits::{
 pub use origins::{OriginFault, check_origin};
 pub use outcomes::{Outcome, Reply};
 pub use reactions::{Clauses, Reaction};
+pub use tc_lists::NoMemory;

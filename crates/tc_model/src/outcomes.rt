@@ -10,20 +10,28 @@ use tc_term::Ground;
 /// What an agent is told.
 #[derive(Drop)]
 pub enum Reply {
+    /// The operation is done.
     Done,
+    /// The tuple that was taken or read.
     Tuple(Ground),
+    /// No tuple matched.
     NoTuple,
     /// The text of the centre's clauses.
     Spec(Seq<u8>),
+    /// The reactions of the phase went over the budget: the operation has had no effect.
     OverBudget(Phase),
 }
 
 /// What became of an operation, or of a request that was pending.
 #[derive(Drop)]
 pub enum Outcome {
+    /// The tuple is put, or the clauses are replaced.
     Done,
+    /// The tuple that was taken or read.
     Took(Ground),
+    /// No tuple matched.
     NoTuple,
+    /// The request waits.
     Pending,
     /// The text of the centre's clauses.
     Spec(Seq<u8>),

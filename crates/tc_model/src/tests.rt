@@ -1,12 +1,12 @@
-//! Copies with ample memory.
+//! Copies with ample memory, and what is told of names and beginnings.
 use crate::{
-    CallId, Clauses, Context, Effect, Entry, Event, EventOp, Goal, Item, Op, Outcome, Phase,
-    Reaction, Reply, Request, Sign,
+    CallId, Clauses, Context, Effect, Entry, Event, EventOp, Item, Op, OriginFault, Outcome, Phase,
+    Reply, Request, Sign, check_origin, event_op_of,
 };
 use std::alloc::Global;
 use std::test::Fail;
 use tc_lists::Seq;
-use tc_term::{Cmp, Ground, Name, Pattern, Term};
+use tc_term::{Ground, Name, Pattern, Term};
 
 const ID: CallId = CallId {
     agent: 0,
@@ -90,25 +90,80 @@ fn copies_a_request(rt: HostRuntime) -> Result<(), Fail> {
     Ok(())
 }
 
-// The clause `reaction(out(a),(true,1 < 2))`.
-fn clauses(alloc: Global) -> Result<Clauses, Fail> {
-    let head = Term::Atom(Name::new(alloc, b"a")?);
-    let mut goals = Vec::new(alloc);
-    goals.push(Goal::True)?;
-    goals.push(Goal::Compare(Cmp::Lt, Term::Int(1), Term::Int(2)))?;
-    let mut clauses = Clauses::new(alloc);
-    clauses.push(Reaction::new(0, EventOp::Out, head, goals))?;
-    Ok(clauses)
+// The event of a tuple that was put.
+fn event(alloc: Global) -> Result<Event, Fail> {
+    let tuple = tuple(alloc)?;
+    let _term = tuple.term();
+    let term = Pattern::of_tuple(tuple);
+    let _term = term.term();
+    Ok(Event::new(EventOp::Out, term, Phase::Post, Sign::Success))
+}
+
+#[test]
+fn copies_an_event_and_a_context(rt: HostRuntime) -> Result<(), Fail> {
+    let alloc = rt.alloc();
+    let event = event(alloc)?.copy(alloc)?;
+    assert!(rt; event.op() == EventOp::Out && event.phase() == Phase::Post);
+    assert!(rt; event.sign() == Sign::Success && event.term().vars() == 0);
+    let context = Context::new(Name::new(alloc, b"a")?, Name::new(alloc, b"c")?).copy(alloc)?;
+    assert!(rt; context.agent().bytes() == b"a".as_slice());
+    assert!(rt; context.centre().bytes() == b"c".as_slice());
+    Ok(())
 }
 
 #[test]
 fn copies_clauses(rt: HostRuntime) -> Result<(), Fail> {
     let alloc = rt.alloc();
-    let Op::SetSpec(copy) = Op::SetSpec(clauses(alloc)?).copy(alloc)? else {
+    let Op::SetSpec(copy) = Op::SetSpec(Clauses::new(alloc)).copy(alloc)? else {
         return Err(Fail::new("another operation"));
     };
-    assert_eq!(rt; copy.items().len(), 1);
-    assert_eq!(rt; copy.items()[0].op(), EventOp::Out);
-    assert_eq!(rt; copy.items()[0].goals().len(), 2);
+    assert!(rt; copy.items().is_empty());
+    Ok(())
+}
+
+#[test]
+fn names_of_operations_are_read_back(rt: HostRuntime) -> Result<(), Fail> {
+    let alloc = rt.alloc();
+    let rows: [(&[u8], EventOp); 3] = [
+        (b"rdp", EventOp::Rdp),
+        (b"in_r", EventOp::InR),
+        (b"no_r", EventOp::NoR),
+    ];
+    for (name, op) in rows {
+        assert!(rt; op.name() == name);
+        let read = event_op_of(&Name::new(alloc, name)?);
+        assert!(rt; read == Some(op));
+    }
+    let read = event_op_of(&Name::new(alloc, b"set_spec")?);
+    assert!(rt; read.is_none());
+    Ok(())
+}
+
+// Why no centre `c` may begin with agents of these names and this budget.
+fn fault(alloc: Global, names: &[&[u8]], budget: u32) -> Result<Option<OriginFault>, Fail> {
+    let name = Name::new(alloc, b"c")?;
+    let mut agents = Vec::new(alloc);
+    for name in names {
+        agents.push(Name::new(alloc, name)?)?;
+    }
+    Ok(check_origin(&name, &agents, budget, &[], &Clauses::new(alloc)).err())
+}
+
+#[test]
+fn tells_what_no_centre_may_begin_with(rt: HostRuntime) -> Result<(), Fail> {
+    let alloc = rt.alloc();
+    let long = vec![in alloc; b'a'; 65536]?;
+    let rows: [(&[&[u8]], u32, Option<OriginFault>); 6] = [
+        (&[b"a", b"b"], 10000, None),
+        (&[], 1, Some(OriginFault::AgentCount)),
+        (&[b"a", b"b", b"a"], 1, Some(OriginFault::SameNames)),
+        (&[b"a", &long], 1, Some(OriginFault::AgentName)),
+        (&[b"a"], 0, Some(OriginFault::Budget)),
+        (&[b"a"], 10001, Some(OriginFault::Budget)),
+    ];
+    for (names, budget, want) in rows {
+        let found = fault(alloc, names, budget)?;
+        assert!(rt; found == want);
+    }
     Ok(())
 }
