@@ -321,11 +321,11 @@ fn values_have_at_most_so_many_bytes_of_names(rt: HostRuntime) -> Result<(), Fai
 fn undo_goes_back_to_the_values_before(rt: HostRuntime) -> Result<(), Fail> {
     let alloc = rt.alloc();
     let mut sample = Sample::new(alloc, 2)?;
+    sample.grow(1)?;
     adds(&rt, alloc, &mut sample, "A", "f(B)", true)?;
     let outer = sample.mark();
     adds(&rt, alloc, &mut sample, "B", "a", true)?;
     let inner = sample.mark();
-    sample.grow(1)?;
     adds(&rt, alloc, &mut sample, "C", "A", true)?;
     has_value(&rt, alloc, &sample, "C", Some("f(a)"))?;
     sample.undo(&inner);
