@@ -1,15 +1,19 @@
 -- Passing over rows in order of age.
-use Rattle.std.proofs.Common.{◌≡◌, ◌<◌, ◌+◌, ℕ, inl, inr, List, [], ◌∷◌, ◌++◌, Some, All, get_or, refl, ap, sym, subst, ◌∙◌, arith}
+use Rattle.std.proofs.Common.{◌≡◌, ◌<◌, ◌≤◌, Option, ◌+◌, ℕ, inl, inr, List, [], ◌∷◌, ◌++◌, Some, All, get_or, refl, ap, sym, subst, ◌∙◌, arith}
 use Rattle.std.proofs.lemmas.Bool.{cases_lt}
 use Rattle.std.proofs.lemmas.List.{map-append}
 use Rattle.std.proofs.lemmas.List.Elements.{All-head, All-weaker, All-append, All-cons, All-map}
 use Rattle.tc_lists.specs.Firsts.{NoneOf, IsFirst}
+use Rattle.std.specs.Borrow.{Bor}
+use Rattle.std.specs.Option.{option_map}
+use Rattle.tc_term.specs.declared.terms.Term.{Term}
 use Rattle.tc_term.specs.Equations.{Equation, Matches}
 use Rattle.tc_term.specs.Tree.{Tree, IsTuple}
+use Rattle.tc_term.specs.TreeView.{tree_of}
 use Rattle.tc_bag.specs.declared.key.Key.{Key}
-use Rattle.tc_bag.specs.Keys.{key_of, Agrees}
-use Rattle.tc_bag.specs.Stock.{Row, Rises, IsCandidate, tuples_of, tuple_at, without_age}
-use Rattle.tc_bag.proofs.Agreement.{Agrees-match}
+use Rattle.tc_bag.specs.Keys.{key_of, known_first, Agrees, HasFirst, IsLike}
+use Rattle.tc_bag.specs.Stock.{Row, Rises, tuples_of, tuple_at, without_age}
+use Rattle.tc_bag.proofs.Agreement.{Agrees-match, HasFirst-match}
 use Rattle.tc_bag.proofs.Ages.{Rises-below, others_before, without_age-at, tuple_at-at}
 use Rattle.tc_bag.proofs.Firsts.{NoneOf-from_All, All-from_NoneOf, All-front, All-back}
 use Rattle.tc_search.specs.Found.{IsFound}
@@ -19,10 +23,14 @@ pub Rises-behind : (xs ys : List Row) (r : Row) (next : ℕ) → Rises (xs ++ r 
 Rises-behind [] ys r next rises = rises.1
 Rises-behind (x ∷ xs) ys r next rises = Rises-behind xs ys r next rises.2
 
+-- the row's age is at least this number, and its tuple has the property
+abbrev pub IsAmong : (Tree → Type 0) → ℕ → Row → Type 0
+IsAmong Q from row = (from ≤ row.age) × Q row.tuple
+
 -- a candidate's age
-pub candidate_below : (key : Key) (from next : ℕ) (rows : List Row) (row : Row) → Rises rows next
-    → IsFirst (IsCandidate key from) rows row → row.age < next
-candidate_below key from next rows row rises first =
+pub candidate_below : (Q : Tree → Type 0) (from next : ℕ) (rows : List Row) (row : Row) → Rises rows next
+    → IsFirst (IsAmong Q from) rows row → row.age < next
+candidate_below Q from next rows row rises first =
     All-head (λ r. r.age < next) row first.behind
     (All-back (λ r. r.age < next) first.before (row ∷ first.behind)
     (subst (All (λ r. r.age < next)) first.split (Rises-below rows next rises)))
@@ -32,47 +40,47 @@ module _ (P : Tree → Type 0) where
   abbrev pub IsPassed : ℕ → List Row → Type 0
   IsPassed from rows = All (λ r. r.age < from → P r.tuple → ⊥) rows
 
-  -- what has the property agrees with the key
-  abbrev pub IsKey : Key → List Row → Type 0
-  IsKey key rows = All (λ r. P r.tuple → Agrees key r.tuple) rows
+  -- what has the property has the other one, by which candidates are told
+  abbrev pub IsKey : (Tree → Type 0) → List Row → Type 0
+  IsKey Q rows = All (λ r. P r.tuple → Q r.tuple) rows
 
   -- no row before the candidate has the property
-  pub none_before : (key : Key) (from : ℕ) (rows : List Row) (row : Row) → IsKey key rows → IsPassed from rows
-      → (first : IsFirst (IsCandidate key from) rows row) → All (λ r. P r.tuple → ⊥) first.before
-  none_before key from rows row keys passed first =
+  pub none_before : (Q : Tree → Type 0) (from : ℕ) (rows : List Row) (row : Row) → IsKey Q rows → IsPassed from rows
+      → (first : IsFirst (IsAmong Q from) rows row) → All (λ r. P r.tuple → ⊥) first.before
+  none_before Q from rows row keys passed first =
       let before = first.before in
       let front = row ∷ first.behind in
       let passed_front : All (λ r. r.age < from → P r.tuple → ⊥) before =
       All-front (λ r. r.age < from → P r.tuple → ⊥) before front
       (subst (All (λ r. r.age < from → P r.tuple → ⊥)) first.split passed) in
-      let keys_front : All (λ r. P r.tuple → Agrees key r.tuple) before =
-      All-front (λ r. P r.tuple → Agrees key r.tuple) before front
-      (subst (All (λ r. P r.tuple → Agrees key r.tuple)) first.split keys) in
-      let none = All-from_NoneOf (IsCandidate key from) before first.none in
+      let keys_front : All (λ r. P r.tuple → Q r.tuple) before =
+      All-front (λ r. P r.tuple → Q r.tuple) before front
+      (subst (All (λ r. P r.tuple → Q r.tuple)) first.split keys) in
+      let none = All-from_NoneOf (IsAmong Q from) before first.none in
       λ k d inside has. elim (cases_lt (get_or before k d).age from) [
         | inl older ↦ passed_front k d inside older has
         | inr late ↦ none k d inside (late, keys_front k d inside has)
       ]
 
   -- nor has one up to the candidate, where it hasn't
-  pub passed_more : (key : Key) (from next : ℕ) (rows : List Row) (row : Row) → Rises rows next → IsKey key rows
-      → IsPassed from rows → IsFirst (IsCandidate key from) rows row → (P row.tuple → ⊥)
+  pub passed_more : (Q : Tree → Type 0) (from next : ℕ) (rows : List Row) (row : Row) → Rises rows next → IsKey Q rows
+      → IsPassed from rows → IsFirst (IsAmong Q from) rows row → (P row.tuple → ⊥)
       → IsPassed (row.age + 1) rows
-  passed_more key from next rows row rises keys passed first never =
+  passed_more Q from next rows row rises keys passed first never =
       let Passed : Row → Type 0 = λ r. r.age < row.age + 1 → P r.tuple → ⊥ in
       subst (All Passed) (sym first.split)
       (All-append Passed first.before (row ∷ first.behind)
       (All-weaker (λ r. P r.tuple → ⊥) Passed (λ r none older. none) first.before
-      (none_before key from rows row keys passed first))
+      (none_before Q from rows row keys passed first))
       (All-cons Passed row first.behind (λ older. never)
       (All-weaker (λ r. row.age < r.age) Passed (λ r younger older has. absurd (omega (arith, younger, older))) first.behind
       (Rises-behind first.before first.behind row next (subst (λ rs. Rises rs next) first.split rises)))))
 
   -- where there is no candidate, no tuple has the property
-  pub passed_all : (key : Key) (from : ℕ) (rows : List Row) → IsKey key rows → IsPassed from rows
-      → NoneOf (IsCandidate key from) rows → NoneOf P (tuples_of rows)
-  passed_all key from rows keys passed none =
-      let never = All-from_NoneOf (IsCandidate key from) rows none in
+  pub passed_all : (Q : Tree → Type 0) (from : ℕ) (rows : List Row) → IsKey Q rows → IsPassed from rows
+      → NoneOf (IsAmong Q from) rows → NoneOf P (tuples_of rows)
+  passed_all Q from rows keys passed none =
+      let never = All-from_NoneOf (IsAmong Q from) rows none in
       NoneOf-from_All P (tuples_of rows)
       (All-map (λ t. P t → ⊥) (λ (r : Row). r.tuple) rows
       (λ k d inside has. elim (cases_lt (get_or rows k d).age from) [
@@ -97,11 +105,11 @@ without_age-row rows before behind row next rises split =
     ∙ map-append (λ (r : Row). r.tuple) before behind
 
 -- a candidate that the template matches is found
-pub found_row : (n : ℕ) (es : List Equation) (template : Tree) (key : Key) (from next : ℕ) (rows : List Row) (row : Row)
-    → Rises rows next → IsKey (Matches n es template) key rows → IsPassed (Matches n es template) from rows
-    → IsFirst (IsCandidate key from) rows row → Matches n es template row.tuple
+pub found_row : (n : ℕ) (es : List Equation) (template : Tree) (Q : Tree → Type 0) (from next : ℕ) (rows : List Row) (row : Row)
+    → Rises rows next → IsKey (Matches n es template) Q rows → IsPassed (Matches n es template) from rows
+    → IsFirst (IsAmong Q from) rows row → Matches n es template row.tuple
     → IsFound n es template rows row.age row.tuple
-found_row n es template key from next rows row rises keys passed first match =
+found_row n es template Q from next rows row rises keys passed first match =
     let P : Tree → Type 0 = Matches n es template in
     record {
       first = record {
@@ -110,22 +118,26 @@ found_row n es template key from next rows row rises keys passed first match =
         split = ap tuples_of first.split ∙ map-append (λ (r : Row). r.tuple) first.before (row ∷ first.behind);
         has = match;
         none = NoneOf-from_All P (tuples_of first.before)
-            (All-map (λ t. P t → ⊥) (λ (r : Row). r.tuple) first.before (none_before P key from rows row keys passed first));
+            (All-map (λ t. P t → ⊥) (λ (r : Row). r.tuple) first.before (none_before P Q from rows row keys passed first));
       };
       there = tuple_at-row rows first.before first.behind row next rises first.split;
       left = without_age-row rows first.before first.behind row next rises first.split;
     }
 
--- what a template matches agrees with its key
-pub keys_agree : (n : ℕ) (es : List Equation) (template : Tree) (key : Key) (rows : List Row) → key ≡ key_of template
-    → All (λ r. IsTuple r.tuple) rows → IsKey (Matches n es template) key rows
-keys_agree n es template key rows same tuples =
-    All-weaker (λ r. IsTuple r.tuple) (λ r. Matches n es template r.tuple → Agrees key r.tuple)
-    (λ r tuple match. subst (λ k. Agrees k r.tuple) (sym same) (Agrees-match n es template r.tuple match tuple)) rows tuples
+-- the tree of a first argument that is lent
+abbrev pub seen : Option (Bor Term) → Option Tree
+seen first = option_map (λ (x : Bor Term). tree_of x.now) first
 
--- where no row has the key, the template matches no tuple
-pub none_with_key : (n : ℕ) (es : List Equation) (template : Tree) (key : Key) (rows : List Row) → key ≡ key_of template
-    → All (λ r. IsTuple r.tuple) rows → NoneOf (IsCandidate key 0) rows → NoneOf (Matches n es template) (tuples_of rows)
-none_with_key n es template key rows same tuples none =
-    passed_all (Matches n es template) key 0 rows (keys_agree n es template key rows same tuples)
-    (λ k d inside older has. absurd (omega (arith, older))) none
+-- what a template matches agrees with its key and has its first argument
+pub likes_agree : (n : ℕ) (es : List Equation) (template : Tree) (key : Key) (first : Option Tree) (rows : List Row) → key ≡ key_of template
+    → first ≡ known_first template → All (λ r. IsTuple r.tuple) rows → IsKey (Matches n es template) (IsLike key first) rows
+likes_agree n es template key first rows same known tuples =
+    All-weaker (λ r. IsTuple r.tuple) (λ r. Matches n es template r.tuple → IsLike key first r.tuple)
+    (λ r tuple match. (
+      subst (λ k. Agrees k r.tuple) (sym same) (Agrees-match n es template r.tuple match tuple),
+      subst (λ f. HasFirst f r.tuple) (sym known) (HasFirst-match n es template r.tuple match tuple),
+    )) rows tuples
+
+-- before the first row none is passed
+pub passed_none : (P : Tree → Type 0) (rows : List Row) → IsPassed P 0 rows
+passed_none P rows k d inside older has = absurd (omega (arith, older))

@@ -2,6 +2,11 @@
 //!
 //! What a template matches is a matter of equations; keys only pass over tuples that can't match.
 //! Nothing here knows of operations or histories.
+//!
+//! ```text
+//! let found = oldest_match_of(alloc, &template, &bag)?;
+//! assert!(rt; found.map(|row| row.0) == Some(1)); // its age
+//! ```
 #![tactic(auto)]
 
 mod matching;
@@ -11,3 +16,4 @@ mod tests;
 
 pub use matching::does_match;
 pub use search::{oldest_match, oldest_match_of};
+pub use tc_lists::NoMemory;

@@ -8,11 +8,12 @@ ghost use Rattle.tc_bag.specs.Keys.{key_of};
 ghost use Rattle.tc_bag.specs.Stock.{tuples_of};
 ghost use Rattle.tc_search.specs.Found.{IsFound};
 
+use crate::matching::does_match;
 use std::alloc::Global;
-use tc_bag::{Bag, Key};
+use tc_bag::{Bag, Key, known_first};
 use tc_lists::NoMemory;
 use tc_term::{Ground, Pattern, Term};
-use tc_unify::{Part, Store};
+use tc_unify::Store;
 
 /// The oldest tuple that the template matches under the store's equations, with its age.
 ///
@@ -41,8 +42,9 @@ pub fn oldest_match<'a>(
     ensures solvable { Solvable store.old.vars store.old.pairs
         → Solvable store.new.vars store.new.pairs }
 {
+    let first = known_first(template);
     let mut from = 0;
-    while let Some((age, tuple)) = bag.candidate(key, from) {
+    while let Some((age, tuple)) = bag.candidate_like(key, first, from) {
         if is_added(store, template, tuple)? {
             return Ok(Some((age, tuple)));
         }
@@ -52,6 +54,8 @@ pub fn oldest_match<'a>(
 }
 
 /// The oldest tuple that the template matches, with its age.
+///
+/// It takes memory for the key, and none for the tuples, however many are tried.
 pub fn oldest_match_of<'a>(
     alloc: Global,
     template: &Pattern,
@@ -63,12 +67,26 @@ pub fn oldest_match_of<'a>(
         (NoneOf (Matches (var_bound template.now) [] template.now) (tuples_of bag.now.now))) }
 {
     let key = Key::of(alloc, template.term())?;
-    let Some(_) = bag.candidate(&key, 0) else {
-        return Ok(None);
-    };
-    let mut store = Store::new(alloc, template.vars())?;
-    let found = oldest_match(&mut store, template.term(), &key, bag)?;
-    Ok(found)
+    Ok(first_match(template, &key, bag))
+}
+
+// The same by the template's key, without memory.
+fn first_match<'a>(template: &Pattern, key: &Key, bag: &'a Bag) -> Option<(u64, &'a Ground)>
+    requires { key.now ≡ key_of template.now }
+    ensures found { IfSome result
+        (λ m. IsFound (var_bound template.now) [] template.now bag.now.now m.0 m.1.now) }
+    ensures none { IfNone result
+        (NoneOf (Matches (var_bound template.now) [] template.now) (tuples_of bag.now.now)) }
+{
+    let first = known_first(template.term());
+    let mut start = 0;
+    while let Some((age, tuple)) = bag.candidate_like(key, first, start) {
+        if does_match(template, tuple) {
+            return Some((age, tuple));
+        }
+        start = age + 1;
+    }
+    None
 }
 
 // Whether the template matches a tuple, whose equation then is added.
@@ -83,14 +101,6 @@ fn is_added(store: &mut Store, template: &Term, tuple: &Ground) -> Result<bool, 
     ensures same_no { IfOk result (λ m. m ≡ false → store.new ≡ store.old) }
     ensures same { OnErr result (store.new ≡ store.old) }
 {
-    let left = Part {
-        term: template,
-        shift: 0,
-    };
-    let right = Part {
-        term: tuple.term(),
-        shift: 0,
-    };
-    let added = store.add(left, right)?;
+    let added = store.equate(template, tuple.term())?;
     Ok(added)
 }

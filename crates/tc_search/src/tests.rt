@@ -4,7 +4,7 @@ ghost use Rattle.tc_term.specs.TreeView.{tree_of};
 ghost use Rattle.tc_term.specs.Variables.{var_bound};
 ghost use Rattle.tc_bag.specs.Keys.{key_of};
 
-use crate::{oldest_match, oldest_match_of};
+use crate::{does_match, oldest_match, oldest_match_of};
 use std::alloc::Global;
 use std::test::Fail;
 use tc_bag::{Bag, Key};
@@ -109,5 +109,35 @@ fn a_match_binds_the_template(rt: HostRuntime) -> Result<(), Fail> {
         shift: 0,
     };
     assert!(rt; !store.add(left, right)?);
+    Ok(())
+}
+
+// The term `f(..)` of so many different variables, or of the numbers 0, 1, .., and a last argument.
+fn wide(alloc: Global, count: u32, variables: bool, last: Term) -> Result<Term, NoMemory> {
+    let mut args = Vec::new(alloc);
+    for i in 0..count {
+        args.push(if variables {
+            Term::Var(i)
+        } else {
+            Term::Int(i64::from(i))
+        })?;
+    }
+    args.push(last)?;
+    Ok(Term::Comp(Name::new(alloc, b"f")?, Args::new(args)))
+}
+
+#[test]
+fn a_variable_stands_for_one_tree(rt: HostRuntime) -> Result<(), Fail> {
+    let alloc = rt.alloc();
+    for count in [2, 8, 9, 200] {
+        let template = Pattern::of(wide(alloc, count, true, Term::Var(1))?);
+        let template = template.ok().ok_or("a template")?;
+        for (last, want) in [(1, true), (0, false)] {
+            let tuple = Ground::of(wide(alloc, count, false, Term::Int(last))?);
+            let tuple = tuple.ok().ok_or("a tuple")?;
+            let found = does_match(&template, &tuple);
+            assert!(rt; found == want, "{count} variables, {last}");
+        }
+    }
     Ok(())
 }
