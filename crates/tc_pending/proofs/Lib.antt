@@ -1,3 +1,4 @@
 pub mod Next
 pub mod Log
 pub mod Newly
+pub mod Coded

@@ -5,12 +5,13 @@ use Rattle.std.proofs.lemmas.Bool.{ne_eqb}
 use Rattle.std.proofs.lemmas.List.{take-append-drop, length-take, length-take-le, take_at, drop_at, drop_all, drop_more, drop-append-le, take-append-le, nil_from_length, same_from_push, map_push}
 use Rattle.std.proofs.lemmas.List.Edits.{length-insert}
 use Rattle.std.proofs.lemmas.List.Elements.{All-head, All-tail}
-use Rattle.tc_bag.specs.Slots.{Climbs}
-use Rattle.tc_bag.proofs.Marks.{Climbs-below, Climbs-more, Climbs-push, Climbs-pop}
+use Rattle.tc_lists.specs.Marks.{Climbs}
+use Rattle.tc_lists.proofs.Marks.{Climbs-below, Climbs-more, Climbs-push, Climbs-pop}
 use Rattle.tc_model.specs.declared.calls.Request.{Request}
 use Rattle.tc_pending.specs.declared.changes.Change.{Change}
 use Rattle.tc_pending.specs.declared.changes.Change.TheVariants.{Added, Removed}
-use Rattle.tc_pending.specs.Waiting.{Waiting, IsUndone, IsKept}
+use Rattle.tc_lists.specs.Marks.{IsBack, IsGivenUp}
+use Rattle.tc_pending.specs.Waiting.{Waiting}
 use Rattle.tc_pending.specs.Changes.{earlier, rewound, Fits, AllFit, saved_at, IsLog}
 
 -- the list as contracts see it
@@ -236,7 +237,7 @@ module _ (requests : List Request) (changes : List Change) (marks before : List 
 
   pub waiting-undone : (new : List Request) (left : List Change) → new ≡ rewound (drop top changes) requests
       → left ≡ take top changes
-      → IsUndone (waiting requests (saved_at marks changes requests)) (waiting new (saved_at before left new))
+      → IsBack (saved_at marks changes requests) new (saved_at before left new)
   waiting-undone new left is are older latest split =
       let same = same_from_push (saved_at before changes requests) older (rewound (drop top changes) requests) latest
       (sym saved_last ∙ split) in
@@ -244,9 +245,7 @@ module _ (requests : List Request) (changes : List Change) (marks before : List 
       saved-undone requests changes top before climbs_last.0 (Climbs-below before top climbs_last.1) in
       let there : saved_at before left new ≡ saved_at before (take top changes) (rewound (drop top changes) requests) =
       ap (λ rs. saved_at before left rs) is ∙ ap (λ cs. saved_at before cs (rewound (drop top changes) requests)) are in
-      let first = same.0 in
-      let second = same.1 in
-      cc
+      (is ∙ same.1, there ∙ rest ∙ same.0)
 
   -- the latest mark, given up
   pub IsLog-kept : 0 < length before → IsLog requests changes before
@@ -259,10 +258,8 @@ module _ (requests : List Request) (changes : List Change) (marks before : List 
     oldest_some [] some is = absurd (omega (arith, some))
     oldest_some (m ∷ ms) some is = is
 
-  pub waiting-kept : IsKept (waiting requests (saved_at marks changes requests))
-      (waiting requests (saved_at before changes requests))
+  pub waiting-kept : IsGivenUp (saved_at marks changes requests) (saved_at before changes requests)
   waiting-kept older latest split =
       let same = same_from_push (saved_at before changes requests) older (rewound (drop top changes) requests) latest
       (sym saved_last ∙ split) in
-      let first = same.0 in
-      cc
+      same.0

@@ -1,6 +1,6 @@
 -- The rows that are new are gone through one by one, oldest first.
-use Rattle.std.proofs.Common.{◌≡◌, ◌<◌, ◌≤◌, ◌+◌, ℕ, List, [], Some, None, Option, length, take, get_or, slice_get, inl, refl, ap, sym, subst, ◌∙◌, arith}
-use Rattle.std.specs.List.{All, Contains}
+use Rattle.std.proofs.Common.{◌≡◌, ◌<◌, ◌≤◌, ◌+◌, ℕ, List, [], Some, None, Option, length, take, get_or, slice_get, inl, refl, sym, subst, arith}
+use Rattle.std.specs.List.{Contains}
 use Rattle.std.specs.Option.{IfSome, IfNone}
 use Rattle.std.proofs.lemmas.List.Elements.{All-contains, Contains-get_or}
 use Rattle.tc_lists.specs.Firsts.{NoneOf, IsFirst}

@@ -2,8 +2,9 @@
 use Rattle.std.specs.Prelude.{ℕ, ◌≡◌, ◌+◌, ◌-◌, ◌≤◌, List, [], ◌∷◌, length, map, take, drop, insert, slice_index_or}
 use Rattle.std.specs.declared.vec.Vec.{Vec}
 use Rattle.std.specs.Vec.{vec_capacity}
-use Rattle.tc_bag.specs.Slots.{Climbs}
+use Rattle.tc_lists.specs.Marks.{Climbs}
 use Rattle.tc_model.specs.declared.calls.Request.{Request}
+use Rattle.tc_pending.specs.Codes.{codes_of}
 use Rattle.tc_pending.specs.declared.changes.Change.{Change}
 use Rattle.tc_pending.specs.declared.changes.Change.TheVariants.{Added, Removed}
 
@@ -37,8 +38,11 @@ pub record IsLog (requests : List Request) (changes : List Change) (marks : List
   pub climbs : Climbs marks (length changes)
   pub oldest : slice_index_or marks 0 (length changes) ≡ 0
 
--- a log with room for each request to be removed, and for each change to be taken back
-pub record IsSound {X Y : Type 0} (requests : Vec Request X) (changes : Vec Change Y) (marks : List ℕ) : Type 0 where
+-- a log with room for each request to be removed, and for each change to be taken back; and the codes
+-- are those of the requests
+pub record IsSound {X Y Z : Type 0} (requests : Vec Request X) (codes : Vec ℕ Z) (changes : Vec Change Y) (marks : List ℕ) : Type 0 where
+  pub coded : codes.items ≡ codes_of requests.items
   pub log : IsLog requests.items changes.items marks
   pub list_room : length requests.items + length changes.items ≤ vec_capacity requests
+  pub codes_room : length codes.items + length changes.items ≤ vec_capacity codes
   pub log_room : length requests.items + length changes.items ≤ vec_capacity changes

@@ -1,3 +1,4 @@
 pub mod Waiting
 pub mod Answers
 pub mod Changes
+pub mod Codes

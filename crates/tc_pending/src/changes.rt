@@ -1,7 +1,9 @@
 //! Changes of a list of requests, which may be taken back.
 ghost use Rattle.std.specs.Prelude.{◌≡◌, ◌+◌, ◌<◌, ◌≤◌, ◌++◌, ◌∷◌, [], take, drop, if◌then◌else◌, OnOk, vec_len, vec_capacity};
 ghost use Rattle.tc_pending.specs.Changes.{earlier, rewound, Fits, AllFit};
+ghost use Rattle.tc_pending.specs.Codes.{codes_of};
 
+use crate::codes::{code_of, put_back};
 use tc_lists::NoMemory;
 use tc_model::Request;
 
@@ -16,16 +18,21 @@ pub(crate) enum Change {
 /// to be removed and for each change to be taken back.
 pub(crate) fn make_room(
     requests: &mut Vec<Request>,
+    codes: &mut Vec<u64>,
     changes: &mut Vec<Change>,
 ) -> Result<(), NoMemory>
     ensures requests { requests.new.items ≡ requests.old.items }
+    ensures codes { codes.new.items ≡ codes.old.items }
     ensures changes { changes.new.items ≡ changes.old.items }
     ensures list { vec_capacity requests.old ≤ vec_capacity requests.new }
+    ensures codes_capacity { vec_capacity codes.old ≤ vec_capacity codes.new }
     ensures log { vec_capacity changes.old ≤ vec_capacity changes.new }
     ensures list_room { OnOk result (vec_len requests.new + vec_len changes.new + 2 ≤ vec_capacity requests.new) }
+    ensures codes_room { OnOk result (vec_len codes.new + vec_len changes.new + 2 ≤ vec_capacity codes.new) }
     ensures log_room { OnOk result (vec_len requests.new + vec_len changes.new + 2 ≤ vec_capacity changes.new) }
 {
     requests.reserve(changes.len() + 2)?;
+    codes.reserve(changes.len() + 2)?;
     changes.reserve(requests.len() + 2)?;
     Ok(())
 }
@@ -42,35 +49,51 @@ pub(crate) fn note(changes: &mut Vec<Change>, is_marked: bool, change: Change)
 }
 
 /// Takes a change back. No memory is taken.
-fn take_back(requests: &mut Vec<Request>, change: Change)
+fn take_back(requests: &mut Vec<Request>, codes: &mut Vec<u64>, change: Change)
     requires fits { Fits change requests.old.items }
+    requires codes { codes.old.items ≡ codes_of requests.old.items }
     requires room { vec_len requests.old < vec_capacity requests.old }
+    requires codes_room { vec_len codes.old < vec_capacity codes.old }
     ensures earlier { requests.new.items ≡ earlier change requests.old.items }
+    ensures codes { codes.new.items ≡ codes_of requests.new.items }
     ensures capacity { vec_capacity requests.old ≤ vec_capacity requests.new }
+    ensures codes_capacity { vec_capacity codes.old ≤ vec_capacity codes.new }
 {
     match change {
         Change::Added => {
             let _request = requests.pop();
+            codes.truncate(requests.len());
         }
         Change::Removed { place, request } => {
+            let code = code_of(request.template.term());
             let _ = requests.insert(place, request);
+            put_back(codes, place, code);
         }
     }
 }
 
 /// Takes back all but the first `count` changes, the latest first. No memory is taken.
-pub(crate) fn go_back(requests: &mut Vec<Request>, changes: &mut Vec<Change>, count: usize)
+pub(crate) fn go_back(
+    requests: &mut Vec<Request>,
+    codes: &mut Vec<u64>,
+    changes: &mut Vec<Change>,
+    count: usize,
+)
+    requires codes { codes.old.items ≡ codes_of requests.old.items }
+    requires codes_room { vec_len codes.old + vec_len changes.old ≤ vec_capacity codes.old }
     requires fit { AllFit changes.old.items requests.old.items }
     requires room { vec_len requests.old + vec_len changes.old ≤ vec_capacity requests.old }
     ensures requests { requests.new.items ≡ rewound (drop count changes.old.items) requests.old.items }
+    ensures codes { codes.new.items ≡ codes_of requests.new.items }
     ensures changes { changes.new.items ≡ take count changes.old.items }
+    ensures codes_capacity { vec_capacity codes.old ≤ vec_capacity codes.new }
     ensures list { vec_capacity requests.old ≤ vec_capacity requests.new }
     ensures log { vec_capacity changes.new ≡ vec_capacity changes.old }
     ensures fewer { vec_len requests.new + vec_len changes.new ≤ vec_len requests.old + vec_len changes.old }
 {
     while changes.len() > count {
         if let Some(change) = changes.pop() {
-            take_back(requests, change);
+            take_back(requests, codes, change);
         }
     }
 }

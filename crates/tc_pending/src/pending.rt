@@ -1,6 +1,7 @@
 //! The list of requests that wait.
 use crate::answering::{Known, answerable_from, newly_answerable};
 use crate::changes::{Change, go_back, make_room, note};
+use crate::codes::{append, code_of};
 use std::alloc::Global;
 use std::marker::Model;
 use tc_bag::Bag;
@@ -9,12 +10,14 @@ use tc_model::Request;
 
 /// Requests that wait, oldest first; and marks to which the list goes back.
 ///
+/// Beside each request stands its code, so that those that don't ask for a tuple are passed over.
 /// A mark copies nothing: each change after it is noted, and can be taken back. A mark is the number
 /// of changes before it, and where there is no mark none is noted.
 #[derive(Drop)]
 pub struct Pending {
     alloc: Global,
     requests: Vec<Request>,
+    request_codes: Vec<u64>,
     changes: Vec<Change>,
     marks: Vec<usize>,
 }
@@ -35,7 +38,7 @@ impl Model for Pending {
       saved = saved_at p.marks.items p.changes.items p.requests.items;
     } };
 
-    ghost invariant = { λ p. IsSound p.requests p.changes p.marks.items };
+    ghost invariant = { λ p. IsSound p.requests p.request_codes p.changes p.marks.items };
 }
 
 impl Pending {
@@ -43,7 +46,8 @@ impl Pending {
     ghost use Rattle.tc_lists.specs.Firsts.{NoneOf};
     ghost use Rattle.tc_bag.specs.Stock.{tuples_of};
     ghost use Rattle.tc_model.specs.State.{IsAnswerable};
-    ghost use Rattle.tc_pending.specs.Waiting.{marked, IsUndone, IsKept};
+    ghost use Rattle.tc_lists.specs.Marks.{IsBack, IsGivenUp};
+    ghost use Rattle.tc_pending.specs.Waiting.{marked};
     ghost use Rattle.tc_pending.specs.Answers.{IsNextAnswer, IsKnown};
 
     /// No request and no mark.
@@ -53,6 +57,7 @@ impl Pending {
         Pending {
             alloc,
             requests: Vec::new(alloc),
+            request_codes: Vec::new(alloc),
             changes: Vec::new(alloc),
             marks: Vec::new(alloc),
         }
@@ -81,7 +86,9 @@ impl Pending {
     /// The same as `oldest_answerable`, where it is known what no longer has to be looked at.
     ///
     /// Tuples of an age from `known.age` on are new to all requests, and requests from the place
-    /// `known.requests` on are new to all tuples.
+    /// `known.requests` on are new to all tuples. For each new tuple the codes of the known requests
+    /// are gone through, which takes some nanoseconds each; for each new request the bag is
+    /// searched once.
     pub fn next_answerable(&self, bag: &Bag, known: Known) -> Result<Option<(usize, u64)>, NoMemory>
         requires known { IsKnown known bag.now.now self.now.now }
         requires inside { known.requests ≤ length self.now.now }
@@ -90,7 +97,7 @@ impl Pending {
         ensures none { IfOk result (λ found. IfNone found
             (NoneOf (IsAnswerable (tuples_of bag.now.now)) self.now.now)) }
     {
-        if let Some(next) = newly_answerable(&self.requests, bag, known) {
+        if let Some(next) = newly_answerable(&self.requests, &self.request_codes, bag, known) {
             return Ok(Some(next));
         }
         answerable_from(self.alloc, &self.requests, bag, known.requests)
@@ -101,8 +108,14 @@ impl Pending {
         ensures added { OnOk result (self.new ≡ record self.old { now = self.old.now ++ request ∷ [] }) }
         ensures same { OnErr result (self.new ≡ self.old) }
     {
-        make_room(&mut self.requests, &mut self.changes)?;
+        make_room(
+            &mut self.requests,
+            &mut self.request_codes,
+            &mut self.changes,
+        )?;
+        let code = code_of(request.template.term());
         self.requests.push(request)?;
+        append(&mut self.request_codes, code);
         note(&mut self.changes, !self.marks.is_empty(), Change::Added);
         Ok(())
     }
@@ -113,6 +126,7 @@ impl Pending {
         ensures { self.new ≡ record self.old { now = remove self.old.now place } }
     {
         let request = self.requests.remove(place);
+        let _code = self.request_codes.remove(place);
         let removed = Change::Removed { place, request };
         note(&mut self.changes, !self.marks.is_empty(), removed);
     }
@@ -130,11 +144,16 @@ impl Pending {
     ///
     /// Takes the time of the changes since, each at most O(requests).
     pub fn undo(&mut self)
-        ensures back { IsUndone self.old self.new }
+        ensures back { IsBack self.old.saved self.new.now self.new.saved }
         ensures unmarked { self.old.saved ≡ [] → self.new ≡ self.old }
     {
         if let Some(count) = self.marks.pop() {
-            go_back(&mut self.requests, &mut self.changes, count);
+            go_back(
+                &mut self.requests,
+                &mut self.request_codes,
+                &mut self.changes,
+                count,
+            );
         }
     }
 
@@ -142,7 +161,8 @@ impl Pending {
     ///
     /// Takes O(1) time; where it is the only mark, that of the changes since.
     pub fn keep(&mut self)
-        ensures kept { IsKept self.old self.new }
+        ensures now { self.new.now ≡ self.old.now }
+        ensures given_up { IsGivenUp self.old.saved self.new.saved }
         ensures unmarked { self.old.saved ≡ [] → self.new ≡ self.old }
     {
         let _count = self.marks.pop();

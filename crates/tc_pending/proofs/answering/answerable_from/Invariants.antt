@@ -1,4 +1,4 @@
-use Rattle.std.proofs.Common.{◌≤◌, take}
+use Rattle.std.proofs.Common.{take}
 use Rattle.tc_lists.specs.Firsts.{NoneOf}
 use Rattle.tc_bag.specs.Stock.{tuples_of}
 use Rattle.tc_model.specs.State.{IsAnswerable}

@@ -27,6 +27,8 @@ loop-changes-preserved-in-Some c =
         changes_left = sym kept ∙ on_way.changes_left;
         fewer = omega (arith, ap length is, length-earlier change requests fits, ap length last, length-append front (change ∷ []), on_way.fewer);
       },
+      c.take_back.ensures.codes,
+      omega arith,
       omega arith,
       omega arith,
     )

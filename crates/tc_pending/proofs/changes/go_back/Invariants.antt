@@ -1,6 +1,7 @@
 use Rattle.std.proofs.Common.{◌≡◌, ◌+◌, ◌≤◌, ℕ, List, length, take, drop, vec_capacity}
 use Rattle.tc_model.specs.declared.calls.Request.{Request}
 use Rattle.tc_pending.specs.declared.changes.Change.{Change}
+use Rattle.tc_pending.specs.Codes.{codes_of}
 use Rattle.tc_pending.specs.Changes.{rewound, AllFit}
 use Rattle.tc_pending.proofs.changes.go_back.Given as goal
 
@@ -14,6 +15,8 @@ pub record IsOnWay (count : ℕ) (first requests : List Request) (all changes : 
 abbrev pub invariant-loop-changes : goal.invariant-loop-changes
 invariant-loop-changes l =
     IsOnWay l.count l.initial.requests.items l.requests.items l.initial.changes.items l.changes.items
+    × (l.codes.items ≡ codes_of l.requests.items)
+    × (vec_capacity l.initial.codes ≤ vec_capacity l.codes)
     × (vec_capacity l.initial.requests ≤ vec_capacity l.requests)
     × (vec_capacity l.changes ≡ vec_capacity l.initial.changes)
 

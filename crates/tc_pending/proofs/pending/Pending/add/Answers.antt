@@ -3,6 +3,8 @@ use Rattle.tc_pending.specs.declared.changes.Change.TheVariants.{Added}
 use Rattle.tc_pending.specs.Changes.{earlier, saved_at, IsLog}
 use Rattle.tc_pending.specs.Waiting.{Waiting}
 use Rattle.tc_pending.proofs.Log.{same_waiting, IsLog-noted, saved-logged, length-noted, earlier-added}
+use Rattle.tc_pending.specs.Codes.{code_of, codes_of}
+use Rattle.tc_pending.proofs.Coded.{codes-push}
 use Rattle.tc_pending.proofs.pending.Pending.add.Goals as goal
 
 module _ (c : goal.After-note) where
@@ -28,6 +30,20 @@ invariant_of-self-2 c =
     record {
       log = IsLog-noted c.self.inside.requests.items c.push.new.self.items changes.items c.note.new.changes.items
           c.self.inside.marks.items Added c.is_empty.result (log c) (empty c) c.note.ensures.noted tt (back c);
+      coded = (c.append.ensures.items ∙ ap (λ cs. cs ++ c.code_of-code.result ∷ []) (c.make_room.ensures.codes ∙ c.self.invariant.coded))
+          ∙ ap (λ k. codes_of c.self.inside.requests.items ++ k ∷ []) (c.code_of-code.ensures ∙ ap code_of c.term.ensures.term)
+          ∙ codes-push c.self.inside.requests.items c.args.request
+          ∙ ap codes_of (sym (c.in_ok-push.ensures.items ∙ ap (λ rs. rs ++ c.args.request ∷ []) c.make_room.ensures.requests));
+      codes_room = omega (
+        arith,
+        longer,
+        ap length c.append.ensures.items,
+        length-append c.make_room.new.codes.items (c.code_of-code.result ∷ []),
+        c.append.ensures.capacity,
+        c.in_ok-make_room.ensures.codes_room,
+        c.make_room.new.codes.ok.0,
+        changes.ok.0,
+      );
       list_room = omega (arith, longer, more, length-append requests.items (c.args.request ∷ []), c.in_ok-make_room.ensures.list_room, requests.ok.0, changes.ok.0);
       log_room = omega (arith, longer, more, length-append requests.items (c.args.request ∷ []), c.in_ok-make_room.ensures.log_room, requests.ok.0, changes.ok.0);
     }

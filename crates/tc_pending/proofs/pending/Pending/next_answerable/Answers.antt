@@ -10,12 +10,12 @@ use Rattle.tc_pending.proofs.pending.Pending.next_answerable.Goals as goal
 pub answerable_from-requires-clause-none : goal.answerable_from-requires-clause-none
 answerable_from-requires-clause-none c =
     subst (λ rs. NoneOf (IsAnswerable (tuples_of c.args.bag.now.now)) (take c.args.known.requests rs))
-    (c.deref.ensures.value ∙ sym c.deref-2.ensures.value)
+    (c.deref.ensures.value ∙ sym c.deref-3.ensures.value)
     c.in_default.ensures.none
 
 pub returns-clause-none : goal.returns-clause-none
 returns-clause-none c =
     let tuples = tuples_of c.args.bag.now.now in
     subst (λ (w : Waiting). IfOk c.answerable_from.result (λ found. IfNone found (NoneOf (IsAnswerable tuples) w.now))) c.self.view_is
-    (subst (λ rs. IfOk c.answerable_from.result (λ found. IfNone found (NoneOf (IsAnswerable tuples) rs))) c.deref-2.ensures.value
+    (subst (λ rs. IfOk c.answerable_from.result (λ found. IfNone found (NoneOf (IsAnswerable tuples) rs))) c.deref-3.ensures.value
     c.answerable_from.ensures.none)

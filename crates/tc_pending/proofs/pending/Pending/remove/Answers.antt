@@ -1,9 +1,11 @@
-use Rattle.std.proofs.Common.{◌≡◌, ◌<◌, ◌==◌, length, ap, ◌∙◌, arith}
+use Rattle.std.proofs.Common.{◌≡◌, ◌<◌, ◌==◌, length, ap, sym, ◌∙◌, arith}
 use Rattle.std.specs.List.{remove}
 use Rattle.tc_pending.specs.declared.changes.Change.TheVariants.{Removed}
 use Rattle.tc_pending.specs.Changes.{earlier, Fits}
 use Rattle.tc_pending.specs.Waiting.{Waiting}
 use Rattle.tc_pending.proofs.Log.{same_waiting, IsLog-noted, saved-logged, length-noted, earlier-removed, Fits-removed}
+use Rattle.tc_pending.specs.Codes.{codes_of}
+use Rattle.tc_pending.proofs.Coded.{codes-remove}
 use Rattle.tc_pending.proofs.pending.Pending.remove.Goals as goal
 
 module _ (c : goal.After-note) where
@@ -31,6 +33,9 @@ invariant_of-self c =
       log = IsLog-noted requests.items c.remove-request.new.self.items c.self.inside.changes.items c.note.new.changes.items
           c.self.inside.marks.items (Removed c.args.place c.remove-request.result) c.is_empty.result c.self.invariant.log (empty c)
           c.note.ensures.noted (fits c) (back c);
+      coded = c.remove-code.ensures.items ∙ ap (λ cs. remove cs c.args.place) c.self.invariant.coded
+          ∙ codes-remove c.self.inside.requests.items c.args.place ∙ ap codes_of (sym c.remove-request.ensures.items);
+      codes_room = omega (arith, longer, c.self.invariant.codes_room, c.remove-request.new.self.ok.0, requests.ok.0);
       list_room = omega (arith, longer, c.self.invariant.list_room, c.remove-request.new.self.ok.0, requests.ok.0);
       log_room = omega (arith, longer, c.self.invariant.log_room, c.remove-request.new.self.ok.0, requests.ok.0);
     }

@@ -1,7 +1,9 @@
 use Rattle.std.proofs.Common.{subst, arith}
 use Rattle.tc_pending.specs.Changes.{saved_at}
-use Rattle.tc_pending.specs.Waiting.{IsUndone}
-use Rattle.tc_pending.proofs.Log.{waiting, IsLog-undone, waiting-undone}
+use Rattle.tc_lists.specs.Marks.{IsBack}
+use Rattle.tc_pending.specs.Waiting.{Waiting}
+use Rattle.tc_pending.proofs.Log.{IsLog-undone, waiting-undone}
+use Rattle.tc_pending.proofs.Coded.{length-codes}
 use Rattle.tc_pending.proofs.pending.Pending.undo.Goals as goal
 
 pub invariant_of-self : goal.invariant_of-self
@@ -11,7 +13,16 @@ invariant_of-self c =
       log = IsLog-undone c.self.inside.requests.items c.self.inside.changes.items c.self.inside.marks.items c.pop.new.self.items
           c.in-Some.count c.self.invariant.log c.in-Some.ensures.items c.go_back.new.requests.items c.go_back.new.changes.items
           c.go_back.ensures.requests c.go_back.ensures.changes;
+      coded = c.go_back.ensures.codes;
       list_room = omega arith;
+      codes_room = omega (
+        arith,
+        length-codes c.go_back.new.requests.items c.go_back.new.codes.items c.go_back.ensures.codes,
+        length-codes c.self.inside.requests.items c.self.inside.request_codes.items c.self.invariant.coded,
+        fewer,
+        c.go_back.ensures.codes_capacity,
+        c.self.invariant.codes_room,
+      );
       log_room = omega arith;
     }
 
@@ -19,7 +30,7 @@ pub returns-in-Some-clause-back : goal.returns-in-Some-clause-back
 returns-in-Some-clause-back c =
     let requests = c.go_back.new.requests.items in
     let changes = c.go_back.new.changes.items in
-    subst (λ old. IsUndone old (waiting requests (saved_at c.pop.new.self.items changes requests))) c.self.view_is
+    subst (λ (old : Waiting). IsBack old.saved requests (saved_at c.pop.new.self.items changes requests)) c.self.view_is
     (waiting-undone c.self.inside.requests.items c.self.inside.changes.items c.self.inside.marks.items c.pop.new.self.items
     c.in-Some.count c.self.invariant.log c.in-Some.ensures.items requests changes
     c.go_back.ensures.requests c.go_back.ensures.changes)

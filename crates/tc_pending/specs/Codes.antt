@@ -1,0 +1,43 @@
+-- Codes of terms, by which most requests that don't ask for a tuple are passed over.
+use Rattle.std.specs.Prelude.{◌≡◌, ℕ, ◌+◌, ◌*◌, ◌%◌, ◌⊎◌, List, [], ◌∷◌, map, unsigned_abs}
+use Rattle.tc_term.specs.Tree.{Tree, Variable, Atomic, Number, Compound}
+use Rattle.tc_bag.specs.Keys.{arity, first_of}
+use Rattle.tc_model.specs.declared.calls.Request.{Request}
+
+-- two codes in one, from 1 on
+abbrev pub joined : ℕ → ℕ → ℕ
+joined a b = (a * 31 + b % 2147483647) % 2147483647 + 1
+
+-- a code joined with each of some numbers in turn
+abbrev pub joined_all : ℕ → List ℕ → ℕ
+joined_all a [] = a
+joined_all a (b ∷ bs) = joined_all (joined a b) bs
+
+-- the code of a term without its arguments; 0 of a variable
+abbrev pub top_code : Tree → ℕ
+top_code (Variable n) = 0
+top_code (Atomic name) = joined_all 1 name
+top_code (Number n) = joined 2 (unsigned_abs n)
+top_code (Compound name args) = joined (joined_all 3 name) (arity args)
+
+-- a code with that of a first argument, where this is no variable
+abbrev pub with_first : ℕ → Tree → ℕ
+with_first top (Variable n) = top
+with_first top (Atomic name) = joined top (top_code (Atomic name))
+with_first top (Number n) = joined top (top_code (Number n))
+with_first top (Compound name args) = joined top (top_code (Compound name args))
+
+-- the code of a term with its first argument
+abbrev pub code_of : Tree → ℕ
+code_of (Variable n) = 0
+code_of (Atomic name) = top_code (Atomic name)
+code_of (Number n) = top_code (Number n)
+code_of (Compound name args) = with_first (top_code (Compound name args)) (first_of args)
+
+-- a template of this code may match the tuple
+abbrev pub MayMatch : ℕ → Tree → Type 0
+MayMatch code tuple = (code ≡ 0) ⊎ (code ≡ top_code tuple) ⊎ (code ≡ code_of tuple)
+
+-- the codes of requests
+abbrev pub codes_of : List Request → List ℕ
+codes_of requests = map (λ r. code_of r.template) requests
