@@ -1,0 +1,109 @@
+#!/usr/bin/env python3
+"""What the gate costs, crate by crate: processor seconds of proof, of tests and of must-fail edits.
+
+bench/gate.py           runs `rt ci --anew` at the top of the repository, and prints the table of docs/GATE.md
+bench/gate.py NAME ..   the same of these crates and those below them
+
+What `rt ci` says goes to standard error. Every prover that it starts is looked at twice a second, so times
+are exact to a second for each start of a prover.
+"""
+import os
+import pathlib
+import re
+import subprocess
+import sys
+import time
+
+TOP = pathlib.Path(__file__).resolve().parent.parent
+COMMAND = ["rt", "ci", "--anew"]
+KINDS = ("proof", "tests", "edits")
+TICKS = os.sysconf("SC_CLK_TCK")
+
+
+def processes():
+    """Each process: its parent, and the processor time that it has used, in seconds."""
+    found = {}
+    for entry in os.listdir("/proc"):
+        if not entry.isdigit():
+            continue
+        try:
+            fields = pathlib.Path(f"/proc/{entry}/stat").read_text().rpartition(")")[2].split()
+        except OSError:
+            continue
+        found[int(entry)] = int(fields[1]), (int(fields[11]) + int(fields[12])) / TICKS
+    return found
+
+
+def work_of(process):
+    """The crate and the kind of work of a prover, or None for any other process."""
+    try:
+        words = pathlib.Path(f"/proc/{process}/cmdline").read_bytes().decode(errors="replace").split("\0")
+        folder = os.readlink(f"/proc/{process}/cwd")
+    except OSError:
+        return None
+    if "--crate-name" not in words:
+        return None
+    crate = words[words.index("--crate-name") + 1]
+    if "/rt-edit-" in folder:
+        return crate, "edits"
+    return crate, "tests" if "--test" in words else "proof"
+
+
+def add_sample(root, kinds, used):
+    """Notes what the provers below this process have used so far."""
+    alive = processes()
+    for process, (parent, seconds) in alive.items():
+        above = process
+        while above in alive and above != root:
+            above = alive[above][0]
+        if above != root:
+            continue
+        if process not in kinds:
+            kinds[process] = work_of(process) or kinds.get(parent)
+        if kinds[process]:
+            used[process] = kinds[process], seconds
+
+
+def crates_in_order():
+    lines = (TOP / "crates.txt").read_text().splitlines()
+    return [re.match(r"\w+", line).group() for line in lines if re.match(r"\w", line)]
+
+
+def counts_of(crate):
+    sources = "".join(path.read_text() for path in (TOP / "crates" / crate).glob("src/**/*.rt"))
+    edits = list((TOP / "crates" / crate / "must-fail").glob("*.edit"))
+    return sources.count("#[test]"), len(edits)
+
+
+def print_table(seconds, wall):
+    print("| crate | proof, s | tests, s | their number | edits, s | their number | whole, s |")
+    print("|---|---|---|---|---|---|---|")
+    sums = dict.fromkeys(KINDS, 0)
+    for crate in crates_in_order():
+        spent = [seconds.get((crate, kind), 0) for kind in KINDS]
+        if not any(spent):
+            continue
+        tests, edits = counts_of(crate)
+        print(f"| {crate} | {spent[0]:.0f} | {spent[1]:.0f} | {tests} | {spent[2]:.0f} | {edits} | {sum(spent):.0f} |")
+        for kind, spent_on in zip(KINDS, spent):
+            sums[kind] += spent_on
+    print(f"| all | {sums['proof']:.0f} | {sums['tests']:.0f} | | {sums['edits']:.0f} | | {sum(sums.values()):.0f} |")
+    print(f"\nWall time {wall / 60:.1f} minutes on {os.cpu_count()} processors.")
+
+
+def main():
+    began = time.monotonic()
+    run = subprocess.Popen([*COMMAND, *sys.argv[1:]], cwd=TOP, stdin=subprocess.DEVNULL, stdout=sys.stderr)
+    kinds, used = {}, {}
+    while run.poll() is None:
+        add_sample(run.pid, kinds, used)
+        time.sleep(0.5)
+    seconds = {}
+    for work, spent in used.values():
+        seconds[work] = seconds.get(work, 0) + spent
+    print_table(seconds, time.monotonic() - began)
+    sys.exit(run.returncode)
+
+
+if __name__ == "__main__":
+    main()
