@@ -82,7 +82,8 @@ nil budget rest = leaf (paid 2 budget) (Atomic (codes "[]")) rest
 
 -- an atom that isn't the empty list
 abbrev pub atom : List ℕ → Budget → List ℕ → Read Tree
-atom name budget rest = if is_nil name then None else leaf (paid (length name) budget) (Atomic name) rest
+atom name budget rest = if is_nil name then None
+    else leaf (paid (length name) budget) (Atomic name) rest
 
 -- a compound that isn't a list cell
 abbrev pub compound : List ℕ → Read Trees → Read Tree
@@ -126,8 +127,8 @@ barred (Some (t, left, b ∷ s)) = if b == 93 && is_barred t then Some (t, left,
 module _ (below : Place → Budget → List ℕ → Read Tree) where
   -- a compound behind its name and the opening bracket
   abbrev pub called : List ℕ → Budget → List ℕ → Read Tree
-  called name budget bytes = compound name
-      (then_in (paid (length name) budget) (λ left. arguments (below Alone) left.room.nodes left bytes))
+  called name budget bytes = compound name (then_in (paid (length name) budget)
+      (λ left. arguments (below Alone) left.room.nodes left bytes))
 
   -- behind a name
   abbrev pub named : Budget → List ℕ → List ℕ → Read Tree
@@ -140,7 +141,8 @@ module _ (below : Place → Budget → List ℕ → Read Tree) where
 
   -- a list cell, from its head on
   abbrev pub element : Budget → List ℕ → Read Tree
-  element budget bytes = then_in (paid 1 budget) (λ left. cell (below Behind) (below Alone left bytes))
+  element budget bytes =
+      then_in (paid 1 budget) (λ left. cell (below Behind) (below Alone left bytes))
 
   -- a list behind its opening bracket
   abbrev pub list : Budget → List ℕ → Read Tree
@@ -158,7 +160,8 @@ module _ (below : Place → Budget → List ℕ → Read Tree) where
   abbrev pub tail : Budget → List ℕ → Read Tree
   tail budget [] = None
   tail budget (b ∷ s) = if b == 93 then nil budget s
-      else (if b == 44 then element budget s else (if b == 124 then barred (node budget s) else None))
+      else (if b == 44 then element budget s
+      else (if b == 124 then barred (node budget s) else None))
 
 -- a term of at most this depth, in its place
 abbrev pub reads : ℕ → Place → Budget → List ℕ → Read Tree

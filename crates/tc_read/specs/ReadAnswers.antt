@@ -26,7 +26,8 @@ IsTermAnswer P behind (Err fault) = IsFault P fault
 
 -- the term that is found with the place behind it, that nothing is left, or the fault, is this
 -- answer
-abbrev pub IsClauseAnswer : (faults.Answer → Type 0) → Result (Option (Pattern × ℕ)) ReadFault → Type 0
+abbrev pub IsClauseAnswer :
+    (faults.Answer → Type 0) → Result (Option (Pattern × ℕ)) ReadFault → Type 0
 IsClauseAnswer P (Ok None) = P faults.Nothing
 IsClauseAnswer P (Ok (Some found)) = P (faults.Found found.0 found.1)
 IsClauseAnswer P (Err fault) = IsFault P fault

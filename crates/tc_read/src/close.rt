@@ -84,7 +84,8 @@ fn close_between<'a>(
     tokens: Tokens<'a>,
 ) -> Move<'a>
     ensures { IfOk result
-        (λ r. IsMove (close_in (Frame.Between operator) stack.old (map token_view tokens.now)) stack.new r) }
+        (λ r. IsMove (close_in (Frame.Between operator) stack.old (map token_view tokens.now))
+        stack.new r) }
 {
     let right = stack.pop_item();
     let left = stack.pop_item();
@@ -125,7 +126,8 @@ fn close_argument<'a>(
     tokens: Tokens<'a>,
 ) -> Move<'a>
     ensures { IfOk result
-        (λ r. IsMove (close_in (Frame.Args name count) stack.old (map token_view tokens.now)) stack.new r) }
+        (λ r. IsMove (close_in (Frame.Args name count) stack.old (map token_view tokens.now))
+        stack.new r) }
 {
     match delimited(tokens) {
         Some((Delimiter::Close, rest)) => {
@@ -142,7 +144,8 @@ fn close_argument<'a>(
 /// The closing of a list, its tail, or its next element.
 fn close_element<'a>(alloc: Global, stack: &mut Stack, count: usize, tokens: Tokens<'a>) -> Move<'a>
     ensures { IfOk result
-        (λ r. IsMove (close_in (Frame.Elements count) stack.old (map token_view tokens.now)) stack.new r) }
+        (λ r. IsMove (close_in (Frame.Elements count) stack.old (map token_view tokens.now))
+        stack.new r) }
 {
     match delimited(tokens) {
         Some((Delimiter::CloseList, rest)) => {
@@ -160,7 +163,8 @@ fn close_element<'a>(alloc: Global, stack: &mut Stack, count: usize, tokens: Tok
 /// The closing of a list behind its tail.
 fn close_tail<'a>(alloc: Global, stack: &mut Stack, count: usize, tokens: Tokens<'a>) -> Move<'a>
     ensures { IfOk result
-        (λ r. IsMove (close_in (Frame.Tail count) stack.old (map token_view tokens.now)) stack.new r) }
+        (λ r. IsMove (close_in (Frame.Tail count) stack.old (map token_view tokens.now))
+        stack.new r) }
 {
     match delimited(tokens) {
         Some((Delimiter::CloseList, rest)) => {
