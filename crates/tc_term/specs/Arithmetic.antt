@@ -20,7 +20,8 @@ modulo x y =
     if int_lt (pos 0) y then int_rem_euclid x y
     else neg_ℤ (int_rem_euclid (neg_ℤ x) (neg_ℤ y))
 
--- what an operator makes of two numbers: `//` truncates toward zero, and nothing comes of a zero divisor
+-- what an operator makes of two numbers: `//` truncates toward zero, and nothing comes of a zero
+-- divisor
 abbrev pub of_two : List ℕ → ℤ → ℤ → Option ℤ
 of_two name x y =
     if bytes_eq name (codes "+") then in_range (x +ℤ y)
@@ -35,7 +36,8 @@ of_two name x y =
 abbrev pub of_one : List ℕ → ℤ → Option ℤ
 of_one name x = if bytes_eq name (codes "-") then in_range (neg_ℤ x) else None
 
--- the number to which a term evaluates; none where it has another part, or a part that is out of range
+-- the number to which a term evaluates; none where it has another part, or a part that is out of
+-- range
 abbrev pub evaluated : Tree → Option ℤ
 evaluated (Number n) = in_range n
 evaluated (Compound name (Last t)) = option_and_then (of_one name) (evaluated t)

@@ -1,4 +1,5 @@
--- What the reader answers: the term that the tokens are, or the first fault by the order of the rules.
+-- What the reader answers: the term that the tokens are, or the first fault by the order of the
+-- rules.
 use Rattle.std.specs.Prelude.{◌≡◌, ℕ, ◌+◌, ◌-◌, ◌^◌, ◌⊎◌, max, Bool, true, false, if◌then◌else◌, nat_lt, nat_le, List, [], ◌∷◌, ◌++◌, length, Option, Some, None, MatchOption, position, codes, bytes_eq, ℤ, pos, neg_ℤ}
 use Rattle.tc_term.specs.Limits.{most_variables, most_brackets}
 use Rattle.tc_term.specs.Tree.{Tree, Trees, Last, More, Atomic, Compound, Fits}
@@ -8,8 +9,9 @@ use Rattle.tc_term.specs.Layouts.{At, Stop, TextEnd, ClauseEnd, NoToken, Scan}
 use Rattle.tc_term.specs.Grammar as grammar
 use Rattle.tc_term.specs.Grammar.{Token, Meaning, IsTerm}
 
--- Variables are numbered by first appearance. Known are the variables so far: the names, and an empty list for each _
--- alone, which is new each time. Beyond the 257th none is told apart any more, since more than 256 are refused.
+-- Variables are numbered by first appearance. Known are the variables so far: the names, and an
+-- empty list for each _ alone, which is new each time. Beyond the 257th none is told apart any
+-- more, since more than 256 are refused.
 
 -- the known variables and one more
 abbrev pub learned : List (List ℕ) → List ℕ → List (List ℕ)
@@ -88,7 +90,8 @@ abbrev pub first_wide : List At → Option ℕ
 first_wide [] = None
 first_wide (t ∷ ts) = or_else (wide_at t.place t.lexeme) (first_wide ts)
 
--- how many brackets are open behind a token, where n are open before it: each closing one closes the last of either kind
+-- how many brackets are open behind a token, where n are open before it: each closing one closes
+-- the last of either kind
 abbrev pub open_behind : ℕ → Lexeme → ℕ
 open_behind n (Punctuation Open) = n + 1
 open_behind n (Punctuation OpenList) = n + 1
@@ -101,8 +104,8 @@ abbrev pub most_open : ℕ → List At → ℕ
 most_open n [] = n
 most_open n (t ∷ ts) = max n (most_open (open_behind n t.lexeme) ts)
 
--- The meaning of a term: its tree, and the place of its first integer that is no 64-bit number, as 9223372036854775808
--- is where no - directly precedes it.
+-- The meaning of a term: its tree, and the place of its first integer that is no 64-bit number, as
+-- 9223372036854775808 is where no - directly precedes it.
 
 -- what a term is read as
 pub record Reading : Type 0 where
@@ -149,8 +152,8 @@ reading = record {
   };
 }
 
--- What is answered: that nothing but layout is left; a fault with its place; or the term and the place behind it, with
--- its end token.
+-- What is answered: that nothing but layout is left; a fault with its place; or the term and the
+-- place behind it, with its end token.
 pub data Answer : Type 0 where
   Nothing : Answer
   Syntax : ℕ → Answer

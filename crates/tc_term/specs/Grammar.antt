@@ -1,8 +1,9 @@
 use Rattle.std.specs.Prelude.{◌≡◌, ℕ, ◌-◌, ◌≤◌, Bool, true, false, if◌then◌else◌, List, [], ◌∷◌, Option, Some, None, codes, bytes_eq}
 use Rattle.tc_term.specs.Tokens.{Sign, EqColonEq, EqBackEq, EqLess, GreaterEq, BackEq, SlashSlash, Equal, Less, Greater, Plus, Minus, Star, Ask, sign_bytes}
 
--- A token as the grammar sees it. A variable has its number. An integer has its value and its place. A name is plain
--- or quoted. An integer and a round bracket tell whether they directly follow the token before.
+-- A token as the grammar sees it. A variable has its number. An integer has its value and its
+-- place. A name is plain or quoted. An integer and a round bracket tell whether they directly
+-- follow the token before.
 pub data Token : Type 0 where
   Variable : ℕ → Token
   Integer : Bool → ℕ → ℕ → Token
@@ -74,8 +75,8 @@ abbrev pub NotNumber : List Token → Type 0
 NotNumber (Integer true value place ∷ ts) = ⊥
 NotNumber _ = Unit {0}
 
--- What the forms of terms mean: a variable by its number; a number by its sign, its size and its place; an atom; and a
--- compound by its name, its first argument and the others.
+-- What the forms of terms mean: a variable by its number; a number by its sign, its size and its
+-- place; an atom; and a compound by its name, its first argument and the others.
 pub record Meaning (A : Type 0) : Type 0 where
   pub variable : ℕ → A
   pub number : Bool → ℕ → ℕ → A
@@ -100,7 +101,8 @@ module _ {A : Type 0} (m : Meaning A) where
   between op a b = m.compound op.name a (b ∷ [])
 
   mutual
-    -- Derives m p ts a rest: the tokens ts begin with a term of priority at most p that means a; rest stands behind it.
+    -- Derives m p ts a rest: the tokens ts begin with a term of priority at most p that means a;
+    -- rest stands behind it.
     pub data Derives : ℕ → List Token → A → List Token → Type 0 where
       operand : {p : ℕ} {ts rest : List Token} {a : A} → Operand ts a rest → Derives p ts a rest
       prefix : {p : ℕ} {ts rest : List Token} {a : A} → 200 ≤ p → NotCalled ts → NotNumber ts

@@ -23,7 +23,7 @@ pub data ToBlockEnd : List ℕ → List ℕ → Type 0 where
   in_block : {b : ℕ} {s rest : List ℕ} → (ClosesBlock (b ∷ s) → ⊥) → ToBlockEnd s rest
       → ToBlockEnd (b ∷ s) rest
 
--- a piece of layout: a blank, a comment from % to the end of the line, or one from /* to the next */
+-- a piece of layout: a blank, a comment from % to the end of the line, or one from /* to */
 pub data Piece : List ℕ → List ℕ → Type 0 where
   blank : {b : ℕ} {rest : List ℕ} → is_blank b ≡ true → Piece (b ∷ rest) rest
   line : {s rest : List ℕ} → ToLineEnd s rest → Piece (37 ∷ s) rest
@@ -48,14 +48,15 @@ pub record At : Type 0 where
   pub place : ℕ
   pub glued : Bool
 
--- what ends the tokens: the end of the text, the . that ends a clause, or the place where no token begins
+-- what ends the tokens: the end of the text, the . that ends a clause, or the place where no token
+-- begins
 pub data Stop : Type 0 where
   TextEnd : Stop
   ClauseEnd : ℕ → Stop
   NoToken : ℕ → Stop
 
--- Scan clauses size s ts stop: the bytes s, at the end of a text of this size, are the tokens ts up to this end. A .
--- ends them only where clauses are read.
+-- Scan clauses size s ts stop: the bytes s, at the end of a text of this size, are the tokens ts up
+-- to this end. A . ends them only where clauses are read.
 pub data Scan (clauses : Bool) (size : ℕ) : List ℕ → List At → Stop → Type 0 where
   at_text_end : {s : List ℕ} → Layout s [] → Scan clauses size s [] TextEnd
   at_clause_end : {s after : List ℕ} → clauses ≡ true → Layout s (46 ∷ after) → IsBehindEnd after

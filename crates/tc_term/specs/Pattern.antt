@@ -12,4 +12,5 @@ use Rattle.tc_term.specs.declared.terms.Term.{Term}
 -- the term, given back, is too big, or it fits and has too many variables
 abbrev pub HasExcess : Term → NotPattern → Type 0
 HasExcess t (TooBig u) = (u ≡ t) × (IsWithin (tree_of t) most_depth whole → ⊥)
-HasExcess t (TooMany u) = (u ≡ t) × Fits (tree_of t) × (most_variables < length (variables (tree_of t)))
+HasExcess t (TooMany u) =
+    (u ≡ t) × Fits (tree_of t) × (most_variables < length (variables (tree_of t)))

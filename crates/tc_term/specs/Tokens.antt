@@ -6,7 +6,8 @@ use Rattle.tc_term.specs.Bytes.{is_word, is_name_start, is_variable_start}
 
 -- the symbols, longer ones first
 pub data Sign : Type 0 where
-  EqColonEq EqBackEq EqLess GreaterEq BackEq SlashSlash Equal Less Greater Plus Minus Star Ask : Sign
+  EqColonEq EqBackEq EqLess GreaterEq BackEq SlashSlash : Sign
+  Equal Less Greater Plus Minus Star Ask : Sign
 
 -- the bytes of a symbol
 abbrev pub sign_bytes : Sign → List ℕ
@@ -37,7 +38,8 @@ mark_byte CloseList = 93
 mark_byte Comma = 44
 mark_byte Bar = 124
 
--- a token: a name, a variable, an integer, a quoted name with the bytes that it stands for, a symbol or a mark
+-- a token: a name, a variable, an integer, a quoted name with the bytes that it stands for, a symbol
+-- or a mark
 pub data Lexeme : Type 0 where
   Word : List ℕ → Lexeme
   Variable : List ℕ → Lexeme
@@ -52,7 +54,8 @@ escape b = if b == 39 then Some 39
     else (if b == 92 then Some 92
     else (if b == 110 then Some 10 else (if b == 116 then Some 9 else None)))
 
--- Inside s m: the bytes s, behind an opening quote, up to and with the closing one, stand for the bytes m.
+-- Inside s m: the bytes s, behind an opening quote, up to and with the closing one, stand for the
+-- bytes m.
 pub data Inside : List ℕ → List ℕ → Type 0 where
   closed : Inside (39 ∷ []) []
   doubled : {s m : List ℕ} → Inside s m → Inside (39 ∷ 39 ∷ s) (39 ∷ m)

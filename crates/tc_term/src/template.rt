@@ -45,7 +45,8 @@ impl Model for Pattern {
 
     ghost view = { λ p. tree_of p.term };
 
-    ghost invariant = { λ p. IsPattern (tree_of p.term) × (p.vars ≡ length (variables (tree_of p.term))) };
+    ghost invariant = { λ p. IsPattern (tree_of p.term)
+        × (p.vars ≡ length (variables (tree_of p.term))) };
 }
 
 impl Pattern {
