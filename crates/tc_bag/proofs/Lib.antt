@@ -1,8 +1,10 @@
 pub mod Agreement
 pub mod Firsts
 pub mod Ages
-pub mod Kept
+pub mod Pairs
+pub mod Entries
+pub mod Searching
+pub mod Logged
 pub mod Marks
 pub mod Stocks
-pub mod Oldest
-pub mod Sound
+pub mod Walks

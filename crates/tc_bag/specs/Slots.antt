@@ -1,11 +1,20 @@
 -- How a bag keeps its rows: each in a slot, which stays while a mark may bring its row back.
-use Rattle.std.specs.Prelude.{◌≡◌, ℕ, ◌+◌, ◌<◌, ◌≤◌, ◌==◌, ◌&&◌, ◌||◌, nat_lt, min, Bool, IsTrue, if◌then◌else◌, List, [], ◌∷◌, ◌++◌, length, map, filter, All, Option}
+use Rattle.std.specs.Prelude.{◌≡◌, ℕ, ◌+◌, ◌-◌, ◌<◌, ◌≤◌, ◌==◌, ◌&&◌, ◌||◌, not, nat_lt, Bool, IsTrue, if◌then◌else◌, List, [], ◌∷◌, ◌++◌, length, map, filter, slice_get, All, Option, Some, None}
 use Rattle.tc_term.specs.Tree.{Tree, IsTuple}
 use Rattle.tc_bag.specs.declared.key.Key.{Key}
-use Rattle.tc_bag.specs.declared.slots.Slot.{Slot}
 use Rattle.tc_bag.specs.declared.slots.Mark.{Mark}
 use Rattle.tc_bag.specs.Keys.{IsLike}
-use Rattle.tc_bag.specs.Stock.{Row, Saved, Stock}
+use Rattle.tc_bag.specs.Stock.{Row, Saved, Stock, tuples_of}
+
+-- a row in its slot: it is there where taken is 0, else it was so manieth to be taken
+pub record Slot : Type 0 where
+  pub age : ℕ
+  pub tuple : Tree
+  pub taken : ℕ
+
+-- the slot of a new row
+abbrev pub slot : ℕ → Tree → Slot
+slot age tuple = record { age = age; tuple = tuple; taken = 0 }
 
 -- the row in a slot
 abbrev pub row_of : Slot → Row
@@ -19,9 +28,9 @@ is_there s = s.taken == 0
 abbrev pub is_older : ℕ → Slot → Bool
 is_older next s = nat_lt s.age next
 
--- whether the row was there at a mark that so many others came before, when this was the next age
+-- whether the row was there at a mark, when so many were taken and this was the next age
 abbrev pub was_there : ℕ → ℕ → Slot → Bool
-was_there depth next s = is_older next s && (is_there s || nat_lt depth s.taken)
+was_there count next s = is_older next s && (is_there s || nat_lt count s.taken)
 
 -- the rows that are there
 abbrev pub rows_now : List Slot → List Row
@@ -29,20 +38,18 @@ rows_now slots = map row_of (filter is_there slots)
 
 -- the rows that were there at a mark
 abbrev pub rows_then : ℕ → ℕ → List Slot → List Row
-rows_then depth next slots = map row_of (filter (was_there depth next) slots)
+rows_then count next slots = map row_of (filter (was_there count next) slots)
 
--- what there was at each of these marks, which so many others came before
-abbrev pub saved_at : ℕ → List ℕ → List Slot → List Saved
-saved_at depth [] slots = []
-saved_at depth (next ∷ marks) slots =
-    record { rows = rows_then depth next slots; next = next } ∷ saved_at (depth + 1) marks slots
+-- what there was at a mark
+abbrev pub saved_at : List Slot → Mark → Saved
+saved_at slots m = record { rows = rows_then m.taken m.next slots; next = m.next }
 
 -- the bag of these slots
-abbrev pub stock_of : List Slot → ℕ → List ℕ → Stock
+abbrev pub stock_of : List Slot → ℕ → List Mark → Stock
 stock_of slots next marks = record {
   now = rows_now slots;
   next = next;
-  saved = saved_at 0 marks slots;
+  saved = map (saved_at slots) marks;
 }
 
 -- ages rise
@@ -55,61 +62,71 @@ abbrev pub Climbs : List ℕ → ℕ → Type 0
 Climbs [] next = Unit {0}
 Climbs (m ∷ ms) next = (m ≤ next) × All (λ k. m ≤ k) ms × Climbs ms next
 
--- each slot has a tuple, ages rise and are below the next, marks don't fall, and no row was taken
--- after more marks than there are
-pub record IsBag (slots : List Slot) (next : ℕ) (marks : List ℕ) : Type 0 where
+-- where the row was taken, its age stands at that place of the list
+abbrev pub IsLogged : List ℕ → Slot → Type 0
+IsLogged log s = 0 < s.taken → slice_get log (s.taken - 1) ≡ Some s.age
+
+-- no row was taken before the first mark
+abbrev pub StartsEmpty : List Mark → Type 0
+StartsEmpty [] = Unit {0}
+StartsEmpty (m ∷ ms) = m.taken ≡ 0
+
+-- what a bag keeps: each slot has a tuple, ages rise and are below the next, neither ages nor
+-- counts fall from mark to mark, and the list has the ages of the rows that were taken while a mark
+-- stood, with room for those that are there
+pub record IsSound (slots : List Slot) (next : ℕ) (log : List ℕ) (room : ℕ) (marks : List Mark) : Type 0 where
   pub tuples : All (λ s. IsTuple s.tuple) slots
   pub order : InOrder slots
   pub below : All (λ s. s.age < next) slots
-  pub climbs : Climbs marks next
-  pub taken : All (λ s. s.taken ≤ length marks) slots
+  pub climbs : Climbs (map (λ m. m.next) marks) next
+  pub counts : Climbs (map (λ m. m.taken) marks) (length log)
+  pub logged : All (IsLogged log) slots
+  pub unmarked : marks ≡ [] → log ≡ []
+  pub starts : StartsEmpty marks
+  pub fits : length log + length (filter is_there slots) ≤ room
 
--- the ages that were the next at the marks
-abbrev pub nexts : List Mark → List ℕ
-nexts marks = map (λ m. m.next) marks
+-- the row is there, not older than this age, its tuple agrees with the key and has this first
+-- argument, where one is given
+abbrev pub IsThereLike : Key → Option Tree → ℕ → Slot → Type 0
+IsThereLike key first from s = IsTrue (is_there s) × (from ≤ s.age) × IsLike key first s.tuple
 
--- no row that was taken after so many marks is older than this age
-abbrev pub IsBound : ℕ → ℕ → List Slot → Type 0
-IsBound depth age slots = All (λ s. s.taken ≡ depth → age ≤ s.age) slots
-
--- what these marks know, which so many others came before: how far back rows were taken
-abbrev pub KnowsOldest : ℕ → List Slot → List Mark → Type 0
-KnowsOldest depth slots [] = Unit {0}
-KnowsOldest depth slots (m ∷ ms) = IsBound (depth + 1) m.oldest slots × KnowsOldest (depth + 1) slots ms
-
--- what a bag keeps
-pub record IsSound (slots : List Slot) (next : ℕ) (marks : List Mark) : Type 0 where
-  pub bag : IsBag slots next (nexts marks)
-  pub knows : KnowsOldest 0 slots marks
-
--- the latest mark, where there is one, knows besides that a row of this age was taken
-pub record IsNoted (age : ℕ) (old new : List Mark) : Type 0 where
-  pub none : old ≡ [] → new ≡ []
-  pub last : (before : List Mark) (top : Mark) → old ≡ before ++ top ∷ []
-      → new ≡ before ++ record top { oldest = min top.oldest age } ∷ []
-
--- the row is there, its tuple agrees with the key and has this first argument, where one is given
-abbrev pub IsThereLike : Key → Option Tree → Slot → Type 0
-IsThereLike key first s = IsTrue (is_there s) × IsLike key first s.tuple
-
--- the row of this age stands at this place, and is there
-pub record IsPlaceOf (age : ℕ) (slots : List Slot) (place : ℕ) : Type 0 where
+-- the last slot has this age
+pub record IsYoungest (slots : List Slot) (age : ℕ) : Type 0 where
   pub before : List Slot
-  pub slot : Slot
-  pub behind : List Slot
-  pub split : slots ≡ before ++ slot ∷ behind
-  pub stands : length before ≡ place
-  pub same : slot.age ≡ age
-  pub there : IsTrue (is_there slot)
+  pub last : Slot
+  pub split : slots ≡ before ++ last ∷ []
+  pub same : last.age ≡ age
 
--- a slot and those behind it, once its row is taken after so many marks: without a mark it goes
-abbrev pub taken_from : ℕ → Slot → List Slot → List Slot
-taken_from depth s behind = if depth == 0 then behind else record s { taken = depth } ∷ behind
+-- whether the row has another age
+abbrev pub is_not_of : ℕ → Slot → Bool
+is_not_of age s = not (s.age == age)
 
--- the slot, as if its row was taken after so many marks in place of so many
-abbrev pub retaken : ℕ → ℕ → Slot → Slot
-retaken from to s = record s { taken = if s.taken == from then to else s.taken }
-
--- whether the row is there, or a mark may bring it back once the last of so many marks is gone
+-- whether the row is there or has another age
 abbrev pub stays : ℕ → Slot → Bool
-stays depth s = is_there s || nat_lt 1 depth
+stays age s = is_there s || is_not_of age s
+
+-- the slot, as if its row was the nth to be taken, where it has this age and is there
+abbrev pub taken_at : ℕ → ℕ → Slot → Slot
+taken_at age n s = record s { taken = if (s.age == age) && is_there s then n else s.taken }
+
+-- the slot, as if its row was there again, where it has this age and was taken after so many
+abbrev pub revived_at : ℕ → ℕ → Slot → Slot
+revived_at age n s = record s { taken = if (s.age == age) && nat_lt n s.taken then 0 else s.taken }
+
+-- the slot, as if its row was the nth to be taken, where it has this age
+abbrev pub with_taken : ℕ → ℕ → Slot → Slot
+with_taken age n s = record s { taken = if s.age == age then n else s.taken }
+
+-- the slot, as if its row was there again, where it was taken after so many
+abbrev pub revived : ℕ → Slot → Slot
+revived n s = record s { taken = if nat_lt n s.taken then 0 else s.taken }
+
+-- the tuple of the first row of this age, where it is there
+abbrev pub tuple_there : ℕ → List Slot → Option Tree
+tuple_there age [] = None
+tuple_there age (s ∷ ss) =
+    if s.age == age then (if is_there s then Some s.tuple else None) else tuple_there age ss
+
+-- the tuples whose rows are there
+abbrev pub tuples_there : List Slot → List Tree
+tuples_there slots = tuples_of (rows_now slots)

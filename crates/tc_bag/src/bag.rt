@@ -1,7 +1,8 @@
 //! The bag.
 use crate::key::Key;
-use crate::rows::{count, first_like, go_back, note, nth, place_from, place_of, settle, take_at};
-use crate::slots::{Mark, Slot};
+use crate::log::{discard, unwind};
+use crate::rows::Rows;
+use crate::slots::Mark;
 use std::alloc::Global;
 use std::marker::Model;
 use tc_lists::NoMemory;
@@ -19,8 +20,9 @@ pub enum PutFault {
 /// A mark copies nothing: a row that is taken after it stays where it was, and is passed over.
 #[derive(Drop)]
 pub struct Bag {
-    slots: Vec<Slot>,
+    rows: Rows,
     next: u64,
+    log: Vec<u64>,
     marks: Vec<Mark>,
 }
 
@@ -33,11 +35,12 @@ impl Model for Bag {
 
     ghost coded = { Prim.hlevel (codes, coded_tree) };
 
-    ghost use Rattle.tc_bag.specs.Slots.{stock_of, nexts, IsSound};
+    ghost use Rattle.std.specs.Prelude.{vec_capacity};
+    ghost use Rattle.tc_bag.specs.Slots.{stock_of, IsSound};
 
-    ghost view = { λ b. stock_of b.slots.items b.next (nexts b.marks.items) };
+    ghost view = { λ b. stock_of b.rows b.next b.marks.items };
 
-    ghost invariant = { λ b. IsSound b.slots.items b.next b.marks.items };
+    ghost invariant = { λ b. IsSound b.rows b.next b.log.items (vec_capacity b.log) b.marks.items };
 }
 
 impl Bag {
@@ -53,8 +56,9 @@ impl Bag {
         ensures { result ≡ record { now = []; next = 0; saved = [] } }
     {
         Bag {
-            slots: Vec::new(alloc),
+            rows: Rows::new(alloc),
             next: 0,
+            log: Vec::new(alloc),
             marks: Vec::new(alloc),
         }
     }
@@ -99,9 +103,7 @@ impl Bag {
     {
         // Reading it tells that it is a number of 64 bits.
         let _next = self.next;
-        let start = place_from(&self.slots, from);
-        let slot = first_like(&self.slots[start..], key, first)?;
-        Some((slot.age, &slot.tuple))
+        self.rows.first_like(key, first, from)
     }
 
     /// The age that the next tuple that is put will have, above those of all that are there.
@@ -111,27 +113,30 @@ impl Bag {
         self.next
     }
 
-    /// The tuple of this age, where it is there. Takes O(log rows) time.
+    /// The tuple of this age, where it is there. Takes O(log tuples) time.
     pub fn get(&self, age: u64) -> Option<&Ground>
         ensures { option_copied result ≡ tuple_at age self.now.now }
     {
-        let place = place_of(&self.slots, age)?;
-        Some(&self.slots[place].tuple)
+        self.rows.get(age)
     }
 
     /// How many tuples are there. Takes O(1) time where there is no mark, else O(rows).
     pub fn len(&self) -> usize
         ensures { result ≡ length self.now.now }
     {
-        count(&self.slots, self.marks.len())
+        if self.log.is_empty() {
+            self.rows.len()
+        } else {
+            self.rows.count()
+        }
     }
 
-    /// The tuple of this place, from 0, in order of age. Takes O(1) time where there is no mark.
+    /// The tuple of this place, from 0, in order of age. Takes O(i) time: a walk through all goes
+    /// from age to age by `candidate`.
     pub fn nth(&self, i: usize) -> Option<&Ground>
         ensures { option_copied result ≡ slice_get (tuples_of self.now.now) i }
     {
-        let slot = nth(&self.slots, self.marks.len(), i)?;
-        Some(&slot.tuple)
+        self.rows.nth(i)
     }
 
     /// Puts a tuple behind the others, with the next age. Where memory ends it is handed back.
@@ -143,16 +148,17 @@ impl Bag {
     {
         // The tuple shows that it is one, which each slot keeps.
         let _term = tuple.term();
-        let slot = Slot {
-            age: self.next,
-            tuple,
-            taken: 0,
-        };
-        if let Err(failed) = self.slots.push(slot) {
-            return Err(PutFault::NoMemory(failed.value.tuple));
+        let room = self.rows.len() + 1;
+        if let Err(_) = self.log.reserve(room) {
+            return Err(PutFault::NoMemory(tuple));
         }
-        self.next += 1;
-        Ok(())
+        match self.rows.push(self.next, tuple) {
+            Ok(()) => {
+                self.next += 1;
+                Ok(())
+            }
+            Err(tuple) => Err(PutFault::NoMemory(tuple)),
+        }
     }
 
     /// As `put`, but where memory ends the tuple is dropped.
@@ -161,26 +167,21 @@ impl Bag {
         ensures put { OnOk result (self.new ≡ with_tuple self.old tuple) }
         ensures same { OnErr result (self.new ≡ self.old) }
     {
-        // The tuple shows that it is one, which each slot keeps.
-        let _term = tuple.term();
-        let age = self.next;
-        self.slots.push(Slot {
-            age,
-            tuple,
-            taken: 0,
-        })?;
-        self.next = age + 1;
-        Ok(())
+        match self.put(tuple) {
+            Ok(()) => Ok(()),
+            Err(_) => Err(NoMemory),
+        }
     }
 
     /// Removes the tuple of this age, where it is there. No memory is taken.
     pub fn take(&mut self, age: u64)
         ensures { self.new ≡ record self.old { now = without_age age self.old.now } }
     {
-        let depth = self.marks.len();
-        if let Some(place) = place_of(&self.slots, age) {
-            take_at(&mut self.slots, place, depth);
-            note(&mut self.marks, age);
+        if self.marks.is_empty() {
+            self.rows.remove(age);
+        } else if self.rows.take(age, self.log.len() + 1) {
+            // There is room for it since the tuple was put.
+            let _ = self.log.push(age);
         }
     }
 
@@ -191,36 +192,38 @@ impl Bag {
     {
         self.marks.push(Mark {
             next: self.next,
-            oldest: u64::MAX,
+            taken: self.log.len(),
         })?;
         Ok(())
     }
 
     /// Goes back to the latest mark, and removes it. No memory is taken.
     ///
-    /// The next age is again that at the mark. Takes the time of the rows that are younger than the
-    /// oldest that was put or taken since, however many others there are.
+    /// The next age is again that at the mark. Takes O(log tuples) time for each tuple that was put
+    /// or taken since.
     pub fn undo(&mut self)
         ensures back { IsUndone self.old self.new }
         ensures unmarked { self.old.saved ≡ [] → self.new ≡ self.old }
     {
         if let Some(top) = self.marks.pop() {
-            go_back(&mut self.slots, top, self.marks.len() + 1);
+            self.rows.truncate(top.next);
+            unwind(&mut self.rows, &mut self.log, top.taken);
             self.next = top.next;
         }
     }
 
     /// Removes the latest mark, and leaves the tuples as they are. No memory is taken.
     ///
-    /// Takes the time of the rows that are younger than the oldest that was taken since; where it
-    /// is the only mark, and one was taken, that of all rows.
+    /// Takes O(log tuples) time for each tuple that was taken since, where it is the only mark, and
+    /// else no time.
     pub fn keep(&mut self)
         ensures kept { IsKept self.old self.new }
         ensures unmarked { self.old.saved ≡ [] → self.new ≡ self.old }
     {
-        if let Some(top) = self.marks.pop() {
-            settle(&mut self.slots, top.oldest, self.marks.len() + 1);
-            note(&mut self.marks, top.oldest);
+        if let Some(_top) = self.marks.pop() {
+            if self.marks.is_empty() {
+                discard(&mut self.rows, &mut self.log);
+            }
         }
     }
 }

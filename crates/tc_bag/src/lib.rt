@@ -5,8 +5,11 @@
 #![tactic(auto)]
 
 mod bag;
+mod codes;
+mod index;
 mod key;
 mod laws;
+mod log;
 mod rows;
 mod slots;
 #[cfg(test)]

@@ -1,160 +1,297 @@
-//! Finding, taking and bringing back rows in slots.
-ghost use Rattle.std.specs.Prelude.{◌≡◌, ◌<◌, ◌≤◌, ◌-◌, ◌∷◌, ◌++◌, List, IsTrue, IfSome, IfNone, All, length, take, drop, map, filter, slice_get, vec_len};
-ghost use Rattle.std.specs.Option.{option_copied, option_map};
-ghost use Rattle.tc_lists.specs.Firsts.{NoneOf, IsFirst};
-ghost use Rattle.tc_term.specs.TreeView.{tree_of};
-ghost use Rattle.tc_bag.specs.declared.slots.Slot.{Slot};
-ghost use Rattle.tc_bag.specs.Slots.{InOrder, IsBound, IsNoted, IsThereLike, IsPlaceOf, is_there, is_older, taken_from, retaken, stays};
-
+//! Rows by age, and an index of their ages.
+use crate::codes::{code_like, first_code, tuple_code};
+use crate::index::Index;
 use crate::key::{Key, is_like};
-use crate::slots::{Mark, Slot};
-use tc_term::Term;
+use crate::slots::Held;
+use std::alloc::Global;
+use std::collections::BTreeMap;
+use std::marker::Model;
+use tc_term::{Ground, Term};
 
-/// The first place whose age is at least this one.
-pub(crate) fn place_from(slots: &[Slot], age: u64) -> usize
-    requires { InOrder slots.now }
-    ensures within { result ≤ length slots.now }
-    ensures before { All (λ s. s.age < age) (take result slots.now) }
-    ensures behind { All (λ s. age ≤ s.age) (drop result slots.now) }
-{
-    slots.partition_point(|slot| slot.age < age)
+/// Rows by age, also those that were taken while a mark may bring them back.
+///
+/// The index has the age of each row twice: by the code of its key, and by that of its key and
+/// first argument.
+#[derive(Drop)]
+pub(crate) struct Rows {
+    held: BTreeMap<u64, Held>,
+    index: Index,
 }
 
-/// The place of the row of this age, where it is there.
-pub(crate) fn place_of(slots: &[Slot], age: u64) -> Option<usize>
-    requires { InOrder slots.now }
-    ensures found { IfSome result (IsPlaceOf age slots.now) }
-    ensures none { IfNone result (NoneOf (λ s. IsTrue (is_there s) × (s.age ≡ age)) slots.now) }
-{
-    let place = place_from(slots, age);
-    let slot = slots.get(place)?;
-    if slot.age == age && slot.taken == 0 {
-        Some(place)
-    } else {
+impl Model for Rows {
+    ghost use Rattle.std.specs.Prelude.{List, All};
+    ghost use Rattle.std.specs.Coded.{codes};
+    ghost use Rattle.tc_term.specs.TreeCode.{coded_tree};
+    ghost use Rattle.tc_bag.specs.Slots.{Slot};
+    ghost use Rattle.tc_bag.specs.Held.{slots_of, IsIndexed};
+
+    ghost Value = { List Slot };
+
+    ghost coded = { Prim.hlevel (codes, coded_tree) };
+
+    ghost view = { λ r. slots_of r.held.entries };
+
+    ghost invariant = { λ r. All (IsIndexed r.index) (slots_of r.held.entries) };
+}
+
+impl Rows {
+    ghost use Rattle.std.specs.Prelude.{◌≡◌, ◌≢◌, ◌<◌, ◌≤◌, ◌^◌, List, [], ◌∷◌, ◌++◌, length, map, filter, slice_get, is_some, All, OnOk, OnErr, IfErr, IfSome, IfNone, Option, Some};
+    ghost use Rattle.std.specs.Option.{option_copied, option_map};
+    ghost use Rattle.tc_lists.specs.Firsts.{NoneOf, IsFirst};
+    ghost use Rattle.tc_term.specs.Tree.{Tree};
+    ghost use Rattle.tc_term.specs.TreeView.{tree_of};
+    ghost use Rattle.tc_bag.specs.Keys.{IsLike};
+    ghost use Rattle.tc_bag.specs.Codes.{code_like};
+    ghost use Rattle.tc_bag.specs.Slots.{Slot, slot, InOrder, IsThereLike, is_there, IsYoungest, is_older, is_not_of, stays, taken_at, revived_at, with_taken, tuple_there, tuples_there};
+
+    /// No row.
+    pub(crate) fn new(alloc: Global) -> Rows
+        ensures { result ≡ [] }
+    {
+        Rows {
+            held: BTreeMap::new(alloc),
+            index: Index::new(alloc),
+        }
+    }
+
+    /// How many rows are held.
+    pub(crate) fn len(&self) -> usize
+        ensures len { result ≡ length self.now }
+        ensures small { result < 2 ^ 63 }
+    {
+        self.held.len()
+    }
+
+    /// How many rows are there.
+    pub(crate) fn count(&self) -> usize
+        ensures { result ≡ length (filter is_there self.now) }
+    {
+        let mut count = 0;
+        for held in self.held.values() {
+            if held.taken == 0 {
+                count += 1;
+            }
+        }
+        count
+    }
+
+    /// The tuple of this age, where its row is there.
+    pub(crate) fn get(&self, age: u64) -> Option<&Ground>
+        ensures { option_copied result ≡ tuple_there age self.now }
+    {
+        let held = self.held.get(&age)?;
+        if held.taken == 0 {
+            Some(&held.tuple)
+        } else {
+            None
+        }
+    }
+
+    /// The first row that is there, is not older than `from`, agrees with the key and has this
+    /// first argument, where one is given.
+    pub(crate) fn first_like(
+        &self,
+        key: &Key,
+        first: Option<&Term>,
+        from: u64,
+    ) -> Option<(u64, &Ground)>
+        requires order { InOrder self.now }
+        requires limit { All (λ s. s.age < 2 ^ 64) self.now }
+        ensures found { IfSome result (λ r. IsFirst
+            (IsThereLike key.now (option_map (λ term. tree_of term.now) first.entry) from)
+            self.now (slot r.0 r.1.now)) }
+        ensures none { IfNone result (NoneOf
+            (IsThereLike key.now (option_map (λ term. tree_of term.now) first.entry) from)
+            self.now) }
+    {
+        let code = code_like(key, first);
+        let mut at = from;
+        while let Some(age) = self.next_age(key, code, at) {
+            if let Some(tuple) = self.like_at(age, key, first) {
+                return Some((age, tuple));
+            }
+            if age == u64::MAX {
+                return None;
+            }
+            at = age + 1;
+        }
         None
     }
-}
 
-/// The first row that is there, agrees with the key and has this first argument, where one is given.
-pub(crate) fn first_like<'a>(slots: &'a [Slot], key: &Key, first: Option<&Term>) -> Option<&'a Slot>
-    ensures found { IfSome result (λ s. IsFirst
-        (IsThereLike key.now (option_map (λ term. tree_of term.now) first.entry)) slots.now s.now) }
-    ensures none { IfNone result (NoneOf
-        (IsThereLike key.now (option_map (λ term. tree_of term.now) first.entry)) slots.now) }
-{
-    for slot in slots {
-        if slot.taken == 0 && is_like(key, first, &slot.tuple) {
-            return Some(slot);
+    // The tuple of this age, where its row is there, agrees with the key and has this first
+    // argument, where one is given.
+    fn like_at(&self, age: u64, key: &Key, first: Option<&Term>) -> Option<&Ground>
+        ensures found { IfSome result (λ t. (tuple_there age self.now ≡ Some t.now)
+            × IsLike key.now (option_map (λ term. tree_of term.now) first.entry) t.now) }
+        ensures none { IfNone result ((t : Tree) → tuple_there age self.now ≡ Some t
+            → IsLike key.now (option_map (λ term. tree_of term.now) first.entry) t → ⊥) }
+    {
+        let tuple = self.get(age)?;
+        if is_like(key, first, tuple) {
+            Some(tuple)
+        } else {
+            None
         }
     }
-    None
-}
 
-/// How many rows are there, after so many marks. Without a mark all are.
-pub(crate) fn count(slots: &[Slot], depth: usize) -> usize
-    requires { All (λ s. s.taken ≤ depth) slots.now }
-    ensures { result ≡ length (filter is_there slots.now) }
-{
-    if depth == 0 {
-        return slots.len();
+    // The least age from `from` on that the index has for a key, by the code of the key and of what
+    // else is asked; where the key is any, that of a row.
+    fn next_age(&self, key: &Key, code: u64, from: u64) -> Option<u64>
+        requires order { InOrder self.now }
+        ensures found { IfSome result (λ age. (from ≤ age) × ((first : Option Tree)
+            → code ≡ code_like key.now first
+            → All (λ s. from ≤ s.age → s.age < age → IsLike key.now first s.tuple → ⊥) self.now)) }
+        ensures none { IfNone result ((first : Option Tree) → code ≡ code_like key.now first
+            → All (λ s. from ≤ s.age → IsLike key.now first s.tuple → ⊥) self.now) }
+    {
+        match key {
+            Key::Any => self.oldest_from(from),
+            _ => self.index.next(code, from),
+        }
     }
-    slots.iter().filter(|slot| slot.taken == 0).count()
-}
 
-/// The row of this place, from 0, of those that are there, after so many marks.
-pub(crate) fn nth(slots: &[Slot], depth: usize, i: usize) -> Option<&Slot>
-    requires { All (λ s. s.taken ≤ depth) slots.now }
-    ensures { option_copied result ≡ slice_get (filter is_there slots.now) i }
-{
-    if depth == 0 {
-        return slots.get(i);
+    // The least age of a row from `from` on.
+    fn oldest_from(&self, from: u64) -> Option<u64>
+        ensures found { IfSome result (λ age. (from ≤ age)
+            × All (λ s. from ≤ s.age → s.age < age → ⊥) self.now) }
+        ensures none { IfNone result (All (λ s. from ≤ s.age → ⊥) self.now) }
+    {
+        let (age, _) = self.held.range(from..).next()?;
+        Some(*age)
     }
-    let mut left = i;
-    for slot in slots {
-        if slot.taken == 0 {
-            if left == 0 {
-                return Some(slot);
+
+    /// The tuple of this place, from 0, of those whose rows are there.
+    pub(crate) fn nth(&self, i: usize) -> Option<&Ground>
+        ensures { option_copied result ≡ slice_get (tuples_there self.now) i }
+    {
+        let mut left = i;
+        for held in self.held.values() {
+            if held.taken == 0 {
+                if left == 0 {
+                    return Some(&held.tuple);
+                }
+                left -= 1;
             }
-            left -= 1;
+        }
+        None
+    }
+
+    /// Puts a row behind the others.
+    pub(crate) fn push(&mut self, age: u64, tuple: Ground) -> Result<(), Ground>
+        requires { All (λ s. s.age < age) self.old }
+        ensures pushed { OnOk result (self.new ≡ self.old ++ slot age tuple ∷ []) }
+        ensures same { OnErr result (self.new ≡ self.old) }
+        ensures returned { IfErr result (λ back. back ≡ tuple) }
+    {
+        if let Err(_) = self.index.enter_row(age, &tuple) {
+            self.index.leave_row(age, &tuple);
+            return Err(tuple);
+        }
+        match self.held.insert(age, Held { tuple, taken: 0 }) {
+            Ok(_) => Ok(()),
+            Err(failed) => {
+                let (_, held) = failed.value;
+                self.index.leave_row(age, &held.tuple);
+                Err(held.tuple)
+            }
         }
     }
-    None
-}
 
-/// Takes the row at a place after so many marks. Without a mark its slot goes too.
-pub(crate) fn take_at(slots: &mut Vec<Slot>, place: usize, depth: usize)
-    requires { place < vec_len slots.old }
-    ensures { (before behind : List Slot) (slot : Slot) → slots.old.items ≡ before ++ slot ∷ behind
-        → length before ≡ place → slots.new.items ≡ before ++ taken_from depth slot behind }
-{
-    if depth == 0 {
-        slots.remove(place);
-    } else {
-        slots[place].taken = depth;
+    /// Removes the row of this age.
+    pub(crate) fn remove(&mut self, age: u64)
+        requires order { InOrder self.old }
+        ensures { self.new ≡ filter (is_not_of age) self.old }
+    {
+        if let Some(held) = self.held.remove(&age) {
+            self.index.drop_row(age, held);
+        }
     }
-}
 
-/// Goes back to the latest of so many marks.
-///
-/// Takes the time of the rows that are younger than the oldest that was taken since.
-pub(crate) fn go_back(slots: &mut Vec<Slot>, to: Mark, depth: usize)
-    requires order { InOrder slots.old.items }
-    requires bound { IsBound depth to.oldest slots.old.items }
-    ensures { slots.new.items ≡ map (retaken depth 0) (filter (is_older to.next) slots.old.items) }
-{
-    let end = place_from(slots, to.next);
-    slots.truncate(end);
-    retake_since(slots, to.oldest, depth, 0);
-}
-
-/// Gives up the latest of so many marks. Rows that no mark may bring back go.
-///
-/// Takes no time where no row was taken since, and else that of the rows that are younger; where
-/// it is the only mark, that of all rows.
-pub(crate) fn settle(slots: &mut Vec<Slot>, oldest: u64, depth: usize)
-    requires some { 0 < depth }
-    requires order { InOrder slots.old.items }
-    requires bound { IsBound depth oldest slots.old.items }
-    requires taken { All (λ s. s.taken ≤ depth) slots.old.items }
-    ensures { slots.new.items
-        ≡ map (retaken depth (depth - 1)) (filter (stays depth) slots.old.items) }
-{
-    if depth > 1 {
-        retake_since(slots, oldest, depth, depth - 1);
-    } else if place_from(slots, oldest) < slots.len() {
-        slots.retain(|slot| slot.taken == 0);
+    /// Removes the row of this age, unless it is there.
+    pub(crate) fn discard(&mut self, age: u64)
+        requires order { InOrder self.old }
+        ensures { self.new ≡ filter (stays age) self.old }
+    {
+        if self.get(age).is_none() {
+            self.remove(age);
+        }
     }
-}
 
-/// Makes the latest mark know that a row of this age was taken, where there is a mark.
-pub(crate) fn note(marks: &mut Vec<Mark>, age: u64)
-    ensures { IsNoted age marks.old.items marks.new.items }
-{
-    let count = marks.len();
-    if count > 0 {
-        let top = &mut marks[count - 1];
-        top.oldest = top.oldest.min(age);
+    /// Removes the rows that are not older than this age.
+    pub(crate) fn truncate(&mut self, next: u64)
+        requires order { InOrder self.old }
+        ensures { self.new ≡ filter (is_older next) self.old }
+    {
+        while let Some(age) = self.youngest() {
+            if age < next {
+                break;
+            }
+            self.pop();
+        }
     }
-}
 
-// Has rows that were taken after one number of marks as taken after another. None of them is older
-// than this.
-fn retake_since(slots: &mut [Slot], oldest: u64, from: usize, to: usize)
-    requires order { InOrder slots.old }
-    requires bound { IsBound from oldest slots.old }
-    ensures { slots.new ≡ map (retaken from to) slots.old }
-{
-    let start = place_from(slots, oldest);
-    retake(&mut slots[start..], from, to);
-}
+    // The age of the youngest row.
+    fn youngest(&self) -> Option<u64>
+        ensures some { IfSome result (IsYoungest self.now) }
+        ensures none { IfNone result (self.now ≡ []) }
+    {
+        let (age, _) = self.held.last_key_value()?;
+        Some(*age)
+    }
 
-// Has rows that were taken after one number of marks as taken after another.
-fn retake(slots: &mut [Slot], from: usize, to: usize)
-    ensures { slots.new ≡ map (retaken from to) slots.old }
-{
-    for slot in slots.iter_mut() {
-        if slot.taken == from {
-            slot.taken = to;
+    // Removes the youngest row.
+    fn pop(&mut self)
+        requires order { InOrder self.old }
+        ensures none { self.old ≡ [] → self.new ≡ [] }
+        ensures last { (before : List Slot) (s : Slot) → self.old ≡ before ++ s ∷ []
+            → self.new ≡ before }
+    {
+        if let Some((age, held)) = self.held.pop_last() {
+            self.index.drop_row(age, held);
+        }
+    }
+
+    /// Notes of the row of this age, where it is there, that it is so manieth to be taken.
+    pub(crate) fn take(&mut self, age: u64, n: usize) -> bool
+        requires order { InOrder self.old }
+        ensures taken { self.new ≡ map (taken_at age n) self.old }
+        ensures told { result ≡ is_some (tuple_there age self.old) }
+    {
+        let there = self.get(age).is_some();
+        if there {
+            self.set_taken(age, n);
+        }
+        there
+    }
+
+    /// Has the row of this age there again, where more than so many were taken up to it.
+    pub(crate) fn revive(&mut self, age: u64, n: usize)
+        requires order { InOrder self.old }
+        ensures { self.new ≡ map (revived_at age n) self.old }
+    {
+        if self.taken(age) > n {
+            self.set_taken(age, 0);
+        }
+    }
+
+    // How manieth the row of this age was to be taken; 0 where it is there or there is none.
+    fn taken(&self, age: u64) -> usize
+        requires order { InOrder self.now }
+        ensures { All (λ s. s.age ≡ age → s.taken ≡ result) self.now }
+    {
+        match self.held.get(&age) {
+            Some(held) => held.taken,
+            None => 0,
+        }
+    }
+
+    // Notes of the row of this age that it is so manieth to be taken.
+    fn set_taken(&mut self, age: u64, n: usize)
+        requires order { InOrder self.old }
+        ensures { self.new ≡ map (with_taken age n) self.old }
+    {
+        if let Some(held) = self.held.get_mut(&age) {
+            held.taken = n;
         }
     }
 }

@@ -1,37 +1,40 @@
-use Rattle.std.proofs.Common.{◌≡◌, ◌+◌, ◌-◌, ℕ, length, map, filter, ap, sym, subst, ◌∙◌, arith}
+use Rattle.std.proofs.Common.{◌≡◌, ◌<◌, [], map, vec_capacity, vec_len, ap, sym, subst, ◌∙◌}
+use Rattle.std.proofs.lemmas.Bool.{eqb-true}
 use Rattle.tc_bag.specs.Stock.{IsKept}
-use Rattle.tc_bag.specs.Slots.{retaken, stays, stock_of, nexts, IsBound}
-use Rattle.tc_bag.proofs.Sound.{latest_bound, IsSound-kept, stock-kept}
+use Rattle.tc_bag.specs.Slots.{IsSound, stock_of, saved_at, rows_now}
+use Rattle.tc_bag.proofs.Logged.{nil_from}
+use Rattle.tc_bag.proofs.Stocks.{sound-kept, sound-settled, rows-settled, stock-kept, some_from}
 use Rattle.tc_bag.proofs.bag.Bag.keep.Goals as goal
+use Rattle.tc_bag.proofs.bag.Bag.keep.Goals.{After-discard}
 
-pub settle-requires-clause-bound : goal.settle-requires-clause-bound
-settle-requires-clause-bound c =
-    subst (λ n. IsBound (n + 1) c.in-Some.top.oldest c.self.inside.slots.items) (sym (c.len.ensures ∙ c.pop.new.self.ok.0))
-    (latest_bound c.self.inside.slots.items c.self.inside.next c.self.inside.marks.items c.pop.new.self.items c.in-Some.top
-    c.self.invariant c.in-Some.ensures.items)
-
--- what is left
-left : (c : goal.After-note)
-    → c.settle.new.slots.items
-    ≡ map (retaken (length c.pop.new.self.items + 1) (length c.pop.new.self.items))
-    (filter (stays (length c.pop.new.self.items + 1)) c.self.inside.slots.items)
-left c =
-    let slots = c.self.inside.slots.items in
-    let count = length c.pop.new.self.items in
-    c.settle.ensures
-    ∙ ap (λ n. map (retaken (n + 1) (n + 1 - 1)) (filter (stays (n + 1)) slots)) (c.len.ensures ∙ c.pop.new.self.ok.0)
-    ∙ ap (λ n. map (retaken (count + 1) n) (filter (stays (count + 1)) slots)) (one_less count)
-  where
-    one_less : (n : ℕ) → n + 1 - 1 ≡ n
-    one_less n = omega arith
+last : (c : After-discard) → c.pop.new.self.items ≡ []
+last c =
+    nil_from c.pop.new.self.items
+    (sym c.pop.new.self.ok.0 ∙ eqb-true (vec_len c.pop.new.self) 0 (sym c.if-is_empty.ensures))
 
 pub invariant_of-self : goal.invariant_of-self
 invariant_of-self c =
-    IsSound-kept c.self.inside.slots.items c.settle.new.slots.items c.self.inside.next c.self.inside.marks.items
-    c.pop.new.self.items c.in-Some.top c.self.invariant c.in-Some.ensures.items c.note.new.marks.items (left c) c.note.ensures
+    let b = c.self.inside in
+    let room = vec_capacity b.log in
+    subst (λ marks. IsSound c.discard.new.rows b.next c.discard.new.log.items (vec_capacity c.discard.new.log) marks) (sym (last c))
+    (subst (λ more. IsSound c.discard.new.rows b.next c.discard.new.log.items more []) (sym c.discard.ensures.room)
+    (subst (λ log. IsSound c.discard.new.rows b.next log room []) (sym c.discard.ensures.log)
+    (subst (λ rows. IsSound rows b.next [] room []) (sym c.discard.ensures.rows)
+    (sound-settled b.rows b.next b.log.items room b.marks.items c.self.invariant))))
 
-pub returns-in-Some-clause-kept : goal.returns-in-Some-clause-kept
-returns-in-Some-clause-kept c =
-    subst (λ old. IsKept old (stock_of c.settle.new.slots.items c.self.inside.next (nexts c.note.new.marks.items))) c.self.view_is
-    (stock-kept c.self.inside.slots.items c.settle.new.slots.items c.self.inside.next c.self.inside.marks.items
-    c.pop.new.self.items c.in-Some.top c.self.invariant c.in-Some.ensures.items c.note.new.marks.items (left c) c.note.ensures)
+pub invariant_of-self-else-is_empty : goal.invariant_of-self-else-is_empty
+invariant_of-self-else-is_empty c =
+    let b = c.self.inside in
+    sound-kept b.rows b.next b.log.items (vec_capacity b.log) b.marks.items c.pop.new.self.items c.in-Some._top
+    c.self.invariant c.in-Some.ensures.items
+    (subst (λ k. 0 < k) c.pop.new.self.ok.0 (some_from (vec_len c.pop.new.self) c.if-is_empty.ensures))
+
+pub returns-then-is_empty-clause-kept : goal.returns-then-is_empty-clause-kept
+returns-then-is_empty-clause-kept c =
+    let b = c.self.inside in
+    let new = c.discard.new.rows in
+    let none = last c in
+    subst (λ old. IsKept old (stock_of new b.next c.pop.new.self.items)) c.self.view_is
+    (stock-kept b.rows b.next b.log.items (vec_capacity b.log) b.marks.items c.self.invariant c.pop.new.self.items c.in-Some._top
+    c.in-Some.ensures.items new (ap rows_now c.discard.ensures.rows ∙ rows-settled b.rows)
+    (ap (map (saved_at new)) none ∙ sym (ap (map (saved_at b.rows)) none)))

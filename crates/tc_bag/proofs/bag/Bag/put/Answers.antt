@@ -1,22 +1,29 @@
-use Rattle.std.proofs.Common.{◌≡◌, ◌∷◌, ◌++◌, [], ap, ◌∙◌}
+use Rattle.std.proofs.Common.{◌≤◌, ◌+◌, length, filter, vec_capacity, ap, sym, subst, ◌∙◌, arith}
 use Rattle.tc_bag.specs.Stock.{with_tuple}
-use Rattle.tc_bag.specs.Slots.{nexts}
-use Rattle.tc_bag.proofs.Sound.{IsSound-put}
-use Rattle.tc_bag.proofs.Stocks.{slot_of, stock_of-put}
+use Rattle.tc_bag.specs.Slots.{IsSound, stock_of, is_there}
+use Rattle.tc_bag.proofs.Stocks.{sound-put, stock-put, filter_fewer}
 use Rattle.tc_bag.proofs.bag.Bag.put.Goals as goal
 
--- the tuple stands in the last slot
-pushed : (c : goal.After-self-1)
-    → c.push.new.self.items ≡ c.self.inside.slots.items ++ slot_of c.self.inside.next c.args.tuple ∷ []
-pushed c = c.in_default.ensures.items
+pub invariant_of-self-in-Ok : goal.invariant_of-self-in-Ok
+invariant_of-self-in-Ok c =
+    let b = c.self.inside in
+    let more = vec_capacity c.reserve.new.self in
+    let fits : length b.log.items + length (filter is_there b.rows) + 1 ≤ more =
+    omega (
+      arith,
+      c.in_default.ensures.ok,
+      c.reserve.new.self.ok.0,
+      ap length c.reserve.ensures.items,
+      c.len-room.ensures.len,
+      filter_fewer is_there b.rows,
+    ) in
+    subst (λ log. IsSound c.push.new.self (b.next + 1) log more b.marks.items) (sym c.reserve.ensures.items)
+    (subst (λ rows. IsSound rows (b.next + 1) b.log.items more b.marks.items) (sym c.in-Ok.ensures.pushed)
+    (sound-put b.rows b.next b.log.items (vec_capacity b.log) b.marks.items c.self.invariant c.args.tuple c.term-term.ensures.tuple more fits))
 
-pub invariant_of-self-2 : goal.invariant_of-self-2
-invariant_of-self-2 c =
-    IsSound-put c.self.inside.slots.items c.push.new.self.items c.self.inside.next c.self.inside.marks.items c.args.tuple
-    c.term-term.ensures.tuple c.self.invariant (pushed c)
-
-pub returns-clause-put : goal.returns-clause-put
-returns-clause-put c =
-    stock_of-put c.self.inside.slots.items c.push.new.self.items c.self.inside.next (nexts c.self.inside.marks.items)
-    c.args.tuple c.self.invariant.bag (pushed c)
+pub returns-in-Ok-clause-put : goal.returns-in-Ok-clause-put
+returns-in-Ok-clause-put c =
+    let b = c.self.inside in
+    ap (λ rows. stock_of rows (b.next + 1) b.marks.items) c.in-Ok.ensures.pushed
+    ∙ stock-put b.rows b.next b.log.items (vec_capacity b.log) b.marks.items c.self.invariant c.args.tuple c.term-term.ensures.tuple
     ∙ ap (λ s. with_tuple s c.args.tuple) c.self.view_is

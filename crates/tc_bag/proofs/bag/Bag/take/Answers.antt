@@ -1,45 +1,83 @@
-use Rattle.std.proofs.Common.{◌≡◌, ◌++◌, IsTrue, length, ap, sym, subst, ◌∙◌}
-use Rattle.tc_lists.specs.Firsts.{NoneOf}
-use Rattle.tc_bag.specs.declared.slots.Slot.{Slot}
+use Rattle.std.proofs.Common.{◌≡◌, ◌<◌, ◌++◌, ◌∷◌, [], ◌+◌, ◌≤◌, cond, true, is_ok, length, map, vec_capacity, vec_len, ap, sym, subst, ◌∙◌, arith}
+use Rattle.std.proofs.lemmas.Bool.{eqb-true}
 use Rattle.tc_bag.specs.Stock.{Stock, without_age}
-use Rattle.tc_bag.specs.Slots.{is_there, rows_now, stock_of, nexts, IsPlaceOf, taken_from}
-use Rattle.tc_bag.proofs.Ages.{without_age-none}
-use Rattle.tc_bag.proofs.Kept.{others_none}
-use Rattle.tc_bag.proofs.Sound.{IsSound-taken, stock-taken}
+use Rattle.tc_bag.specs.Slots.{IsSound, stock_of, taken_at}
+use Rattle.tc_bag.proofs.Entries.{map-not_taken}
+use Rattle.tc_bag.proofs.Logged.{nil_from}
+use Rattle.tc_bag.proofs.Stocks.{sound-taken, stock-taken, sound-removed, stock-removed, ok_from, some_from, taken-count}
 use Rattle.tc_bag.proofs.bag.Bag.take.Goals as goal
+use Rattle.tc_bag.proofs.bag.Bag.take.Goals.{After-remove, After-push, Else-take}
 
--- where the row stands
-place : (c : goal.After-note) → IsPlaceOf c.args.age c.self.inside.slots.items c.in-Some.place
-place c = subst (λ ss. IsPlaceOf c.args.age ss c.in-Some.place) c.deref.ensures.value c.in-Some.ensures.found
-
--- what is left
-left : (c : goal.After-note)
-    → c.take_at.new.slots.items
-    ≡ (place c).before ++ taken_from (length c.self.inside.marks.items) (place c).slot (place c).behind
-left c =
-    let at = place c in
-    c.take_at.ensures at.before at.behind at.slot at.split at.stands
-    ∙ ap (λ n. at.before ++ taken_from n at.slot at.behind) (c.len-depth.ensures ∙ c.self.inside.marks.ok.0)
+unmarked : (c : After-remove) → c.self.inside.marks.items ≡ []
+unmarked c =
+    nil_from c.self.inside.marks.items
+    (sym c.self.inside.marks.ok.0 ∙ eqb-true (vec_len c.self.inside.marks) 0 (sym c.if-is_empty.ensures))
 
 pub invariant_of-self : goal.invariant_of-self
 invariant_of-self c =
-    IsSound-taken c.args.age c.self.inside.slots.items c.take_at.new.slots.items c.self.inside.next c.self.inside.marks.items
-    c.note.new.marks.items c.in-Some.place (place c) c.self.invariant (left c) c.note.ensures
+    let b = c.self.inside in
+    subst (λ rows. IsSound rows b.next b.log.items (vec_capacity b.log) b.marks.items) (sym c.remove.ensures)
+    (sound-removed b.rows b.next b.log.items (vec_capacity b.log) b.marks.items c.self.invariant c.args.age (unmarked c))
 
-pub returns-in-Some : goal.returns-in-Some
-returns-in-Some c =
-    stock-taken c.args.age c.self.inside.slots.items c.take_at.new.slots.items c.self.inside.next c.self.inside.marks.items
-    c.note.new.marks.items c.in-Some.place (place c) c.self.invariant (left c) c.note.ensures
+pub returns-then-is_empty : goal.returns-then-is_empty
+returns-then-is_empty c =
+    let b = c.self.inside in
+    ap (λ rows. stock_of rows b.next b.marks.items) c.remove.ensures
+    ∙ stock-removed b.rows b.next b.log.items (vec_capacity b.log) b.marks.items c.self.invariant c.args.age (unmarked c)
     ∙ ap (λ (stock : Stock). record stock { now = without_age c.args.age stock.now }) c.self.view_is
 
-pub returns-in_default : goal.returns-in_default
-returns-in_default c =
-    let slots = c.self.inside.slots.items in
-    let age = c.args.age in
-    let none : NoneOf (λ s. IsTrue (is_there s) × (s.age ≡ age)) slots =
-    subst (NoneOf (λ (s : Slot). IsTrue (is_there s) × (s.age ≡ age))) c.deref.ensures.value c.in_default.ensures.none in
-    let same : without_age age (rows_now slots) ≡ rows_now slots =
-    without_age-none age (rows_now slots) (others_none age slots none) in
-    let Same : Stock → Type 0 = λ stock. stock ≡ record stock { now = without_age age stock.now } in
-    let now = stock_of slots c.self.inside.next (nexts c.self.inside.marks.items) in
-    subst Same c.self.view_is (ap (λ rows. record now { now = rows }) (sym same))
+-- the slots once the row is taken
+left : (c : After-push) → c.take.new.self ≡ map (taken_at c.args.age (length c.self.inside.log.items + 1)) c.self.inside.rows
+left c =
+    c.take.ensures.taken
+    ∙ ap (λ k. map (taken_at c.args.age (k + 1)) c.self.inside.rows) (c.len.ensures ∙ c.self.inside.log.ok.0)
+
+marked_some : (c : After-push) → 0 < length c.self.inside.marks.items
+marked_some c = subst (λ k. 0 < k) c.self.inside.marks.ok.0 (some_from (vec_len c.self.inside.marks) c.if-is_empty.ensures)
+
+-- there was room for its age
+pushed : (c : After-push) → c.push.new.self.items ≡ c.self.inside.log.items ++ c.args.age ∷ []
+pushed c =
+    let b = c.self.inside in
+    let log = b.log.items in
+    let fewer = taken-count c.args.age (length log + 1) b.rows (omega arith) c.self.invariant.order (sym c.if-take.ensures.told) in
+    let ok : is_ok c.push.result ≡ true =
+    ok_from (vec_capacity b.log ≤ vec_len b.log) c.push.result c.push.ensures.full
+    (λ full. absurd (omega (arith, full, b.log.ok.0, c.self.invariant.fits, fewer))) in
+    c.push.ensures.items ∙ ap (λ k. cond k (log ++ c.args.age ∷ []) log) ok
+
+pub invariant_of-self-then-take : goal.invariant_of-self-then-take
+invariant_of-self-then-take c =
+    let b = c.self.inside in
+    subst (λ rows. IsSound rows b.next c.push.new.self.items (vec_capacity c.push.new.self) b.marks.items) (sym (left c))
+    (subst (λ log. IsSound (map (taken_at c.args.age (length b.log.items + 1)) b.rows) b.next log (vec_capacity c.push.new.self) b.marks.items)
+    (sym (pushed c))
+    (sound-taken b.rows b.next b.log.items (vec_capacity b.log) b.marks.items c.self.invariant c.args.age (marked_some c)
+    (vec_capacity c.push.new.self) c.push.ensures.capacity (sym c.if-take.ensures.told)))
+
+pub returns-then-take : goal.returns-then-take
+returns-then-take c =
+    let b = c.self.inside in
+    ap (λ rows. stock_of rows b.next b.marks.items) (left c)
+    ∙ stock-taken b.rows b.next b.log.items (vec_capacity b.log) b.marks.items c.self.invariant c.args.age (marked_some c)
+    ∙ ap (λ (stock : Stock). record stock { now = without_age c.args.age stock.now }) c.self.view_is
+
+-- nothing was there
+same : (c : Else-take) → c.take.new.self ≡ c.self.inside.rows
+same c =
+    c.take.ensures.taken
+    ∙ sym (map-not_taken c.args.age (c.len.result + 1) c.self.inside.rows c.self.invariant.order (sym c.if-take.ensures.told))
+
+pub invariant_of-self-else-take : goal.invariant_of-self-else-take
+invariant_of-self-else-take c =
+    let b = c.self.inside in
+    subst (λ rows. IsSound rows b.next b.log.items (vec_capacity b.log) b.marks.items) (sym (same c)) c.self.invariant
+
+pub returns-else-take : goal.returns-else-take
+returns-else-take c =
+    let b = c.self.inside in
+    let some = subst (λ k. 0 < k) b.marks.ok.0 (some_from (vec_len b.marks) c.if-is_empty.ensures) in
+    ap (λ rows. stock_of rows b.next b.marks.items) (c.take.ensures.taken
+    ∙ ap (λ k. map (taken_at c.args.age (k + 1)) b.rows) (c.len.ensures ∙ b.log.ok.0))
+    ∙ stock-taken b.rows b.next b.log.items (vec_capacity b.log) b.marks.items c.self.invariant c.args.age some
+    ∙ ap (λ (stock : Stock). record stock { now = without_age c.args.age stock.now }) c.self.view_is

@@ -1,31 +1,52 @@
-use Rattle.std.proofs.Common.{◌≡◌, ◌+◌, length, map, filter, ap, sym, subst, ◌∙◌}
+use Rattle.std.proofs.Common.{◌≡◌, ◌≤◌, ◌+◌, length, take, map, filter, vec_capacity, All, ap, sym, subst, ◌∙◌, arith}
+use Rattle.std.proofs.lemmas.List.Elements.{All-filter}
 use Rattle.tc_bag.specs.Stock.{IsUndone}
-use Rattle.tc_bag.specs.Slots.{is_older, retaken, stock_of, nexts, IsBound}
-use Rattle.tc_bag.proofs.Sound.{latest_bound, IsSound-undone, stock-undone}
+use Rattle.tc_bag.specs.Slots.{InOrder, IsLogged, IsSound, stock_of, is_there, is_older, revived}
+use Rattle.tc_bag.proofs.Logged.{InOrder-filter}
+use Rattle.tc_bag.proofs.Stocks.{sound-undone, stock-undone, fewer_there}
 use Rattle.tc_bag.proofs.bag.Bag.undo.Goals as goal
 
-pub go_back-requires-clause-bound : goal.go_back-requires-clause-bound
-go_back-requires-clause-bound c =
-    subst (λ n. IsBound (n + 1) c.in-Some.top.oldest c.self.inside.slots.items) (sym (c.len.ensures ∙ c.pop.new.self.ok.0))
-    (latest_bound c.self.inside.slots.items c.self.inside.next c.self.inside.marks.items c.pop.new.self.items c.in-Some.top
-    c.self.invariant c.in-Some.ensures.items)
+pub unwind-requires-clause-order : goal.unwind-requires-clause-order
+unwind-requires-clause-order c =
+    subst InOrder (sym c.truncate.ensures) (InOrder-filter (is_older c.in-Some.top.next) c.self.inside.rows c.self.invariant.order)
 
--- what is left
+pub unwind-requires-clause-logged : goal.unwind-requires-clause-logged
+unwind-requires-clause-logged c =
+    subst (All (IsLogged c.self.inside.log.items)) (sym c.truncate.ensures)
+    (All-filter (is_older c.in-Some.top.next) (IsLogged c.self.inside.log.items) c.self.inside.rows c.self.invariant.logged)
+
+-- the slots that are left
 left : (c : goal.After-self-1)
-    → c.go_back.new.slots.items
-    ≡ map (retaken (length c.pop.new.self.items + 1) 0) (filter (is_older c.in-Some.top.next) c.self.inside.slots.items)
-left c =
-    c.go_back.ensures
-    ∙ ap (λ n. map (retaken (n + 1) 0) (filter (is_older c.in-Some.top.next) c.self.inside.slots.items))
-    (c.len.ensures ∙ c.pop.new.self.ok.0)
+    → c.unwind.new.rows ≡ map (revived c.in-Some.top.taken) (filter (is_older c.in-Some.top.next) c.self.inside.rows)
+left c = c.unwind.ensures.rows ∙ ap (map (revived c.in-Some.top.taken)) c.truncate.ensures
 
 pub invariant_of-self : goal.invariant_of-self
 invariant_of-self c =
-    IsSound-undone c.self.inside.slots.items c.go_back.new.slots.items c.self.inside.next c.self.inside.marks.items
-    c.pop.new.self.items c.in-Some.top c.self.invariant c.in-Some.ensures.items (left c)
+    let b = c.self.inside in
+    let top = c.in-Some.top in
+    let older = filter (is_older top.next) b.rows in
+    let undone = map (revived top.taken) older in
+    let log = take top.taken b.log.items in
+    let more = vec_capacity c.unwind.new.log in
+    let log_fits : length log + length (filter is_there c.unwind.new.rows) ≤ length b.log.items + length (filter is_there c.truncate.new.self) =
+    subst (λ l. length l + length (filter is_there c.unwind.new.rows) ≤ length b.log.items + length (filter is_there c.truncate.new.self))
+    c.unwind.ensures.log c.unwind.ensures.fits in
+    let rows_fit : length log + length (filter is_there undone) ≤ length b.log.items + length (filter is_there older) =
+    subst (λ ss. length log + length (filter is_there ss) ≤ length b.log.items + length (filter is_there older)) (left c)
+    (subst (λ ss. length log + length (filter is_there c.unwind.new.rows) ≤ length b.log.items + length (filter is_there ss))
+    c.truncate.ensures log_fits) in
+    let fits : length log + length (filter is_there undone) ≤ more =
+    omega (arith, rows_fit, fewer_there is_there (is_older top.next) b.rows, c.self.invariant.fits, c.unwind.ensures.room) in
+    subst (λ l. IsSound c.unwind.new.rows top.next l more c.pop.new.self.items) (sym c.unwind.ensures.log)
+    (subst (λ ss. IsSound ss top.next log more c.pop.new.self.items) (sym (left c))
+    (sound-undone b.rows b.next b.log.items (vec_capacity b.log) more b.marks.items c.pop.new.self.items top
+    c.self.invariant c.in-Some.ensures.items fits))
 
 pub returns-in-Some-clause-back : goal.returns-in-Some-clause-back
 returns-in-Some-clause-back c =
-    subst (λ old. IsUndone old (stock_of c.go_back.new.slots.items c.in-Some.top.next (nexts c.pop.new.self.items))) c.self.view_is
-    (stock-undone c.self.inside.slots.items c.go_back.new.slots.items c.self.inside.next c.self.inside.marks.items
-    c.pop.new.self.items c.in-Some.top c.self.invariant c.in-Some.ensures.items (left c))
+    let b = c.self.inside in
+    let top = c.in-Some.top in
+    subst (λ old. IsUndone old (stock_of c.unwind.new.rows top.next c.pop.new.self.items)) c.self.view_is
+    (subst (λ ss. IsUndone (stock_of b.rows b.next b.marks.items) (stock_of ss top.next c.pop.new.self.items)) (sym (left c))
+    (stock-undone b.rows b.next b.log.items (vec_capacity b.log) b.marks.items c.self.invariant c.pop.new.self.items top
+    c.in-Some.ensures.items))

@@ -1,0 +1,35 @@
+-- Pairs of a code and an age, in order.
+use Rattle.std.proofs.Common.{◌≡◌, ◌≢◌, ◌≤◌, ℕ, false, List, ◌∷◌, slice_get, IsTrue, subst, arith}
+use Rattle.std.specs.BTreeMap.{is_at}
+use Rattle.std.specs.BTreeSet.{BTreeSet, contains, IsKeyInRange, IsKeyRangeOf}
+use Rattle.std.specs.declared.ops.Bound.TheVariants.{Included, Unbounded}
+use Rattle.std.specs.Option.{IfSome}
+use Rattle.std.specs.BTreeMap.Range.{IsLeBy}
+use Rattle.std.proofs.lemmas.Bool.Decides.{nat_tests}
+use Rattle.tc_bag.specs.Ages.{pair_cmp}
+
+-- pairs of other ages differ
+pub apart : (c a d b : ℕ) → a ≢ b → is_at (pair_cmp (c, a)) (d, b) ≡ false
+apart c a d b other = grind (arith, nat_tests)
+
+-- the order within a code
+pub within : (c a b : ℕ) → a ≤ b → IsLeBy pair_cmp (c, a) (c, b)
+within c a b up = grind (arith, nat_tests)
+
+pub within_back : (c a b : ℕ) → IsLeBy pair_cmp (c, a) (c, b) → a ≤ b
+within_back c a b up = grind (arith, nat_tests)
+
+-- what is between two pairs of a code has that code
+pub between : (c a d b e : ℕ) → IsLeBy pair_cmp (c, a) (d, b) → IsLeBy pair_cmp (d, b) (c, e) → c ≡ d
+between c a d b e up down = grind (arith, nat_tests)
+
+module _ (set : BTreeSet (ℕ × ℕ)) (c from : ℕ) (r rest : List (ℕ × ℕ)) (first : ℕ × ℕ) (split : r ≡ first ∷ rest)
+    (range : IsKeyRangeOf pair_cmp (Included (c, from)) Unbounded set r) where
+  -- the first pair of a range is not below its start
+  pub range_start : IsLeBy pair_cmp (c, from) first
+  range_start = (subst (λ s. IfSome (slice_get s 0) (IsKeyInRange pair_cmp (Included (c, from)) Unbounded set)) split range.1).0.0
+
+  -- and not above any other
+  pub range_least : (a : ℕ) → from ≤ a → IsTrue (contains pair_cmp set (c, a)) → IsLeBy pair_cmp first (c, a)
+  range_least a up has =
+      subst (λ s. IfSome (slice_get s 0) (λ k. IsLeBy pair_cmp k (c, a))) split (range.2 (c, a) (within c from a up, tt) has)

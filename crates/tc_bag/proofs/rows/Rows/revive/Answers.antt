@@ -1,0 +1,11 @@
+use Rattle.tc_bag.proofs.Entries.{map-revived, map-not_revived}
+use Rattle.std.proofs.Common.{◌∙◌, arith}
+use Rattle.tc_bag.proofs.rows.Rows.revive.Goals as goal
+
+pub returns-then-taken-n : goal.returns-then-taken-n
+returns-then-taken-n c =
+    c.set_taken.ensures ∙ map-revived c.args.age c.args.n c.taken.result c.args.self.now c.if-taken-n.true c.taken.ensures
+
+pub returns-else-taken-n : goal.returns-else-taken-n
+returns-else-taken-n c =
+    map-not_revived c.args.age c.args.n c.taken.result c.args.self.now (λ more. absurd (omega (arith, more, c.if-taken-n.false))) c.taken.ensures

@@ -1,0 +1,18 @@
+-- Held rows as slots.
+use Rattle.std.specs.Prelude.{ℕ, List, map}
+use Rattle.tc_bag.specs.declared.index.Index.{Index}
+use Rattle.tc_bag.specs.declared.slots.Held.{Held}
+use Rattle.tc_bag.specs.Ages.{HasRow}
+use Rattle.tc_bag.specs.Slots.{Slot}
+
+-- the slot of a row that is held by its age
+abbrev pub slot_of : ℕ × Held → Slot
+slot_of e = record { age = e.0; tuple = e.1.tuple; taken = e.1.taken }
+
+-- the slots of rows that are held by their ages
+abbrev pub slots_of : List (ℕ × Held) → List Slot
+slots_of es = map slot_of es
+
+-- the index has the row
+abbrev pub IsIndexed : Index → Slot → Type 0
+IsIndexed index s = HasRow index s.age s.tuple

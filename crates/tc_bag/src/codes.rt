@@ -1,0 +1,83 @@
+//! Codes of terms: numbers by which rows are looked up. Terms of one code may differ.
+ghost use Rattle.std.specs.Prelude.{◌≡◌, ◌+◌, ◌*◌, ◌%◌, ◌^◌};
+ghost use Rattle.std.specs.List.{fold};
+ghost use Rattle.std.specs.Option.{option_map};
+ghost use Rattle.tc_term.specs.TreeView.{tree_of};
+ghost use Rattle.tc_bag.specs.Keys.{key_of};
+ghost use Rattle.tc_bag.specs.Codes.{mixed, key_code, top_code, first_code, code_like};
+
+use crate::key::Key;
+use tc_term::{Ground, Term};
+
+/// The code of a tuple's key.
+pub(crate) fn tuple_code(t: &Term) -> u64
+    ensures { result ≡ key_code (key_of (tree_of t.now)) }
+{
+    match t {
+        Term::Int(_) => 1,
+        _ => top_code(t),
+    }
+}
+
+/// The code of a term's key and first argument, where it has arguments.
+pub(crate) fn first_code(t: &Term) -> Option<u64>
+    ensures { result ≡ first_code (tree_of t.now) }
+{
+    let Term::Comp(_, args) = t else {
+        return None;
+    };
+    Some(mix(top_code(t), top_code(&args.items()[0])))
+}
+
+/// The code of the tuples with a key and, where one is given, a first argument.
+pub(crate) fn code_like(key: &Key, first: Option<&Term>) -> u64
+    ensures { result ≡ code_like key.now (option_map (λ term. tree_of term.now) first.entry) }
+{
+    let code = key_code(key);
+    match first {
+        None => code,
+        Some(term) => mix(code, top_code(term)),
+    }
+}
+
+// The code of a key.
+fn key_code(key: &Key) -> u64
+    ensures { result ≡ key_code key.now }
+{
+    match key {
+        Key::Any => 0,
+        Key::Int => 1,
+        Key::Atom(name) => mix_all(2, name.bytes()),
+        Key::Comp(name, count) => mix_all(mix(3, u64::from(*count)), name.bytes()),
+    }
+}
+
+// The code of a term without its arguments.
+fn top_code(t: &Term) -> u64
+    ensures { result ≡ top_code (tree_of t.now) }
+{
+    match t {
+        Term::Var(_) => 0,
+        Term::Int(n) => mix(1, n.unsigned_abs()),
+        Term::Atom(name) => mix_all(2, name.bytes()),
+        Term::Comp(name, args) => mix_all(mix(3, args.items().len() as u64), name.bytes()),
+    }
+}
+
+// A code and bytes behind it.
+fn mix_all(code: u64, bytes: &[u8]) -> u64
+    ensures { result ≡ fold mixed code bytes.now }
+{
+    let mut all = code;
+    for byte in bytes {
+        all = mix(all, u64::from(*byte));
+    }
+    all
+}
+
+// A code and a number behind it.
+fn mix(code: u64, n: u64) -> u64
+    ensures { result ≡ mixed code n }
+{
+    code.wrapping_mul(0x9e37_79b9_7f4a_7c15).wrapping_add(n)
+}
