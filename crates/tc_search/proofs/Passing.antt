@@ -4,6 +4,8 @@ use Rattle.std.proofs.lemmas.Bool.{cases_lt}
 use Rattle.std.proofs.lemmas.List.{map-append}
 use Rattle.std.proofs.lemmas.List.Elements.{All-head, All-weaker, All-append, All-cons, All-map}
 use Rattle.tc_lists.specs.Firsts.{NoneOf, IsFirst}
+use Rattle.tc_lists.proofs.Elements.{All-append_left, All-append_right}
+use Rattle.tc_lists.proofs.Firsts.{NoneOf-from_All, All-from_NoneOf}
 use Rattle.std.specs.Borrow.{Bor}
 use Rattle.std.specs.Option.{option_map}
 use Rattle.tc_term.specs.declared.terms.Term.{Term}
@@ -15,7 +17,6 @@ use Rattle.tc_bag.specs.Keys.{key_of, known_first, Agrees, HasFirst, IsLike}
 use Rattle.tc_bag.specs.Stock.{Row, Rises, tuples_of, tuple_at, without_age}
 use Rattle.tc_bag.proofs.Agreement.{Agrees-match, HasFirst-match}
 use Rattle.tc_bag.proofs.Ages.{Rises-below, others_before, without_age-at, tuple_at-at}
-use Rattle.tc_bag.proofs.Firsts.{NoneOf-from_All, All-from_NoneOf, All-front, All-back}
 use Rattle.tc_search.specs.Found.{IsFound}
 
 -- the rows behind a row are younger
@@ -32,7 +33,7 @@ pub candidate_below : (Q : Tree → Type 0) (from next : ℕ) (rows : List Row) 
     → IsFirst (IsAmong Q from) rows row → row.age < next
 candidate_below Q from next rows row rises first =
     All-head (λ r. r.age < next) row first.behind
-    (All-back (λ r. r.age < next) first.before (row ∷ first.behind)
+    (All-append_right (λ r. r.age < next) first.before (row ∷ first.behind)
     (subst (All (λ r. r.age < next)) first.split (Rises-below rows next rises)))
 
 module _ (P : Tree → Type 0) where
@@ -51,10 +52,10 @@ module _ (P : Tree → Type 0) where
       let before = first.before in
       let front = row ∷ first.behind in
       let passed_front : All (λ r. r.age < from → P r.tuple → ⊥) before =
-      All-front (λ r. r.age < from → P r.tuple → ⊥) before front
+      All-append_left (λ r. r.age < from → P r.tuple → ⊥) before front
       (subst (All (λ r. r.age < from → P r.tuple → ⊥)) first.split passed) in
       let keys_front : All (λ r. P r.tuple → Q r.tuple) before =
-      All-front (λ r. P r.tuple → Q r.tuple) before front
+      All-append_left (λ r. P r.tuple → Q r.tuple) before front
       (subst (All (λ r. P r.tuple → Q r.tuple)) first.split keys) in
       let none = All-from_NoneOf (IsAmong Q from) before first.none in
       λ k d inside has. elim (cases_lt (get_or before k d).age from) [
