@@ -1,16 +1,19 @@
 -- Histories that grow by several entries.
 use Rattle.std.proofs.Common.{◌≡◌, ◌++◌, ◌<◌, ℕ, List, [], ◌∷◌, All, ◌+◌, ◌-◌, length, length-append, take, drop, append_assoc, sym, ap, subst, ◌∙◌, ◌≤◌, arith}
 use Rattle.std.proofs.Math.Seq.{drop-append_seam, take-append_seam, drop-append-add}
-use Rattle.std.proofs.lemmas.List.{take_all}
+use Rattle.std.proofs.lemmas.List.{take_all, take-append-drop, length-drop}
 use Rattle.std.proofs.lemmas.List.Elements.{All-append}
+use Rattle.std.proofs.lemmas.List.Sums.{sum_by-append}
 use Rattle.tc_model.specs.Calls.{id_of, calls_of}
+use Rattle.tc_model.specs.Entries.{weight, weight_of}
 use Rattle.tc_model.specs.Replies.{reply_of, reply_in}
 use Rattle.tc_model.specs.declared.calls.CallId.{CallId}
 use Rattle.tc_model.specs.declared.calls.Op.{Op}
 use Rattle.tc_model.specs.declared.entries.Entry.{Entry}
 use Rattle.tc_model.specs.declared.entries.Entry.TheVariants.{Called}
-use Rattle.tc_centre.specs.Held.{Answers, Calls, Grows}
+use Rattle.tc_centre.specs.Held.{Answers, Calls, Grows, IsLonger, Keeps}
 use Rattle.tc_centre.specs.Turns.{IsGave}
+use Rattle.tc_centre.specs.declared.holdings.Holdings.{Holdings}
 use Rattle.tc_centre.proofs.FreshReplies.{outcome_in-fresh}
 
 pub answers-more : (a b c : List Entry) → Answers a b → Answers b c → Answers a c
@@ -18,6 +21,20 @@ answers-more a b c first then = record {
   gaves = first.gaves ++ then.gaves;
   answers = All-append IsGave first.gaves then.gaves first.answers then.answers;
   history = then.history ∙ ap (λ es. es ++ then.gaves) first.history ∙ append_assoc a first.gaves then.gaves;
+}
+
+pub longer-more : (a b c : List Entry) → IsLonger a b → IsLonger b c → IsLonger a c
+longer-more a b c first then = record {
+  more = first.more ++ then.more;
+  history = then.history ∙ ap (λ es. es ++ then.more) first.history ∙ append_assoc a first.more then.more;
+}
+
+pub keeps-more : (a b c : Holdings) → Keeps a b → Keeps b c → Keeps a c
+keeps-more a b c first then = record {
+  founding = then.founding ∙ first.founding;
+  bag = then.bag ∙ first.bag;
+  pending = then.pending ∙ first.pending;
+  longer = longer-more a.history.items b.history.items c.history.items first.longer then.longer;
 }
 
 -- what stands behind the old list in the grown one
@@ -60,3 +77,14 @@ module _ (id : CallId) (op : Op) (old new : List Entry) (n : ℕ) (start : n ≡
       (sym (ap (λ m. drop (m + 1) new) start ∙ ap (drop (length old + 1)) grown.history
       ∙ drop-append-add old (Called id op grown.result grown.items ∷ grown.gaves) 1))
       grown.answers
+
+-- what a grown history weighs
+pub weight-grown : (old new : List Entry) (n k w : ℕ) → take n new ≡ old → k ≡ weight old → w ≡ weight (drop n new) → k + w ≡ weight new
+weight-grown old new n k w before weighs more =
+    ap (λ x. x + w) (weighs ∙ ap weight (sym before)) ∙ ap (λ x. weight (take n new) + x) more
+    ∙ sym (sum_by-append weight_of (take n new) (drop n new)) ∙ ap weight (take-append-drop n new)
+
+-- what stands behind the first so many
+pub slice-whole : (new whole : List Entry) (n : ℕ) → whole ≡ new → take (length whole - n) (drop n whole) ≡ drop n new
+slice-whole new whole n same =
+    take_all (length whole - n) (drop n whole) (omega (arith, length-drop n whole)) ∙ ap (drop n) same

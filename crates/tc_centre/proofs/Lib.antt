@@ -10,4 +10,7 @@ pub mod Called
 pub mod Turned
 pub mod Indexed
 pub mod Noting
-pub mod TestLists
+pub mod Typed
+pub mod Owned
+pub mod Numbered
+pub mod Known

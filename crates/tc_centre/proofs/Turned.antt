@@ -12,12 +12,15 @@ use Rattle.tc_model.specs.declared.calls.Request.{Request}
 use Rattle.tc_model.specs.declared.entries.Entry.{Entry}
 use Rattle.tc_model.specs.declared.entries.Entry.TheVariants.{Called, Looked}
 use Rattle.tc_centre.specs.Centre.{Centre}
-use Rattle.tc_centre.specs.Held.{origin_of, IsSettled, Grows}
+use Rattle.tc_centre.specs.Held.{origin_of, IsSettled, IsAtRest, IsSame, Keeps, Grows}
 use Rattle.tc_centre.specs.Places.{IsIndex}
 use Rattle.tc_centre.specs.Turns.{IsAnswer, Serves, IsPoll, Tells}
 use Rattle.tc_centre.specs.declared.answers.Answer.{Answer}
 use Rattle.tc_centre.specs.declared.answers.Poll.{Poll}
 use Rattle.tc_centre.specs.declared.founding.Founding.{Founding}
+use Rattle.tc_centre.specs.declared.holdings.Holdings.{Holdings}
+use Rattle.tc_bag.specs.Stock.{Stock}
+use Rattle.tc_pending.specs.Waiting.{Waiting}
 use Rattle.tc_centre.proofs.Entries.{weight-push}
 use Rattle.tc_centre.proofs.Called.{looked}
 use Rattle.tc_centre.proofs.Indexed.{index-looked}
@@ -85,3 +88,22 @@ module _ (f : Founding) (old new : List Entry) (rows : List Row) (n : ℕ) (requ
       let P : Centre → Type 0 = λ k. IsNext k.origin k.history id in
       subst (IsIndex f) (sym grown)
       (index-looked old id asked (reply_in old (earlier id asked)) f (subst P (sym view) next).number index)
+
+module _ (old new : Holdings) where
+  -- a turn has been served
+  pub serves-held : (centre : Centre) (id : CallId) (op : Op) (answer : Answer)
+      → centre_with old.founding old.history.items ≡ centre → Keeps old new
+      → Grows id op old.history.items new.history.items → IsAtRest new → IsAnswer (reply_in new.history.items id) answer
+      → Serves centre (centre_with new.founding new.history.items) id op answer
+  serves-held centre id op answer view keeps grown rest told =
+      let f = new.founding in
+      serves f old.history.items new.history.items new.bag.now new.bag.next new.pending.now centre id
+      (ap (λ g. centre_with g old.history.items) keeps.founding ∙ view) op answer grown rest told
+
+  -- what is as before is at rest as before
+  pub same-rest : IsSame old new → IsAtRest old → IsAtRest new
+  same-rest same rest =
+      subst (λ f. IsSettled (origin_of f) new.history.items new.bag.now new.bag.next new.pending.now) (sym same.founding)
+      (subst (λ (b : Stock). IsSettled (origin_of old.founding) new.history.items b.now b.next new.pending.now) (sym same.bag)
+      (subst (λ (w : Waiting). IsSettled (origin_of old.founding) new.history.items old.bag.now old.bag.next w.now) (sym same.pending)
+      (subst (λ es. IsSettled (origin_of old.founding) es old.bag.now old.bag.next old.pending.now) (sym same.history) rest)))

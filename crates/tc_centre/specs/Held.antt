@@ -1,7 +1,9 @@
 -- What a centre holds between two entries of its history.
-use Rattle.std.specs.Prelude.{◌≡◌, ℕ, ◌+◌, ◌*◌, ◌≤◌, List, [], ◌∷◌, ◌++◌, All, length}
+use Rattle.std.specs.Prelude.{◌≡◌, ℕ, ◌+◌, ◌*◌, ◌<◌, ◌≤◌, List, [], ◌∷◌, ◌++◌, All, Contains, length, take}
 use Rattle.tc_bag.specs.Stock.{Row, tuples_of}
 use Rattle.tc_model.specs.Entries.{weight}
+use Rattle.tc_model.specs.Typed.{IsTyped}
+use Rattle.tc_model.specs.declared.limits.TheConstants.{MOST_TUPLES, MOST_WEIGHT}
 use Rattle.tc_model.specs.Run.{IsFirstRun}
 use Rattle.tc_model.specs.State.{State, Origin, IsQuiescent, opening, after_history}
 use Rattle.tc_model.specs.declared.calls.CallId.{CallId}
@@ -13,6 +15,9 @@ use Rattle.tc_model.specs.declared.entries.Entry.{Entry}
 use Rattle.tc_model.specs.declared.entries.Entry.TheVariants.{Called}
 use Rattle.tc_centre.specs.Turns.{IsGave}
 use Rattle.tc_centre.specs.declared.founding.Founding.{Founding}
+use Rattle.tc_pending.specs.Answers.{IsKnown}
+use Rattle.tc_pending.specs.declared.answering.Known.{Known}
+use Rattle.tc_centre.specs.declared.holdings.Holdings.{Holdings}
 
 -- what a centre began with: it has no clauses
 abbrev pub origin_of : Founding → Origin
@@ -32,8 +37,8 @@ held rows requests = record { tuples = tuples_of rows; clauses = []; pending = r
 pub record IsHeld (origin : Origin) (history : List Entry) (rows : List Row) (next : ℕ) (requests : List Request) : Type 0 where
   pub run : IsFirstRun origin history
   pub state : held rows requests ≡ after_history (opening origin) history
-  pub light : weight history + length requests * (origin.budget + 1) ≤ 4000000
-  pub ages : next ≤ 16777216 + 65 * weight history
+  pub light : weight history + length requests * (origin.budget + 1) ≤ MOST_WEIGHT
+  pub ages : next ≤ MOST_TUPLES + 65 * weight history
 
 -- and no request can be answered
 pub record IsSettled (origin : Origin) (history : List Entry) (rows : List Row) (next : ℕ) (requests : List Request) : Type 0 where
@@ -60,7 +65,58 @@ pub record Grows (id : CallId) (op : Op) (old new : List Entry) : Type 0 where
   pub answers : All IsGave gaves
   pub history : new ≡ old ++ Called id op result items ∷ gaves
 
+-- the run of what is held
+abbrev pub HoldsRun : Holdings → Type 0
+HoldsRun h = IsHeld (origin_of h.founding) h.history.items h.bag.now h.bag.next h.pending.now
+
+-- and no request can be answered
+abbrev pub IsAtRest : Holdings → Type 0
+IsAtRest h = IsSettled (origin_of h.founding) h.history.items h.bag.now h.bag.next h.pending.now
+
+-- there is room for another call, and for all answers to which it may lead
+abbrev pub HasRoom : Holdings → Type 0
+HasRoom h = weight h.history.items + (length h.pending.now + 2) * (h.founding.budget + 1) ≤ MOST_WEIGHT
+
+-- the state that is held
+abbrev pub state_held : Holdings → State
+state_held h = held h.bag.now h.pending.now
+
 -- entries were appended
 pub record IsLonger (old new : List Entry) : Type 0 where
   pub more : List Entry
   pub history : new ≡ old ++ more
+
+-- what no step of a turn changes: what the centre began with, the marks, and the entries so far
+pub record Keeps (old new : Holdings) : Type 0 where
+  pub founding : new.founding ≡ old.founding
+  pub bag : new.bag.saved ≡ old.bag.saved
+  pub pending : new.pending.saved ≡ old.pending.saved
+  pub longer : IsLonger old.history.items new.history.items
+
+-- no row below this age is there that wasn't
+abbrev pub AddsNone : ℕ → List Row → List Row → Type 0
+AddsNone age old new = (row : Row) → Contains new row → row.age < age → Contains old row
+
+-- what is new are younger rows, and requests behind the others
+pub record KeepsOld (old new : Holdings) : Type 0 where
+  pub rows : AddsNone old.bag.next old.bag.now new.bag.now
+  pub requests : take (length old.pending.now) new.pending.now ≡ old.pending.now
+
+-- what is known where no request can be answered
+abbrev pub known_of : Holdings → Known
+known_of h = record { requests = length h.pending.now; age = h.bag.next }
+
+-- the same of requests and rows as they are then
+abbrev pub Knows : Known → Holdings → Type 0
+Knows known h = IsKnown known h.bag.now h.pending.now × (known.requests ≤ length h.pending.now)
+
+-- where the entries are typed, they stay so
+abbrev pub KeepsTyped : Holdings → Holdings → Type 0
+KeepsTyped old new = All IsTyped old.history.items → All IsTyped new.history.items
+
+-- all is as before
+pub record IsSame (old new : Holdings) : Type 0 where
+  pub founding : new.founding ≡ old.founding
+  pub bag : new.bag ≡ old.bag
+  pub pending : new.pending ≡ old.pending
+  pub history : new.history.items ≡ old.history.items

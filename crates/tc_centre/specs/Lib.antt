@@ -4,3 +4,5 @@ pub mod Held
 pub mod Operations
 pub mod Places
 pub mod Core
+pub mod Owners
+pub mod Numbers

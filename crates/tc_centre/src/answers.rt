@@ -1,5 +1,6 @@
 //! What a centre answers to a call and to a look.
 use tc_model::Reply;
+use thiserror::Error;
 
 /// The answer to a call.
 #[derive(Drop)]
@@ -10,10 +11,13 @@ pub enum Answer {
 }
 
 /// Why a call was not served. The centre is as before.
-#[derive(Debug, Drop)]
+#[derive(Debug, Drop, Error)]
 pub enum TurnFault {
     /// The history is too heavy for another call, with so many requests that wait.
+    #[error("the history is full: it weighs {weight}, and {pending} requests wait")]
     Full { weight: u64, pending: u64 },
+    /// Memory ended.
+    #[error("out of memory")]
     NoMemory,
 }
 
@@ -27,11 +31,15 @@ pub enum Poll {
 }
 
 /// Why a look was refused. The centre is as before.
-#[derive(Debug, Drop)]
+#[derive(Debug, Drop, Error)]
 pub enum PollFault {
     /// The agent has made no call of that number.
+    #[error("no such call")]
     Stranger,
     /// The history is too heavy for another entry, with so many requests that wait.
+    #[error("the history is full: it weighs {weight}, and {pending} requests wait")]
     Full { weight: u64, pending: u64 },
+    /// Memory ended.
+    #[error("out of memory")]
     NoMemory,
 }

@@ -1,36 +1,34 @@
 //! The centre and its history.
-ghost use Rattle.std.specs.Prelude.{◌≡◌, ◌↔◌, ◌+◌, ◌*◌, ◌<◌, ◌≤◌, [], ◌∷◌, ◌++◌, IsTrue, IfOk, OnOk, OnErr};
+ghost use Rattle.std.specs.Prelude.{◌≡◌, ◌↔◌, ◌+◌, ◌*◌, ◌<◌, ◌≤◌, [], ◌∷◌, ◌++◌, All, IsTrue, IfOk, OnOk, OnErr};
 ghost use Rattle.tc_model.specs.Replies.{reply_in};
+ghost use Rattle.tc_model.specs.Typed.{IsTyped};
+ghost use Rattle.tc_model.specs.declared.limits.TheConstants.{MOST_BUDGET, MOST_WEIGHT};
 ghost use Rattle.tc_model.specs.Run.{HasCall, earlier};
 ghost use Rattle.tc_centre.specs.Places.{place_in, IsIndex};
 ghost use Rattle.tc_centre.specs.Turns.{IsPoll};
 
 use crate::answers::{Answer, Poll, PollFault, TurnFault};
 use crate::founding::{Founding, fill};
+use crate::holdings::Holdings;
+use crate::numbers::{no_numbers, note_number};
 use crate::places::{Places, has_call, note_turn, reply_to_call};
-use crate::serving::guarded;
+use crate::serving::{guarded, typed_id};
 use crate::weights::weigh;
 use std::alloc::Global;
 use std::marker::Model;
 use std::snapshot::Snapshot;
-use tc_bag::Bag;
 use tc_lists::NoMemory;
-use tc_model::{CallId, Entry, Op, Reply, Request};
+use tc_model::{CallId, Entry, MOST_WEIGHT, Op, Reply, Request};
 use tc_pending::Pending;
 use tc_term::{Ground, Name};
-
-// What a history may weigh.
-const MOST: u64 = 4_000_000;
 
 /// A tuple centre: what it began with, its tuples, the requests that wait, and its history, with the
 /// places in it that tell what became of its calls.
 #[derive(Drop)]
 pub struct Core {
-    founding: Founding,
-    bag: Bag,
-    pending: Pending,
-    history: Vec<Entry>,
+    held: Holdings,
     places: Places,
+    numbers: Vec<Option<u64>>,
     weight: u64,
 }
 
@@ -51,12 +49,15 @@ impl Model for Core {
 }
 
 impl Core {
-    ghost use Rattle.std.specs.Prelude.{◌≡◌, ◌≤◌, ◌↔◌, ◌^◌, ◌<◌, slice_get, map, IsTrue, IfOk, IfErr, OnErr};
+    ghost use Rattle.std.specs.Prelude.{◌≡◌, ◌≤◌, ◌↔◌, ◌^◌, ◌<◌, ℕ, All, length, slice_get, map, IsTrue, IfOk, IfErr, OnErr};
     ghost use Rattle.std.specs.Option.{option_copied};
     ghost use Rattle.tc_model.specs.Replies.{reply_in};
+    ghost use Rattle.tc_model.specs.declared.limits.TheConstants.{MOST_WEIGHT};
     ghost use Rattle.tc_model.specs.State.{IsOrigin, IsQuiescent};
     ghost use Rattle.tc_model.specs.Run.{IsNext, IsRun, IsFirstRun, HasCall, earlier};
     ghost use Rattle.tc_centre.specs.Centre.{centre_from, state_of, weight_in, waiting_in, IsFullCentre};
+    ghost use Rattle.tc_model.specs.Typed.{IsTyped};
+    ghost use Rattle.tc_centre.specs.Numbers.{IsLast, IsAbove};
     ghost use Rattle.tc_centre.specs.Turns.{IsOnTuples, Serves, IsRefused, Tells, IsPollRefused};
 
     /// A centre of these tuples, oldest first, with an empty history and no clauses.
@@ -76,13 +77,18 @@ impl Core {
             budget,
             tuples: Snapshot::of(&tuples),
         };
+        let numbers = no_numbers(alloc, founding.agents.len())?;
         let bag = fill(alloc, tuples)?;
-        Ok(Core {
+        let held = Holdings {
             founding,
             bag,
             pending: Pending::new(alloc),
             history: Vec::new(alloc),
+        };
+        Ok(Core {
+            held,
             places: Places::new(alloc),
+            numbers,
             weight: 0,
         })
     }
@@ -90,8 +96,9 @@ impl Core {
     /// Serves a call: appends its entry, and then answers the requests that can be answered, the
     /// oldest first, each with the oldest tuple that matches.
     ///
-    /// Where the history is too heavy for another call, it is refused. Takes time in proportion to
-    /// the tuples and the requests that wait, however long the history is.
+    /// Where the history is too heavy for another call, it is refused. Takes the time of one search
+    /// among the tuples where one is asked for, some nanoseconds for each request that waits where a
+    /// tuple is put, and that of the answers, however long the history is.
     pub fn turn(&mut self, alloc: Global, id: CallId, op: Op) -> Result<Answer, TurnFault>
         requires next { IsNext self.old.origin self.old.history id }
         requires tuples { IsOnTuples op }
@@ -101,8 +108,8 @@ impl Core {
             → result ≡ Err (TurnFault.Full (weight_in self.old) (waiting_in self.old)) }
         ensures same { OnErr result (self.new ≡ self.old) }
     {
-        let waiting = self.pending.list().len() as u64;
-        if is_full(self.weight, waiting, self.founding.budget) {
+        let waiting = self.held.pending.list().len() as u64;
+        if is_full(self.weight, waiting, self.held.founding.budget) {
             return Err(TurnFault::Full {
                 weight: self.weight,
                 pending: waiting,
@@ -111,19 +118,12 @@ impl Core {
         if self.places.reserve(1).is_err() {
             return Err(TurnFault::NoMemory);
         }
-        let before = self.history.len();
-        match guarded(
-            alloc,
-            &self.founding,
-            id,
-            op,
-            &mut self.bag,
-            &mut self.pending,
-            &mut self.history,
-        ) {
+        let before = self.held.history.len();
+        match guarded(alloc, &mut self.held, id, op) {
             Ok(answer) => {
-                self.weight += weigh(&self.history[before..]);
-                note_turn(&mut self.places, &self.history, before);
+                self.weight += weigh(&self.held.history[before..]);
+                note_turn(&mut self.places, &self.held.history, before);
+                note_number(&mut self.numbers, id);
                 Ok(answer)
             }
             Err(_) => Err(TurnFault::NoMemory),
@@ -147,19 +147,20 @@ impl Core {
             agent: id.agent,
             number: asked,
         };
-        if !has_call(&self.places, &self.history, call) {
+        if !has_call(&self.places, &self.held.history, call) {
             return Err(PollFault::Stranger);
         }
-        let waiting = self.pending.list().len() as u64;
-        if is_full(self.weight, waiting, self.founding.budget) {
+        let waiting = self.held.pending.list().len() as u64;
+        if is_full(self.weight, waiting, self.held.founding.budget) {
             return Err(PollFault::Full {
                 weight: self.weight,
                 pending: waiting,
             });
         }
-        match look_up(alloc, id, asked, &self.places, &mut self.history) {
+        match look_up(alloc, id, asked, &self.places, &mut self.held.history) {
             Ok(poll) => {
                 self.weight += 1;
+                note_number(&mut self.numbers, id);
                 Ok(poll)
             }
             Err(_) => Err(PollFault::NoMemory),
@@ -172,7 +173,7 @@ impl Core {
         requires { HasCall id self.now.history }
         ensures { IfOk result (λ reply. reply ≡ reply_in self.now.history id) }
     {
-        reply_to_call(alloc, &self.places, &self.history, id)
+        reply_to_call(alloc, &self.places, &self.held.history, id)
     }
 
     /// The entries so far, oldest first.
@@ -182,16 +183,17 @@ impl Core {
         ensures run { IsRun self.now.origin self.now.history }
         ensures first { IsFirstRun self.now.origin self.now.history }
         ensures quiescent { IsQuiescent (state_of self.now) }
-        ensures light { weight_in self.now ≤ 4000000 }
+        ensures typed { All IsTyped self.now.history }
+        ensures light { weight_in self.now ≤ MOST_WEIGHT }
     {
-        &self.history
+        &self.held.history
     }
 
     /// The requests that wait, oldest first.
     pub fn pending(&self) -> &[Request]
         ensures { result.now ≡ (state_of self.now).pending }
     {
-        self.pending.list()
+        self.held.pending.list()
     }
 
     /// What the history weighs: each entry 1, and 1 for each of its reactions.
@@ -201,36 +203,64 @@ impl Core {
         self.weight
     }
 
+    /// Whether the history has this call. Takes about the same time however long the history is.
+    pub fn has_call(&self, id: CallId) -> bool
+        ensures { IsTrue result ↔ HasCall id self.now.history }
+    {
+        has_call(&self.places, &self.held.history, id)
+    }
+
+    /// The greatest number of the agent's entries; `None` where it has made none. Takes O(1) time.
+    ///
+    /// A greater number is one for the agent's next call.
+    pub fn last_number(&self, agent: u32) -> Option<u64>
+        ensures last { IsLast agent self.now.history result }
+        ensures next { (number : ℕ) → agent < length self.now.origin.agents → IsAbove result number
+            → IsNext self.now.origin self.now.history (record { agent = agent; number = number }) }
+    {
+        match self.numbers.get(agent as usize) {
+            Some(number) => *number,
+            None => None,
+        }
+    }
+
+    /// How many tuples there are. Takes O(1) time.
+    pub fn tuples(&self) -> usize
+        ensures { result ≡ length (state_of self.now).tuples }
+    {
+        self.held.bag.len()
+    }
+
     /// The tuple of this place, from 0, oldest first.
     pub fn tuple(&self, i: usize) -> Option<&Ground>
         ensures { option_copied result ≡ slice_get (state_of self.now).tuples i }
     {
-        self.bag.nth(i)
+        self.held.bag.nth(i)
     }
 
     /// The centre's name.
     pub fn name(&self) -> &Name
         ensures { result.now ≡ self.now.origin.name }
     {
-        &self.founding.name
+        &self.held.founding.name
     }
 
     /// The names of the agents, in the order of their numbers.
     pub fn agents(&self) -> &[Name]
         ensures { result.now ≡ self.now.origin.agents }
     {
-        &self.founding.agents
+        &self.held.founding.agents
     }
 }
 
 // Another call, with all the answers that it may lead to, could make the history too heavy.
 fn is_full(weight: u64, waiting: u64, budget: u32) -> bool
-    requires weight { weight ≤ 4000000 }
-    requires waiting { waiting ≤ 4000000 }
-    requires budget { budget ≤ 10000 }
-    ensures { IsTrue result ↔ (4000000 < weight + (waiting + 2) * (budget + 1)) }
+    requires weight { weight ≤ MOST_WEIGHT }
+    requires waiting { waiting ≤ MOST_WEIGHT }
+    requires budget { budget ≤ MOST_BUDGET }
+    ensures { IsTrue result ↔ (MOST_WEIGHT < weight + (waiting + 2) * (budget + 1)) }
 {
-    weight + (waiting + 2) * (budget as u64 + 1) > MOST
+    weight + (waiting + 2) * (budget as u64 + 1) > MOST_WEIGHT
 }
 
 // Appends an entry of what an earlier call came to, and tells it.
@@ -243,11 +273,15 @@ fn look_up(
 ) -> Result<Poll, NoMemory>
     requires places { IsIndex (place_in places.now) history.old.items }
     requires called { HasCall (earlier id asked) history.old.items }
+    requires typed { All IsTyped history.old.items }
     ensures poll { IfOk result (IsPoll (reply_in history.old.items (earlier id asked))) }
     ensures appended { OnOk result (history.new.items ≡ history.old.items
         ++ Entry.Looked id asked (reply_in history.old.items (earlier id asked)) ∷ []) }
+    ensures typed { OnOk result (IsTyped
+        (Entry.Looked id asked (reply_in history.old.items (earlier id asked)))) }
     ensures same { OnErr result (history.new.items ≡ history.old.items) }
 {
+    typed_id(id);
     let call = CallId {
         agent: id.agent,
         number: asked,

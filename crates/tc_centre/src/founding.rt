@@ -1,6 +1,7 @@
 //! What a centre begins with.
 ghost use Rattle.std.specs.Prelude.{◌≡◌, ◌≤◌, ◌^◌, [], length, IfOk};
 ghost use Rattle.tc_bag.specs.Stock.{tuples_of};
+ghost use Rattle.tc_model.specs.declared.limits.TheConstants.{MOST_TUPLES};
 
 use std::alloc::Global;
 use std::snapshot::Snapshot;
@@ -19,7 +20,7 @@ pub struct Founding {
 
 /// The bag of these tuples, in order.
 pub fn fill(alloc: Global, tuples: Vec<Ground>) -> Result<Bag, NoMemory>
-    requires { length tuples.items ≤ 16777216 }
+    requires { length tuples.items ≤ MOST_TUPLES }
     ensures tuples { IfOk result (λ bag. tuples_of bag.now ≡ tuples.items) }
     ensures next { IfOk result (λ bag. bag.next ≡ length tuples.items) }
     ensures unmarked { IfOk result (λ bag. bag.saved ≡ []) }

@@ -7,7 +7,10 @@
 
 mod answers;
 mod centre;
+mod chronicle;
 mod founding;
+mod holdings;
+mod numbers;
 mod operations;
 mod places;
 mod replies;
@@ -18,3 +21,5 @@ mod weights;
 
 pub use answers::{Answer, Poll, PollFault, TurnFault};
 pub use centre::Core;
+pub use chronicle::{Beginning, agents_own_their_calls};
+pub use tc_lists::NoMemory;

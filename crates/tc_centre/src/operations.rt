@@ -4,11 +4,11 @@ ghost use Rattle.tc_bag.specs.Stock.{tuples_of, tuple_at, without_age};
 ghost use Rattle.tc_model.specs.Choices.{TheFirst};
 ghost use Rattle.tc_model.specs.State.{after_call};
 ghost use Rattle.tc_model.specs.Tables.{IsServed};
-ghost use Rattle.tc_centre.specs.Held.{origin_of, held};
+ghost use Rattle.tc_centre.specs.Held.{origin_of, state_held, Keeps, KeepsOld, AddsNone};
 ghost use Rattle.tc_centre.specs.Operations.{IsSearched};
 ghost use Rattle.tc_centre.specs.Turns.{IsOnTuples};
 
-use crate::founding::Founding;
+use crate::holdings::Holdings;
 use std::alloc::Global;
 use tc_bag::Bag;
 use tc_lists::NoMemory;
@@ -18,44 +18,38 @@ use tc_search::oldest_match_of;
 use tc_term::{Ground, Pattern};
 
 /// Does a call's operation, and tells its outcome. After a fault only the marks are as before.
-pub fn perform(
-    alloc: Global,
-    o: &Founding,
-    id: CallId,
-    op: &Op,
-    bag: &mut Bag,
-    pending: &mut Pending,
-) -> Result<Outcome, NoMemory>
+pub fn perform(alloc: Global, held: &mut Holdings, id: CallId, op: &Op) -> Result<Outcome, NoMemory>
     requires op { IsOnTuples op.now }
-    requires next { bag.old.next < u64.MAX }
-    ensures served { IfOk result (λ outcome. IsServed TheFirst (origin_of o.now)
-        (held bag.old.now pending.old.now) id op.now outcome []) }
-    ensures state { IfOk result (λ outcome. held bag.new.now pending.new.now
-        ≡ after_call id op.now outcome [] (held bag.old.now pending.old.now)) }
-    ensures few { length pending.new.now ≤ length pending.old.now + 1 }
-    ensures next { bag.new.next ≤ bag.old.next + 1 }
-    ensures bag { bag.new.saved ≡ bag.old.saved }
-    ensures pending { pending.new.saved ≡ pending.old.saved }
+    requires next { held.old.bag.next < u64.MAX }
+    ensures served { IfOk result (λ outcome. IsServed TheFirst (origin_of held.old.founding)
+        (state_held held.old) id op.now outcome []) }
+    ensures state { IfOk result (λ outcome. state_held held.new
+        ≡ after_call id op.now outcome [] (state_held held.old)) }
+    ensures few { length held.new.pending.now ≤ length held.old.pending.now + 1 }
+    ensures next { held.new.bag.next ≤ held.old.bag.next + 1 }
+    ensures keeps { Keeps held.old held.new }
+    ensures history { held.new.history.items ≡ held.old.history.items }
+    ensures old { OnOk result (KeepsOld held.old held.new) }
 {
     match op {
         Op::Out(tuple) => {
-            put(alloc, tuple, bag)?;
+            put(alloc, tuple, &mut held.bag)?;
             Ok(Outcome::Done)
         }
         Op::In(template) => {
-            wait(alloc, id, true, template, pending)?;
+            wait(alloc, id, true, template, &mut held.pending)?;
             Ok(Outcome::Pending)
         }
         Op::Rd(template) => {
-            wait(alloc, id, false, template, pending)?;
+            wait(alloc, id, false, template, &mut held.pending)?;
             Ok(Outcome::Pending)
         }
         Op::Inp(template) => {
-            let outcome = find(alloc, true, template, bag)?;
+            let outcome = find(alloc, true, template, &mut held.bag)?;
             Ok(outcome)
         }
         Op::Rdp(template) => {
-            let outcome = find(alloc, false, template, bag)?;
+            let outcome = find(alloc, false, template, &mut held.bag)?;
             Ok(outcome)
         }
         Op::SetSpec(_) | Op::GetSpec => unreachable!(),
@@ -67,6 +61,7 @@ fn put(alloc: Global, tuple: &Ground, bag: &mut Bag) -> Result<(), NoMemory>
     requires { bag.old.next < u64.MAX }
     ensures tuples { OnOk result (tuples_of bag.new.now ≡ tuples_of bag.old.now ++ tuple.now ∷ []) }
     ensures next { bag.new.next ≤ bag.old.next + 1 }
+    ensures old { OnOk result (AddsNone bag.old.next bag.old.now bag.new.now) }
     ensures marks { bag.new.saved ≡ bag.old.saved }
 {
     match bag.put(tuple.copy(alloc)?) {
@@ -101,6 +96,7 @@ fn find(alloc: Global, takes: bool, template: &Pattern, bag: &mut Bag) -> Result
     ensures found { IfOk result (λ outcome. IsSearched takes template.now
         (tuples_of bag.old.now) outcome (tuples_of bag.new.now)) }
     ensures next { bag.new.next ≡ bag.old.next }
+    ensures old { OnOk result (AddsNone bag.old.next bag.old.now bag.new.now) }
     ensures marks { bag.new.saved ≡ bag.old.saved }
 {
     let Some((age, tuple)) = oldest_match_of(alloc, template, bag)? else {

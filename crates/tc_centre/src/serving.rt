@@ -1,123 +1,100 @@
 //! Serving a call: its entry, and then the answers to requests that can be given.
-ghost use Rattle.std.specs.Prelude.{◌≡◌, ◌+◌, ◌*◌, ◌<◌, ◌≤◌, length, IfOk, OnOk, OnErr};
+ghost use Rattle.std.specs.Prelude.{◌≡◌, ◌<◌, Contains, length, remove, IfOk, OnOk, OnErr};
+ghost use Rattle.tc_bag.specs.Stock.{Row};
 ghost use Rattle.tc_pending.specs.Answers.{IsNextAnswer};
-ghost use Rattle.tc_model.specs.Entries.{weight};
 ghost use Rattle.tc_model.specs.Replies.{reply_in};
 ghost use Rattle.tc_model.specs.Run.{IsNext};
-ghost use Rattle.tc_centre.specs.Held.{origin_of, IsHeld, IsSettled, Answers, Calls, Grows, IsLonger};
+ghost use Rattle.tc_model.specs.Typed.{IsTypedId};
+ghost use Rattle.tc_centre.specs.Held.{origin_of, IsSame, Keeps, KeepsTyped, HoldsRun, IsAtRest, Knows, known_of, HasRoom, Answers, Calls, Grows};
 ghost use Rattle.tc_centre.specs.Turns.{IsOnTuples, IsAnswer};
 
 use crate::answers::Answer;
-use crate::founding::Founding;
+use crate::holdings::Holdings;
 use crate::operations::{perform, take_answer};
 use crate::replies::reply_to;
 use std::alloc::Global;
-use tc_bag::Bag;
 use tc_lists::{NoMemory, Seq};
 use tc_model::{CallId, Entry, Op, Outcome};
-use tc_pending::Pending;
+use tc_pending::Known;
 
 /// Serves a call, and answers the requests that can be answered, until none is left.
 ///
-/// Where memory ends, the bag, the requests and the history are as before.
-pub fn guarded(
-    alloc: Global,
-    o: &Founding,
-    id: CallId,
-    op: Op,
-    bag: &mut Bag,
-    pending: &mut Pending,
-    history: &mut Vec<Entry>,
-) -> Result<Answer, NoMemory>
-    requires next { IsNext (origin_of o.now) history.old.items id }
+/// Where memory ends, all is as before.
+pub fn guarded(alloc: Global, held: &mut Holdings, id: CallId, op: Op) -> Result<Answer, NoMemory>
+    requires next { IsNext (origin_of held.old.founding) held.old.history.items id }
     requires op { IsOnTuples op }
-    requires settled { IsSettled (origin_of o.now) history.old.items bag.old.now bag.old.next pending.old.now }
-    requires room { weight history.old.items + (length pending.old.now + 2) * (o.now.budget + 1) ≤ 4000000 }
-    ensures settled { OnOk result
-        (IsSettled (origin_of o.now) history.new.items bag.new.now bag.new.next pending.new.now) }
-    ensures grown { OnOk result (Grows id op history.old.items history.new.items) }
-    ensures answer { IfOk result (IsAnswer (reply_in history.new.items id)) }
-    ensures bag_marks { OnOk result (bag.new.saved ≡ bag.old.saved) }
-    ensures pending_marks { OnOk result (pending.new.saved ≡ pending.old.saved) }
-    ensures bag { OnErr result (bag.new ≡ bag.old) }
-    ensures pending { OnErr result (pending.new ≡ pending.old) }
-    ensures history { OnErr result (history.new.items ≡ history.old.items) }
+    requires rest { IsAtRest held.old }
+    requires room { HasRoom held.old }
+    ensures rest { OnOk result (IsAtRest held.new) }
+    ensures grown { OnOk result (Grows id op held.old.history.items held.new.history.items) }
+    ensures answer { IfOk result (IsAnswer (reply_in held.new.history.items id)) }
+    ensures keeps { OnOk result (Keeps held.old held.new) }
+    ensures typed { OnOk result (KeepsTyped held.old held.new) }
+    ensures same { OnErr result (IsSame held.old held.new) }
 {
-    bag.mark()?;
-    if pending.mark().is_err() {
-        bag.undo();
+    held.bag.mark()?;
+    if held.pending.mark().is_err() {
+        held.bag.undo();
         return Err(NoMemory);
     }
-    let length = history.len();
-    match serve(alloc, o, id, op, bag, pending, history) {
+    let length = held.history.len();
+    match serve(alloc, held, id, op) {
         Ok(answer) => {
-            bag.keep();
-            pending.keep();
+            held.bag.keep();
+            held.pending.keep();
             Ok(answer)
         }
         Err(fault) => {
-            bag.undo();
-            pending.undo();
-            history.truncate(length);
+            held.bag.undo();
+            held.pending.undo();
+            held.history.truncate(length);
             Err(fault)
         }
     }
 }
 
 // Serves a call and answers what can be answered. After a fault only the marks are as before.
-fn serve(
-    alloc: Global,
-    o: &Founding,
-    id: CallId,
-    op: Op,
-    bag: &mut Bag,
-    pending: &mut Pending,
-    history: &mut Vec<Entry>,
-) -> Result<Answer, NoMemory>
-    requires next { IsNext (origin_of o.now) history.old.items id }
+fn serve(alloc: Global, held: &mut Holdings, id: CallId, op: Op) -> Result<Answer, NoMemory>
+    requires next { IsNext (origin_of held.old.founding) held.old.history.items id }
     requires op { IsOnTuples op }
-    requires settled { IsSettled (origin_of o.now) history.old.items bag.old.now bag.old.next pending.old.now }
-    requires room { weight history.old.items + (length pending.old.now + 2) * (o.now.budget + 1) ≤ 4000000 }
-    ensures settled { OnOk result
-        (IsSettled (origin_of o.now) history.new.items bag.new.now bag.new.next pending.new.now) }
-    ensures grown { OnOk result (Grows id op history.old.items history.new.items) }
-    ensures answer { IfOk result (IsAnswer (reply_in history.new.items id)) }
-    ensures bag { bag.new.saved ≡ bag.old.saved }
-    ensures pending { pending.new.saved ≡ pending.old.saved }
-    ensures longer { IsLonger history.old.items history.new.items }
+    requires rest { IsAtRest held.old }
+    requires room { HasRoom held.old }
+    ensures rest { OnOk result (IsAtRest held.new) }
+    ensures grown { OnOk result (Grows id op held.old.history.items held.new.history.items) }
+    ensures answer { IfOk result (IsAnswer (reply_in held.new.history.items id)) }
+    ensures keeps { Keeps held.old held.new }
+    ensures typed { OnOk result (KeepsTyped held.old held.new) }
 {
-    let before = history.len();
-    call(alloc, o, id, op, bag, pending, history)?;
-    answer_all(alloc, o, bag, pending, history)?;
-    match reply_to(alloc, &history[before..], id)? {
+    let before = held.history.len();
+    let known = Known {
+        requests: held.pending.list().len(),
+        age: held.bag.next_age(),
+    };
+    call(alloc, held, id, op)?;
+    answer_all(alloc, held, known)?;
+    match reply_to(alloc, &held.history[before..], id)? {
         Some(reply) => Ok(Answer::Replied(reply)),
         None => Ok(Answer::Pending),
     }
 }
 
 // Serves a call and appends its entry.
-fn call(
-    alloc: Global,
-    o: &Founding,
-    id: CallId,
-    op: Op,
-    bag: &mut Bag,
-    pending: &mut Pending,
-    history: &mut Vec<Entry>,
-) -> Result<(), NoMemory>
-    requires next { IsNext (origin_of o.now) history.old.items id }
+fn call(alloc: Global, held: &mut Holdings, id: CallId, op: Op) -> Result<(), NoMemory>
+    requires next { IsNext (origin_of held.old.founding) held.old.history.items id }
     requires op { IsOnTuples op }
-    requires settled { IsSettled (origin_of o.now) history.old.items bag.old.now bag.old.next pending.old.now }
-    requires room { weight history.old.items + (length pending.old.now + 2) * (o.now.budget + 1) ≤ 4000000 }
-    ensures held { OnOk result
-        (IsHeld (origin_of o.now) history.new.items bag.new.now bag.new.next pending.new.now) }
-    ensures called { OnOk result (Calls id op history.old.items history.new.items) }
-    ensures bag { bag.new.saved ≡ bag.old.saved }
-    ensures pending { pending.new.saved ≡ pending.old.saved }
-    ensures longer { IsLonger history.old.items history.new.items }
+    requires rest { IsAtRest held.old }
+    requires room { HasRoom held.old }
+    ensures run { OnOk result (HoldsRun held.new) }
+    ensures known { OnOk result (Knows (known_of held.old) held.new) }
+    ensures called { OnOk result (Calls id op held.old.history.items held.new.history.items) }
+    ensures keeps { Keeps held.old held.new }
+    ensures typed { OnOk result (KeepsTyped held.old held.new) }
 {
-    let outcome = perform(alloc, o, id, &op, bag, pending)?;
-    history.push(Entry::Called {
+    let outcome = perform(alloc, held, id, &op)?;
+    typed_id(id);
+    op.typed();
+    outcome.typed();
+    held.history.push(Entry::Called {
         id,
         op,
         outcome,
@@ -126,56 +103,56 @@ fn call(
     Ok(())
 }
 
-// Answers the requests that can be answered, the oldest first, until none is left.
-fn answer_all(
-    alloc: Global,
-    o: &Founding,
-    bag: &mut Bag,
-    pending: &mut Pending,
-    history: &mut Vec<Entry>,
-) -> Result<(), NoMemory>
-    requires { IsHeld (origin_of o.now) history.old.items bag.old.now bag.old.next pending.old.now }
-    ensures settled { OnOk result
-        (IsSettled (origin_of o.now) history.new.items bag.new.now bag.new.next pending.new.now) }
-    ensures answers { OnOk result (Answers history.old.items history.new.items) }
-    ensures bag { bag.new.saved ≡ bag.old.saved }
-    ensures pending { pending.new.saved ≡ pending.old.saved }
-    ensures longer { IsLonger history.old.items history.new.items }
+// Answers the requests that can be answered, the oldest first, until none is left. Only requests and
+// tuples that are not known yet are looked at.
+fn answer_all(alloc: Global, held: &mut Holdings, known: Known) -> Result<(), NoMemory>
+    requires run { HoldsRun held.old }
+    requires known { Knows known held.old }
+    ensures rest { OnOk result (IsAtRest held.new) }
+    ensures answers { OnOk result (Answers held.old.history.items held.new.history.items) }
+    ensures keeps { Keeps held.old held.new }
+    ensures typed { OnOk result (KeepsTyped held.old held.new) }
 {
-    while let Some((place, age)) = pending.oldest_answerable(bag)? {
-        answer(alloc, o, place, age, bag, pending, history)?;
+    let mut known = known;
+    while let Some((place, age)) = held.pending.next_answerable(&held.bag, known)? {
+        answer(alloc, held, place, age)?;
+        known = known.without(place);
     }
     Ok(())
 }
 
 // Answers the request at a place with the tuple of an age.
-fn answer(
-    alloc: Global,
-    o: &Founding,
-    place: usize,
-    age: u64,
-    bag: &mut Bag,
-    pending: &mut Pending,
-    history: &mut Vec<Entry>,
-) -> Result<(), NoMemory>
-    requires held { IsHeld (origin_of o.now) history.old.items bag.old.now bag.old.next pending.old.now }
-    requires next { IsNextAnswer bag.old.now pending.old.now place age }
-    ensures held { OnOk result
-        (IsHeld (origin_of o.now) history.new.items bag.new.now bag.new.next pending.new.now) }
-    ensures answers { OnOk result (Answers history.old.items history.new.items) }
-    ensures fewer { OnOk result (length pending.new.now < length pending.old.now) }
-    ensures bag { bag.new.saved ≡ bag.old.saved }
-    ensures pending { pending.new.saved ≡ pending.old.saved }
-    ensures longer { IsLonger history.old.items history.new.items }
+fn answer(alloc: Global, held: &mut Holdings, place: usize, age: u64) -> Result<(), NoMemory>
+    requires run { HoldsRun held.old }
+    requires next { IsNextAnswer held.old.bag.now held.old.pending.now place age }
+    ensures run { OnOk result (HoldsRun held.new) }
+    ensures answers { OnOk result (Answers held.old.history.items held.new.history.items) }
+    ensures requests { OnOk result (held.new.pending.now ≡ remove held.old.pending.now place) }
+    ensures rows { OnOk result ((row : Row)
+        → Contains held.new.bag.now row → Contains held.old.bag.now row) }
+    ensures fewer { OnOk result (length held.new.pending.now < length held.old.pending.now) }
+    ensures keeps { Keeps held.old held.new }
+    ensures typed { OnOk result (KeepsTyped held.old held.new) }
 {
-    let request = &pending.list()[place];
+    let request = &held.pending.list()[place];
     let id = request.id;
-    let tuple = take_answer(alloc, request.takes, age, bag)?;
-    pending.remove(place);
-    history.push(Entry::Gave {
+    let tuple = take_answer(alloc, request.takes, age, &mut held.bag)?;
+    held.pending.remove(place);
+    let outcome = Outcome::Took(tuple);
+    typed_id(id);
+    outcome.typed();
+    held.history.push(Entry::Gave {
         id,
-        outcome: Outcome::Took(tuple),
+        outcome,
         items: Seq::empty(alloc),
     })?;
     Ok(())
+}
+
+/// Tells contracts what the type of an id promises, and does nothing.
+pub fn typed_id(id: CallId)
+    ensures { IsTypedId id }
+{
+    let _agent = id.agent;
+    let _number = id.number;
 }

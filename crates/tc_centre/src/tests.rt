@@ -1,51 +1,14 @@
 //! Rows of calls: which history they leave, and what the callers are told.
-ghost use Rattle.std.specs.Prelude.{◌≡◌, ◌≢◌, ◌↔◌, ◌<◌, ◌≤◌, false, true, All, AllPairs, IfOk, IfSome, IsTrue, length};
-ghost use Rattle.tc_model.specs.Calls.{id_of, is_call_of, calls_of, IsCallOf};
-ghost use Rattle.tc_model.specs.Run.{IsNext, HasCall};
+ghost use Rattle.std.specs.Prelude.{◌<◌, IfOk, IfSome, length};
+ghost use Rattle.tc_model.specs.Run.{IsNext};
 ghost use Rattle.tc_centre.specs.Turns.{IsOnTuples};
 
 use crate::{Answer, Core, Poll, PollFault, TurnFault};
 use std::alloc::Global;
 use std::test::Fail;
 use tc_lists::NoMemory;
-use tc_model::{CallId, Entry, Op, Outcome, Reply};
+use tc_model::{CallId, Clauses, Entry, Op, Outcome, Reply, check_origin};
 use tc_term::{Args, Ground, Name, Pattern, Term};
-
-// Whether the name stands among these.
-fn stands_among(name: &Name, names: &[Name]) -> bool
-    ensures { result ≡ false → All (λ other. other ≢ name.now) names.now }
-{
-    for other in names {
-        if other == name {
-            return true;
-        }
-    }
-    false
-}
-
-// Whether no two names are equal.
-fn differ(names: &[Name]) -> bool
-    ensures { result ≡ true → AllPairs ◌≢◌ names.now }
-{
-    for place in 0..names.len() {
-        if stands_among(&names[place], &names[..place]) {
-            return false;
-        }
-    }
-    true
-}
-
-// Whether each name is within the limit.
-fn are_short(names: &[Name]) -> bool
-    ensures { result ≡ true → All (λ name. length name ≤ 65535) names.now }
-{
-    for name in names {
-        if name.bytes().len() > 65535 {
-            return false;
-        }
-    }
-    true
-}
 
 // A centre `c` of these agents and tuples.
 fn centre(
@@ -55,13 +18,9 @@ fn centre(
     tuples: Vec<Ground>,
 ) -> Result<Core, Fail> {
     let name = Name::new(alloc, b"c")?;
-    let short = name.bytes().len() <= 65535 && are_short(&agents) && differ(&agents);
-    if !short || agents.is_empty() || agents.len() >= 4294967296 {
-        return Err(Fail::new("agents out of range"));
-    }
-    if budget == 0 || budget > 10000 || tuples.len() > 16777216 {
-        return Err(Fail::new("a budget or tuples out of range"));
-    }
+    let Ok(()) = check_origin(&name, &agents, budget, &tuples, &Clauses::new(alloc)) else {
+        return Err(Fail::new("no origin"));
+    };
     Ok(Core::new(alloc, name, agents, budget, tuples)?)
 }
 
@@ -72,38 +31,12 @@ fn next_call(core: &Core, agent: u32) -> Option<CallId>
     if agent as usize >= core.agents().len() {
         return None;
     }
-    let number = last_number(core.history(), agent).checked_add(1)?;
-    Some(CallId { agent, number })
-}
-
-// The greatest number of an entry that the agent made, or 0.
-fn last_number(entries: &[Entry], agent: u32) -> u64
-    ensures { All (λ e. (id_of e).number ≤ result) (calls_of agent entries.now) }
-{
-    let mut last = 0;
-    for entry in entries {
-        last = greater(last, made_number(entry, agent));
-    }
-    last
-}
-
-// The greater of two numbers.
-fn greater(one: u64, other: u64) -> u64
-    ensures first { one ≤ result }
-    ensures second { other ≤ result }
-{
-    if one < other { other } else { one }
-}
-
-// The number of an entry that the agent made, or 0.
-fn made_number(entry: &Entry, agent: u32) -> u64
-    ensures { is_call_of agent entry.now ≡ true → (id_of entry.now).number ≤ result }
-{
-    match entry {
-        Entry::Called { id, .. } | Entry::Looked { id, .. } => {
-            if id.agent == agent { id.number } else { 0 }
+    match core.last_number(agent) {
+        Some(last) => {
+            let number = last.checked_add(1)?;
+            Some(CallId { agent, number })
         }
-        Entry::Gave { .. } => 0,
+        None => Some(CallId { agent, number: 1 }),
     }
 }
 
@@ -451,26 +384,9 @@ fn a_look_tells_what_became_of_a_call(rt: HostRuntime) -> Result<(), Fail> {
     Ok(())
 }
 
-// The entry is the call of this id.
-fn is_call(entry: &Entry, id: CallId) -> bool
-    ensures { IsTrue result ↔ IsCallOf id entry.now }
-{
-    match entry {
-        Entry::Called { id: called, .. } => *called == id,
-        Entry::Gave { .. } | Entry::Looked { .. } => false,
-    }
-}
-
-// Whether the call stands among the entries.
-fn stands(entries: &[Entry], id: CallId) -> bool
-    ensures { IsTrue result ↔ HasCall id entries.now }
-{
-    entries.iter().any(|entry| is_call(entry, id))
-}
-
 // The reply to an earlier call, as these rows tell it.
 fn replied(core: &Core, alloc: Global, id: CallId) -> Result<Told, Fail> {
-    if !stands(core.history(), id) {
+    if !core.has_call(id) {
         return Err(Fail::new("no such call"));
     }
     match core.look(alloc, id)? {

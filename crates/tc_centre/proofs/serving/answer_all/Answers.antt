@@ -1,12 +1,25 @@
-use Rattle.std.proofs.Common.{◌∙◌}
-use Rattle.tc_centre.proofs.Growing.{answers-more}
+use Rattle.std.proofs.Common.{◌≤◌, ◌<◌, length, sym, subst}
+use Rattle.std.proofs.lemmas.Option.{slice_get_within}
+use Rattle.tc_lists.proofs.Options.{IfSome-at}
+use Rattle.tc_pending.specs.Answers.{IsKnown}
+use Rattle.tc_centre.proofs.Growing.{answers-more, keeps-more}
 use Rattle.tc_centre.proofs.serving.answer_all.Goals as goal
 
 pub loop-place-preserved : goal.loop-place-preserved
-loop-place-preserved c = record {
-  held = c.in_ok-answer.ensures.held;
-  answers = answers-more c.args.history.now.items c.loop-place.history.items c.answer.new.history.items
-      c.loop-place.invariant.answers c.in_ok-answer.ensures.answers;
-  bag = c.answer.ensures.bag ∙ c.loop-place.invariant.bag;
-  pending = c.answer.ensures.pending ∙ c.loop-place.invariant.pending;
-}
+loop-place-preserved c =
+    let old = c.loop-place.held in
+    let new = c.answer.new.held in
+    let told = c.in_ok-answer.ensures in
+    let next = IfSome-at _ c.in_ok-place.field-0 (c.in-Some.place, c.in-Some.age) c.in-Some.is c.in_ok-place.ensures.found in
+    let inside = slice_get_within old.pending.now c.in-Some.place next.request next.stands in
+    record {
+      run = told.run;
+      known = subst (λ rs. IsKnown c.without-known.result new.bag.now rs × (c.without-known.result.requests ≤ length rs)) (sym told.requests) (
+        c.without-known.ensures.known old.bag.now new.bag.now old.pending.now told.rows inside c.loop-place.invariant.known.0,
+        c.without-known.ensures.inside old.pending.now inside c.loop-place.invariant.known.1,
+      );
+      answers = answers-more c.args.held.now.history.items old.history.items new.history.items
+          c.loop-place.invariant.answers told.answers;
+      keeps = keeps-more c.args.held.now old new c.loop-place.invariant.keeps c.answer.ensures.keeps;
+      typed = λ all. told.typed (c.loop-place.invariant.typed all);
+    }

@@ -1,4 +1,5 @@
-use Rattle.std.proofs.Common.{subst}
+use Rattle.std.proofs.Common.{All, subst}
+use Rattle.tc_model.specs.Typed.{IsTyped}
 use Rattle.tc_model.specs.Run.{IsFirstRun}
 use Rattle.tc_model.specs.State.{IsQuiescent}
 use Rattle.tc_model.proofs.Runs.{IsRun-first}
@@ -8,7 +9,7 @@ use Rattle.tc_centre.proofs.centre.Core.history.Goals as goal
 pub returns-clause-first : goal.returns-clause-first
 returns-clause-first c =
     let P : Centre → Type 0 = λ centre. IsFirstRun centre.origin centre.history in
-    subst P c.self.view_is c.self.invariant.settled.holds.run
+    subst P c.self.view_is c.self.invariant.rest.holds.run
 
 pub returns-clause-run : goal.returns-clause-run
 returns-clause-run c = IsRun-first c.args.self.now.origin c.args.self.now.history (returns-clause-first c)
@@ -17,4 +18,9 @@ pub returns-clause-quiescent : goal.returns-clause-quiescent
 returns-clause-quiescent c =
     let P : Centre → Type 0 = λ centre. IsQuiescent (state_of centre) in
     subst P c.self.view_is
-    (subst IsQuiescent c.self.invariant.settled.holds.state c.self.invariant.settled.quiescent)
+    (subst IsQuiescent c.self.invariant.rest.holds.state c.self.invariant.rest.quiescent)
+
+pub returns-clause-typed : goal.returns-clause-typed
+returns-clause-typed c =
+    let P : Centre → Type 0 = λ centre. All IsTyped centre.history in
+    subst P c.self.view_is c.self.invariant.typed

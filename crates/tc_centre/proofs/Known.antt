@@ -1,0 +1,71 @@
+-- What is known of requests and tuples, in the steps of a turn.
+use Rattle.std.proofs.Common.{◌≡◌, ◌<◌, ◌≤◌, ◌++◌, ◌+◌, ℕ, Bool, true, false, zero, suc, ◌==◌, cond, List, [], ◌∷◌, Contains, length, take, get_or, map, refl, sym, ap, subst, ◌∙◌, ⊎_elim, arith}
+use Rattle.std.proofs.lemmas.List.{get_or-map, length-map, length-take, take_at}
+use Rattle.std.proofs.lemmas.List.Elements.{Contains-push_cases}
+use Rattle.tc_lists.specs.Firsts.{NoneOf}
+use Rattle.tc_term.specs.Tree.{Tree}
+use Rattle.tc_bag.specs.Stock.{Row, row, tuples_of, without_age}
+use Rattle.tc_pending.specs.Answers.{IsKnown}
+use Rattle.tc_model.specs.State.{IsAnswerable, IsQuiescent}
+use Rattle.tc_model.specs.declared.calls.Request.{Request}
+use Rattle.tc_centre.specs.Held.{AddsNone, KeepsOld, Knows, known_of, state_held}
+use Rattle.tc_centre.specs.declared.holdings.Holdings.{Holdings}
+use Rattle.tc_centre.proofs.Removals.{rows_left}
+
+contains-tuple : (rows : List Row) (r : Row) → Contains rows r → Contains (tuples_of rows) r.tuple
+contains-tuple rows r there =
+    let k : ℕ = there.0 in (
+      k,
+      omega (arith, there.1, length-map rows (λ (s : Row). s.tuple)),
+      get_or-map (λ (s : Row). s.tuple) rows k r r.tuple there.1 ∙ ap (λ (s : Row). s.tuple) there.2,
+    )
+
+-- where no request could be answered, what was there is known behind a call
+pub known-still : (old new : Holdings) → IsQuiescent (state_held old) → KeepsOld old new → Knows (known_of old) new
+known-still old new quiet kept = (
+  λ q r stands there older match.
+      quiet q (subst (λ rs. Contains rs q) kept.requests stands) (record {
+        tuple = r.tuple;
+        stands = contains-tuple old.bag.now r (kept.rows r there older);
+        matches = match;
+      }),
+  omega (arith, ap length kept.requests, length-take (length old.pending.now) new.pending.now),
+)
+
+-- the rows without one, and with a younger one
+without-case : (b : Bool) (s : Row) (rows rest : List Row) (r : Row) → (Contains rest r → Contains rows r)
+    → Contains (cond b rows (s ∷ rest)) r → Contains (s ∷ rows) r
+without-case true s rows rest r deeper there = (suc there.0, omega (arith, there.1), there.2)
+without-case false s rows rest r deeper (zero, inside, is) = (zero, omega arith, is)
+without-case false s rows rest r deeper (suc k, inside, is) =
+    let found = deeper (k, omega (arith, inside), is) in
+    (suc found.0, omega (arith, found.1), found.2)
+
+without-none : (age : ℕ) (rows : List Row) (r : Row) → Contains (without_age age rows) r → Contains rows r
+without-none age [] r there = there
+without-none age (s ∷ rows) r there =
+    without-case (s.age == age) s rows (without_age age rows) r (without-none age rows r) there
+
+pub left-none : (takes : Bool) (age : ℕ) (rows : List Row) (r : Row) → Contains (rows_left takes age rows) r → Contains rows r
+left-none true age rows r there = without-none age rows r there
+left-none false age rows r there = there
+
+pub pushed-none : (rows new : List Row) (next : ℕ) (t : Tree) → new ≡ rows ++ row next t ∷ [] → AddsNone next rows new
+pushed-none rows new next t is r there older =
+    ⊎_elim (λ before. before) (λ (last : row next t ≡ r). absurd (omega (arith, ap (λ (s : Row). s.age) last, older)))
+    (Contains-push_cases rows (row next t) r (subst (λ rs. Contains rs r) is there))
+
+pub left-adds-none : (takes : Bool) (age next : ℕ) (rows new : List Row) → new ≡ rows_left takes age rows → AddsNone next rows new
+left-adds-none takes age next rows new is r there older =
+    left-none takes age rows r (subst (λ rs. Contains rs r) is there)
+
+pub take-pushed : (requests new : List Request) (r : Request) → new ≡ requests ++ r ∷ []
+    → take (length requests) new ≡ requests
+take-pushed requests new r is = ap (take (length requests)) is ∙ take_at requests (r ∷ []) (length requests) refl
+
+-- what is known, as it was read
+pub known-as : (old new : Holdings) (count age : ℕ) → count ≡ length old.pending.now → age ≡ old.bag.next
+    → Knows (known_of old) new → Knows (record { requests = count; age = age }) new
+known-as old new count age counts ages knows =
+    subst (λ n. Knows (record { requests = n; age = age }) new) (sym counts)
+    (subst (λ a. Knows (record { requests = length old.pending.now; age = a }) new) (sym ages) knows)

@@ -1,5 +1,0 @@
-use Rattle.std.proofs.Common.{◌≢◌, AllPairs, take}
-use Rattle.tc_centre.proofs.tests.differ.Given as goal
-
-abbrev pub invariant-loop-place : goal.invariant-loop-place
-invariant-loop-place l = AllPairs ◌≢◌ (take l.place l.names)

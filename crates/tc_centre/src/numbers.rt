@@ -1,0 +1,27 @@
+//! The last number of each agent, by the agent's own number.
+ghost use Rattle.std.specs.Prelude.{◌≡◌, ◌<◌, ◌==◌, if◌then◌else◌, ℕ, Some, None, length, IfOk};
+ghost use Rattle.tc_centre.specs.Numbers.{number_in};
+
+use std::alloc::Global;
+use tc_lists::NoMemory;
+use tc_model::CallId;
+
+/// No number yet for any of so many agents.
+pub fn no_numbers(alloc: Global, agents: usize) -> Result<Vec<Option<u64>>, NoMemory>
+    ensures agents { IfOk result (λ numbers. length numbers.items ≡ agents) }
+    ensures none { IfOk result (λ numbers. (agent : ℕ) → number_in numbers.items agent ≡ None) }
+{
+    let mut numbers = Vec::new(alloc);
+    numbers.resize(agents, None)?;
+    Ok(numbers)
+}
+
+/// Notes the number of an agent's entry.
+pub fn note_number(numbers: &mut Vec<Option<u64>>, id: CallId)
+    requires { id.agent < length numbers.old.items }
+    ensures agents { length numbers.new.items ≡ length numbers.old.items }
+    ensures noted { (agent : ℕ) → number_in numbers.new.items agent
+        ≡ (if id.agent == agent then Some id.number else number_in numbers.old.items agent) }
+{
+    numbers[id.agent as usize] = Some(id.number);
+}
