@@ -7,14 +7,15 @@ use Rattle.std.specs.List.{AllByRecursion}
 use Rattle.std.proofs.lemmas.Bool.{false≢true}
 use Rattle.tc_lists.specs.Decimals.{integer_at}
 use Rattle.tc_lists.specs.Items.{items_at, items_text}
-use Rattle.tc_lists.proofs.Items.{IsReadAgain, items_at-again}
+use Rattle.tc_lists.proofs.Items.{IsReadAgain, items_at-again, length-items_text}
 use Rattle.tc_term.specs.Tree.{Tree, Variable, Atomic, Number, Compound, Trees, Last, More, depth, depth_of_all}
-use Rattle.tc_term.specs.Text.{is_word, is_name}
+use Rattle.tc_term.specs.Bytes.{is_word}
+use Rattle.tc_term.specs.Text.{is_name}
 use Rattle.tucson.specs.Setup.{IsPlain, ArePlain}
-use Rattle.tucson.specs.Reading.{gathered, term_at}
+use Rattle.tucson.specs.Form.{gathered, term_at}
 use Rattle.tucson.proofs.Names.{name_at-again}
-use Rattle.tc_lists.proofs.Decimals.{integer_at-again}
-use Rattle.tucson.proofs.PlainText.{plain_text, plain_texts, listed, length-listed, gathered-listed, items_text-listed, length-items_text, depth_of_all_some, first_lowercase}
+use Rattle.tc_lists.proofs.Decimals.{integer_at-again, integer_at-letter}
+use Rattle.tucson.proofs.PlainText.{plain_text, plain_texts, listed, length-listed, gathered-listed, items_text-listed, depth_of_all_some, first_lowercase}
 
 -- a byte behind a term, which is no part of it
 pub record IsBehind (b : ℕ) : Type 0 where
@@ -28,16 +29,9 @@ comma = record { name = refl; digit = refl; bracket = refl }
 pub closing : IsBehind 41
 closing = record { name = refl; digit = refl; bracket = refl }
 
--- no number begins with a small letter
-lower_tests : (b : ℕ) → is_ascii_lowercase b ≡ true → (eqb b 45 ≡ false) × (eqb b 48 ≡ false) × (is_ascii_digit b ≡ false)
-lower_tests b e = grind arith
-
-integer_at-lower : (b : ℕ) (bs : List ℕ) → is_ascii_lowercase b ≡ true → integer_at (b ∷ bs) ≡ None
-integer_at-lower b bs e = let tests = lower_tests b e in rw (tests.0, tests.1, tests.2) refl
-
 integer_at-name : (name bs : List ℕ) → IsTrue (is_name name) → integer_at (name ++ bs) ≡ None
 integer_at-name [] bs plain = absurd (false≢true plain)
-integer_at-name (b ∷ name) bs plain = integer_at-lower b (name ++ bs) (first_lowercase b name plain)
+integer_at-name (b ∷ name) bs plain = integer_at-letter b (name ++ bs) (first_lowercase b name plain)
 
 -- what is read of a name and what stands behind it
 term_at-name : (brackets : ℕ) (name : List ℕ) (b : ℕ) (more : List ℕ) → IsTrue (is_name name) → is_word b ≡ false → eqb 40 b ≡ false → term_at brackets (name ++ b ∷ more) ≡ Some (Atomic name, b ∷ more)

@@ -3,10 +3,10 @@ use Rattle.std.proofs.Common.{◌≡◌, ℕ, List, sym, subst, inr}
 use Rattle.tc_io.specs.Sinks.{appended}
 use Rattle.tucson.specs.declared.status.Status.{Status}
 use Rattle.tucson.specs.declared.status.Status.TheVariants.{Ended, WriteFault, Refused, ReadFault, NoMemory, Usage}
-use Rattle.tucson.specs.Answer.{Input, IsRead, IsDue}
-use Rattle.tucson.specs.Ending.{Call, Answers, Ends, Writes}
+use Rattle.tucson.specs.Answer.{Input, IsInput, IsDue}
+use Rattle.tucson.specs.Ending.{Call, EndsAsDue, Ends, Writes}
 
-answers : (call : Call) (status same : Status) (input : Input) (text : List ℕ) → IsRead call.source.left call.source_after.left input → IsDue call.words input status text → (same ≡ status) × (call.sink_after.taken ≡ appended call.sink.taken text) → Answers call same
+answers : (call : Call) (status same : Status) (input : Input) (text : List ℕ) → IsInput call.source.left call.source_after.left input → IsDue call.words input status text → (same ≡ status) × (call.sink_after.taken ≡ appended call.sink.taken text) → EndsAsDue call same
 answers call status same input text read due wrote = record {
   input = input;
   text = text;
@@ -16,7 +16,7 @@ answers call status same input text read due wrote = record {
 }
 
 -- the text that is due was written, or the writing was stopped
-pub Ends-written : (call : Call) (status result : Status) (input : Input) (text : List ℕ) → IsRead call.source.left call.source_after.left input → IsDue call.words input status text → Writes status text call.sink call.sink_after result → Ends call result
+pub Ends-written : (call : Call) (status result : Status) (input : Input) (text : List ℕ) → IsInput call.source.left call.source_after.left input → IsDue call.words input status text → Writes status text call.sink call.sink_after result → Ends call result
 Ends-written call status Ended input text read due wrote = answers call status Ended input text read due wrote
 Ends-written call status (Refused clause cause) input text read due wrote = answers call status (Refused clause cause) input text read due wrote
 Ends-written call status Usage input text read due wrote = answers call status Usage input text read due wrote

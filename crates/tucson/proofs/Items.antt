@@ -4,17 +4,18 @@ use Rattle.std.specs.List.{AllByRecursion}
 use Rattle.std.proofs.lemmas.Option.{option_and_then_some, some_pair_parts}
 use Rattle.tc_lists.specs.Items.{items_at, items_text}
 use Rattle.tc_lists.specs.Texts.{joined, after, after_all}
-use Rattle.tc_lists.proofs.Items.{IsReadAgain, items_at-again, items_at-takes}
+use Rattle.tc_lists.proofs.Items.{IsReadAgain, items_at-again, items_at-takes, length-items_text}
+use Rattle.tc_lists.proofs.Options.{option_map_some}
 use Rattle.tc_lists.proofs.Texts.{after-takes, after_all-append, after_all-takes}
 use Rattle.tc_term.specs.Tree.{Tree, depth}
 use Rattle.tc_model.specs.declared.calls.Op.{Op}
 use Rattle.tc_model.specs.declared.calls.Op.TheVariants.{Out, Inp}
 use Rattle.tc_term.specs.Text.{canonical}
 use Rattle.tucson.specs.Setup.{IsPlain, IsOperand, IsItem, op_text, item_text}
-use Rattle.tucson.specs.Reading.{term_at, operand_at, op_with, op_at, item_at, at_end, items_to_end}
-use Rattle.tucson.proofs.PlainText.{plain_text, canonical-plain, IsWithin, length-items_text}
+use Rattle.tucson.specs.Form.{term_at, operand_at, op_with, op_at, item_at, at_end, items_to_end}
+use Rattle.tucson.proofs.PlainText.{plain_text, canonical-plain, IsWithin}
 use Rattle.tucson.proofs.Again.{term_at-again, closing}
-use Rattle.tucson.proofs.Takes.{term_at-takes, option_map_some}
+use Rattle.tucson.proofs.Takes.{term_at-takes}
 
 operand_at-again : (t : Tree) (rest : List ℕ) → IsPlain t → depth t ≤ 151 → operand_at (plain_text t ++ 41 ∷ rest) ≡ Some (t, rest)
 unfolding operand_at
@@ -70,7 +71,7 @@ closed_text t rest plain e = e ∙ sym (append_assoc (plain_text t) (codes ")") 
 -- an operation by its word, its operand and the bracket that closes it
 word_takes : (make : Tree → Op) (word : List ℕ) → ((t : Tree) → IsOperand t → IsItem (make t)) → ((t : Tree) → op_text (make t) ≡ (word ++ canonical t) ++ codes ")") → (bytes behind : List ℕ) (op : Op) (rest : List ℕ) → after word bytes ≡ Some behind → option_map {U = Op × List ℕ} (λ r. (make r.0, r.1)) (operand_at behind) ≡ Some (op, rest) → IsOpAt bytes op rest
 word_takes make word good made bytes behind op rest is e =
-    let (r, read, same) = option_map_some {B = Op × List ℕ} (λ (r : Tree × List ℕ). (make r.0, r.1)) (operand_at behind) (op, rest) e in
+    let (r, read, same) = option_map_some {Y = Op × List ℕ} (λ (r : Tree × List ℕ). (make r.0, r.1)) (operand_at behind) (op, rest) e in
     let taken = operand_at-takes behind r.0 r.1 read in
     let t : Tree = r.0 in
     let text : bytes ≡ op_text (make t) ++ r.1 =

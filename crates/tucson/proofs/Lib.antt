@@ -4,8 +4,7 @@ pub mod Again
 pub mod Takes
 pub mod Items
 pub mod Whole
-pub mod Behind
-pub mod Listing
+pub mod Commas
 pub mod TermSteps
 pub mod Sizes
 pub mod Clauses

@@ -5,32 +5,24 @@ use Rattle.std.specs.List.{prefix_len, list_all}
 use Rattle.std.proofs.lemmas.Bool.{false≢true}
 use Rattle.std.proofs.lemmas.Option.{cond_some}
 use Rattle.std.proofs.Math.Seq.{take-append_seam, drop-append_seam}
-use Rattle.tc_term.specs.Text.{is_word, is_name}
-use Rattle.tucson.specs.Reading.{name_at}
-
-and_both : (a b : Bool) → (a && b) ≡ true → (a ≡ true) × (b ≡ true)
-and_both true b e = (refl, e)
-and_both false b e = absurd (false≢true e)
+use Rattle.tc_lists.proofs.Bools.{and_parts}
+use Rattle.tc_lists.proofs.Runs.{prefix_len_stop}
+use Rattle.tc_term.specs.Bytes.{is_word}
+use Rattle.tc_term.specs.Text.{is_name}
+use Rattle.tucson.specs.Form.{name_at}
 
 is_word-lowercase : (b : ℕ) → is_ascii_lowercase b ≡ true → is_word b ≡ true
 is_word-lowercase b e = grind arith
 
 -- all bytes of a plain name are bytes of names
-is_name-bytes : (name : List ℕ) → IsTrue (is_name name) → list_all is_word name ≡ true
+pub is_name-bytes : (name : List ℕ) → IsTrue (is_name name) → list_all is_word name ≡ true
 is_name-bytes [] h = absurd (false≢true h)
-is_name-bytes (b ∷ bs) h = let both = and_both (is_ascii_lowercase b) (list_all is_word bs) h in rw (is_word-lowercase b both.0, both.1) refl
-
--- a name goes as far as its bytes
-prefix_len-append : (p : ℕ → Bool) (xs : List ℕ) (b : ℕ) (more : List ℕ) → list_all p xs ≡ true → p b ≡ false → prefix_len p (xs ++ b ∷ more) ≡ length xs
-prefix_len-append p [] b more all stop = rw stop refl
-prefix_len-append p (x ∷ xs) b more all stop =
-    let both = and_both (p x) (list_all p xs) all in
-    rw both.0 (rw (prefix_len-append p xs b more both.1 stop) (omega arith))
+is_name-bytes (b ∷ bs) h = let both = and_parts (is_ascii_lowercase b) (list_all is_word bs) h in rw (is_word-lowercase b both.0, both.1) refl
 
 pub name_at-again : (name : List ℕ) (b : ℕ) (more : List ℕ) → IsTrue (is_name name) → is_word b ≡ false → name_at (name ++ b ∷ more) ≡ Some (name, b ∷ more)
 unfolding name_at
 name_at-again name b more plain stop =
-    rw (prefix_len-append is_word name b more (is_name-bytes name plain) stop, take-append_seam name (b ∷ more), drop-append_seam name (b ∷ more), plain) refl
+    rw (prefix_len_stop is_word name b more (is_name-bytes name plain) stop, take-append_seam name (b ∷ more), drop-append_seam name (b ∷ more), plain) refl
 
 -- the bytes are a plain name and what stands behind it
 pub record IsNameAt (bytes name rest : List ℕ) : Type 0 where

@@ -3,13 +3,15 @@ use Rattle.std.proofs.Common.{eqb, ap₂, Bool, true, false, ◌&&◌, IsTrue, �
 use Rattle.std.specs.List.{AllByRecursion, list_all}
 use Rattle.tc_lists.specs.Items.{items_text}
 use Rattle.tc_term.specs.Tree.{Tree, Variable, Atomic, Number, Compound, Trees, Last, More, depth, depth_of_all}
-use Rattle.tc_term.specs.Text.{is_word, is_name, is_nil, is_dot, applied, text_in, texts_of, text_of, canonical}
+use Rattle.tc_lists.proofs.Bools.{and_parts}
+use Rattle.tc_term.specs.Bytes.{is_word}
+use Rattle.tc_term.specs.Text.{is_name, is_nil, is_dot, applied, text_in, texts_of, text_of, canonical}
 use Rattle.tc_term.specs.Variables.{instance, instances, place_in, variables}
 use Rattle.std.proofs.lemmas.Bool.{false≢true}
 use Rattle.std.specs.Char.{is_ascii_lowercase}
 use Rattle.std.specs.Fmt.{signed_decimal}
 use Rattle.tucson.specs.Setup.{IsPlain, ArePlain}
-use Rattle.tucson.specs.Reading.{gathered}
+use Rattle.tucson.specs.Form.{gathered}
 
 -- the text of a plain term, which has no variable, no quotes and no lists
 abbrev mutual
@@ -23,13 +25,9 @@ abbrev mutual
   plain_texts (Last t) = plain_text t
   plain_texts (More t ts) = plain_text t ++ 44 ∷ plain_texts ts
 
-and_first : (a b : Bool) → (a && b) ≡ true → a ≡ true
-and_first true b e = refl
-and_first false b e = absurd (false≢true e)
-
 -- a plain name begins with a small letter
 pub first_lowercase : (b : ℕ) (bs : List ℕ) → IsTrue (is_name (b ∷ bs)) → is_ascii_lowercase b ≡ true
-first_lowercase b bs plain = and_first (is_ascii_lowercase b) (list_all is_word bs) plain
+first_lowercase b bs plain = (and_parts (is_ascii_lowercase b) (list_all is_word bs) plain).0
 
 lowercase_tests : (b : ℕ) → is_ascii_lowercase b ≡ true → (eqb b 46 ≡ false) × (eqb b 91 ≡ false)
 lowercase_tests b e = grind arith
@@ -115,13 +113,6 @@ AreWithin-gathered limit (t ∷ []) some all = (all.0.plain, all.0.depth)
 AreWithin-gathered limit (t ∷ u ∷ ts) some all =
     let behind = AreWithin-gathered limit (u ∷ ts) (omega arith) all.1 in
     ((all.0.plain, behind.0), omega (arith, all.0.depth, behind.1))
-
--- a list has at most one item more than its text has bytes
-pub length-items_text : {Y : Type 0} (print : Y → List ℕ) (separator : ℕ) (ys : List Y) → length ys ≤ length (items_text print separator ys) + 1
-length-items_text print separator [] = omega arith
-length-items_text print separator (y ∷ []) = omega arith
-length-items_text print separator (y ∷ z ∷ ys) =
-    omega (arith, length-append (print y) (separator ∷ items_text print separator (z ∷ ys)), length-items_text print separator (z ∷ ys))
 
 mutual
   pub depth_some : (t : Tree) → 0 < depth t

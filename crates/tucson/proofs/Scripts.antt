@@ -14,7 +14,7 @@ use Rattle.tc_model.specs.declared.items.Item.{Item}
 use Rattle.tc_model.specs.declared.outcomes.Outcome.{Outcome}
 use Rattle.tc_model.specs.declared.outcomes.Reply.{Reply}
 use Rattle.tc_model.proofs.Histories.{reply_in-IsPrefix}
-use Rattle.tucson.specs.Good.{call, IsCallFor, AreCallsFor, AreRepliesIn, IsServed}
+use Rattle.tucson.specs.Good.{call, IsCallFor, AreCallsFor, AreRepliesIn, IsScriptServed}
 
 -- one call more
 AreCallsFor-push : (number : ℕ) (ops : List Op) (es : List Entry) (op : Op) (e : Entry) → AreCallsFor number ops es → IsCallFor (number + length ops) op e → AreCallsFor number (ops ++ op ∷ []) (es ++ e ∷ [])
@@ -37,7 +37,7 @@ AreCallsFor-numbers number [] (d ∷ es) calls = absurd calls
 AreCallsFor-numbers number (o ∷ ops) [] calls = absurd calls
 
 -- the next number is above those so far
-pub numbers-served : (ops : List Op) (history : List Entry) (log : List Reply) → IsServed ops history log
+pub numbers-served : (ops : List Op) (history : List Entry) (log : List Reply) → IsScriptServed ops history log
     → All (λ e. (id_of e).number < length log + 1) (calls_of 0 history)
 numbers-served ops history log served =
     All-weaker (λ e. (id_of e).number < 1 + length ops) (λ e. (id_of e).number < length log + 1)
@@ -46,7 +46,7 @@ numbers-served ops history log served =
 
 -- the next call may be made
 pub IsNext-served : (origin : Origin) (ops : List Op) (history : List Entry) (log : List Reply)
-    → 0 < length origin.agents → IsServed ops history log → IsNext origin history (call (length log + 1))
+    → 0 < length origin.agents → IsScriptServed ops history log → IsNext origin history (call (length log + 1))
 IsNext-served origin ops history log some served =
     record { agent = some; number = numbers-served ops history log served }
 
@@ -62,11 +62,11 @@ AreRepliesIn-push history number (q ∷ log) r replies last =
     (replies.0, AreRepliesIn-push history (number + 1) log r replies.1 (subst (λ (n : ℕ). reply_in history (call n) ≡ Some r) (omega arith) last))
 
 -- one operation more is served
-pub IsServed-push : (ops : List Op) (history : List Entry) (log : List Reply) (op : Op) (result : Outcome) (items : List Item)
+pub IsScriptServed-push : (ops : List Op) (history : List Entry) (log : List Reply) (op : Op) (result : Outcome) (items : List Item)
     (r : Reply) → let e : Entry = Called (call (length log + 1)) op result items in
-    IsServed ops history log → reply_in (history ++ e ∷ []) (call (length log + 1)) ≡ Some r
-    → IsServed (ops ++ op ∷ []) (history ++ e ∷ []) (log ++ r ∷ [])
-IsServed-push ops history log op result items r served replied =
+    IsScriptServed ops history log → reply_in (history ++ e ∷ []) (call (length log + 1)) ≡ Some r
+    → IsScriptServed (ops ++ op ∷ []) (history ++ e ∷ []) (log ++ r ∷ [])
+IsScriptServed-push ops history log op result items r served replied =
     let e : Entry = Called (call (length log + 1)) op result items in
     let last : IsCallFor (1 + length ops) op e = (ap call (omega (arith, served.rows)), refl) in
     let calls : calls_of 0 (history ++ e ∷ []) ≡ calls_of 0 history ++ e ∷ [] = filter-append (is_call_of 0) history (e ∷ []) in

@@ -5,9 +5,10 @@ use Rattle.tc_lists.specs.Decimals.{integer_at}
 use Rattle.tc_lists.specs.Items.{items_at}
 use Rattle.tc_lists.specs.Texts.{after}
 use Rattle.tc_lists.proofs.Items.{AreTaken, items_at-takes}
+use Rattle.tc_lists.proofs.Options.{option_map_some, some_pair_same}
 use Rattle.tc_lists.proofs.Texts.{after-takes}
 use Rattle.tc_term.specs.Tree.{Tree, Atomic, Number, Compound}
-use Rattle.tucson.specs.Reading.{gathered, name_at, compound_with, compound_at, number_or, term_at}
+use Rattle.tucson.specs.Form.{gathered, name_at, compound_with, compound_at, number_or, term_at}
 use Rattle.tucson.proofs.Names.{IsNameAt, name_at-takes}
 use Rattle.tc_lists.proofs.Decimals.{integer_at-takes}
 use Rattle.tucson.proofs.PlainText.{plain_text, plain_texts-gathered, IsWithin, AreWithin-gathered}
@@ -25,24 +26,17 @@ Takes limit read = (bytes : List ℕ) (t : Tree) (rest : List ℕ) → read byte
 abbrev read_with : (List ℕ → Option (Tree × List ℕ)) → List ℕ → Option (Tree × List ℕ)
 read_with read bytes = number_or (integer_at bytes) (option_and_then (λ r. compound_at read r.0 r.1) (name_at bytes))
 
-pub option_map_some : {A B : Type 0} (f : A → B) (o : Option A) (b : B) → option_map f o ≡ Some b → (a : A) × (o ≡ Some a) × (f a ≡ b)
-option_map_some f None b e = absurd (cc)
-option_map_some f (Some a) b e = (a, refl, cc)
-
-same_pair : {A B : Type 0} (a x : A) (b y : B) → ◌≡◌ {A = Option (A × B)} (Some (a, b)) (Some (x, y)) → ◌≡◌ {A = A × B} (a, b) (x, y)
-same_pair a x b y e = cc
-
 -- a name alone
 atom_takes : (limit : ℕ) (bytes name behind : List ℕ) (t : Tree) (rest : List ℕ) → 0 < limit → IsNameAt bytes name behind → ◌≡◌ {A = Option (Tree × List ℕ)} (Some (Atomic name, behind)) (Some (t, rest)) → IsTermAt limit bytes t rest
 atom_takes limit bytes name behind t rest some named e =
-    let same : ◌≡◌ {A = Tree × List ℕ} (Atomic name, behind) (t, rest) = same_pair (Atomic name) t behind rest e in
+    let same : ◌≡◌ {A = Tree × List ℕ} (Atomic name, behind) (t, rest) = some_pair_same (Atomic name) t behind rest e in
     let taken : IsTermAt limit bytes (Atomic name) behind = record { within = record { plain = named.plain; depth = omega arith }; text = named.text } in
     subst (λ (r : Tree × List ℕ). IsTermAt limit bytes r.0 r.1) same taken
 
 -- a name and its arguments
 compound_takes : (limit : ℕ) (read : List ℕ → Option (Tree × List ℕ)) → Takes limit read → (bytes name args : List ℕ) (t : Tree) (rest : List ℕ) → IsNameAt bytes name (40 ∷ args) → option_map {U = Tree × List ℕ} (λ (r : List Tree × List ℕ). (Compound name (gathered r.0), r.1)) (items_at 44 41 read (length args) args) ≡ Some (t, rest) → IsTermAt (suc limit) bytes t rest
 compound_takes limit read takes bytes name args t rest named e =
-    let (r, found, same) = option_map_some {B = Tree × List ℕ} (λ (r : List Tree × List ℕ). (Compound name (gathered r.0), r.1)) (items_at 44 41 read (length args) args) (t, rest) e in
+    let (r, found, same) = option_map_some {Y = Tree × List ℕ} (λ (r : List Tree × List ℕ). (Compound name (gathered r.0), r.1)) (items_at 44 41 read (length args) args) (t, rest) e in
     let taken : AreTaken 44 41 plain_text read (IsWithin limit) args r.0 r.1 =
     items_at-takes 44 41 plain_text read (IsWithin limit) (λ bs u cs given. let term = takes bs u cs given in (term.within, term.text)) (length args) args r.0 r.1 found in
     let within = AreWithin-gathered limit r.0 taken.some taken.good in
@@ -63,7 +57,7 @@ named_takes limit read takes bytes name behind t rest named e = by_bracket (afte
 number_takes : (limit : ℕ) (bytes : List ℕ) (z : ℤ) (behind : List ℕ) (t : Tree) (rest : List ℕ) → 0 < limit → integer_at bytes ≡ Some (z, behind) → ◌≡◌ {A = Option (Tree × List ℕ)} (Some (Number z, behind)) (Some (t, rest)) → IsTermAt limit bytes t rest
 number_takes limit bytes z behind t rest some found e =
     let number = integer_at-takes bytes z behind found in
-    let same : ◌≡◌ {A = Tree × List ℕ} (Number z, behind) (t, rest) = same_pair (Number z) t behind rest e in
+    let same : ◌≡◌ {A = Tree × List ℕ} (Number z, behind) (t, rest) = some_pair_same (Number z) t behind rest e in
     let taken : IsTermAt limit bytes (Number z) behind = record { within = record { plain = number.fits; depth = omega arith }; text = number.text } in
     subst (λ (r : Tree × List ℕ). IsTermAt limit bytes r.0 r.1) same taken
 

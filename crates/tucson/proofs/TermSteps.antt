@@ -10,27 +10,13 @@ use Rattle.tc_lists.specs.Texts.{after}
 use Rattle.tc_term.specs.Tree.{Tree, Compound, Trees, More}
 use Rattle.tc_term.specs.TreeView.{tree_of, trees_of}
 use Rattle.tc_term.specs.declared.terms.Term.{Term}
-use Rattle.tucson.proofs.Listing.{items_at-stop}
-use Rattle.tucson.specs.Reading.{gathered, name_at, term_at}
-
-pub ok_or-some : {T E : Type 0} → (o : Option T) (e : E) (x : T) → ok_or o e ≡ Ok x → o ≡ Some x
-ok_or-some None e x same = absurd (cc)
-ok_or-some (Some y) e x same = cc
+use Rattle.tc_lists.proofs.Listing.{items_at-stop}
+use Rattle.tucson.specs.Form.{gathered, name_at, term_at}
 
 pub trees_of-gathered : (ts : List Term) → trees_of ts ≡ gathered (map tree_of ts)
 trees_of-gathered [] = refl
 trees_of-gathered (t ∷ []) = refl
 trees_of-gathered (t ∷ u ∷ ts) = ap (λ (us : Trees). More (tree_of t) us) (trees_of-gathered (u ∷ ts))
-
--- a number takes some byte
-pub signed_decimal_some : (z : ℤ) → FitsSigned w64 z → 0 < length (signed_decimal z)
-signed_decimal_some (pos n) fits = let small = fits.sfits in decimal_nonempty n (omega arith)
-signed_decimal_some (negsuc n) fits = omega arith
-
-pub IsIntegerAt-shorter : (bytes : List ℕ) (z : ℤ) (rest : List ℕ) → IsIntegerAt bytes z rest → length rest < length bytes
-IsIntegerAt-shorter bytes z rest at =
-    let some = signed_decimal_some z at.fits in
-    omega (arith, length-append (signed_decimal z) rest, ap length at.text)
 
 module _ (bytes name rest inside : List ℕ) (number : integer_at bytes ≡ None) (named : name_at bytes ≡ Some (name, rest)) (bracket : after (codes "(") rest ≡ Some inside) where
   -- with no bracket left to open there is no compound

@@ -23,15 +23,15 @@ use Rattle.tc_model.specs.declared.outcomes.Reply.{Reply}
 use Rattle.tc_model.proofs.Histories.{outcome_in-push}
 use Rattle.tc_model.proofs.Runs.{EachEntry-none, IsRun-first}
 use Rattle.tc_model.proofs.Waiting.{none_given}
-use Rattle.tucson.specs.Good.{call, IsServed}
+use Rattle.tucson.specs.Good.{call, IsScriptServed}
 use Rattle.tucson.specs.Output.{HasReplyWords, IsLine}
 use Rattle.tucson.specs.Setup.{IsItem}
 use Rattle.tucson.proofs.Lines.{NeverWaits-item, NeverWaits-line, lines-clauses, IsServed-line, reply_of-words, HasReplyWords-of}
-use Rattle.tucson.proofs.Scripts.{numbers-served, IsServed-push}
+use Rattle.tucson.proofs.Scripts.{numbers-served, IsScriptServed-push}
 
 -- a script has been served so far: by a run, whose lines and rows say all of it
 pub record IsServing (ops : List Op) (core : Centre) (log : List Reply) : Type 0 where
-  pub served : IsServed ops core.history log
+  pub served : IsScriptServed ops core.history log
   pub run : IsFirstRun core.origin core.history
   pub lines : All IsLine core.history
   pub rows : All HasReplyWords log
@@ -39,7 +39,7 @@ pub record IsServing (ops : List Op) (core : Centre) (log : List Reply) : Type 0
 
 pub IsServing-none : (core : Centre) → core.history ≡ [] → IsServing [] core []
 IsServing-none core fresh = record {
-  served = subst (λ es. IsServed [] es []) (sym fresh) (record { calls = tt; rows = refl; replies = tt });
+  served = subst (λ es. IsScriptServed [] es []) (sym fresh) (record { calls = tt; rows = refl; replies = tt });
   run = subst (IsFirstRun core.origin) (sym fresh) (EachEntry-none (IsLegal TheFirst core.origin) (opening core.origin));
   lines = subst (All IsLine) (sym fresh) (All-nil IsLine);
   rows = All-nil HasReplyWords;
@@ -125,8 +125,8 @@ module _ (ops : List Op) (old new : Centre) (log : List Reply) (op : Op) (told :
       let some : reply_in new.history id ≡ Some r = subst (IsAnswer (reply_in new.history id)) is serves.answer in
       let given = subst (λ es. reply_in es id ≡ Some r) longer some in
       record {
-        served = subst (λ es. IsServed (ops ++ op ∷ []) es (log ++ r ∷ [])) (sym longer)
-            (IsServed-push ops old.history log op serves.result serves.items r serving.served given);
+        served = subst (λ es. IsScriptServed (ops ++ op ∷ []) es (log ++ r ∷ [])) (sym longer)
+            (IsScriptServed-push ops old.history log op serves.result serves.items r serving.served given);
         run = serves.run;
         lines = subst (All IsLine) (sym longer) (All-push IsLine old.history entry serving.lines line);
         rows = All-push HasReplyWords log r serving.rows (HasReplyWords-of serves.result r line.1 (sym replied ∙ some));

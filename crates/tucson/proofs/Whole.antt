@@ -6,11 +6,12 @@ use Rattle.tc_lists.specs.Items.{items_text}
 use Rattle.tc_lists.specs.Texts.{joined, after_all}
 use Rattle.tc_lists.proofs.Texts.{after_all-append, after_all-takes}
 use Rattle.tc_model.specs.declared.calls.Op.{Op}
-use Rattle.tc_term.specs.Text.{is_name, is_word}
-use Rattle.tucson.specs.Setup.{IsItem, item_text, Setup, setup_text, Spells}
-use Rattle.tucson.specs.Reading.{name_at, grants, script_head, name_behind, items_to_end, script_at, setup_at}
+use Rattle.tc_term.specs.Bytes.{is_word}
+use Rattle.tc_term.specs.Text.{is_name}
+use Rattle.tucson.specs.Setup.{IsItem, item_text, Setup, setup_text, IsTextOfSetup}
+use Rattle.tucson.specs.Form.{name_at, grants, script_head, name_behind, items_to_end, script_at, setup_at}
 use Rattle.tucson.proofs.Names.{name_at-again, name_at-takes}
-use Rattle.tucson.proofs.PlainText.{length-items_text}
+use Rattle.tc_lists.proofs.Items.{length-items_text}
 use Rattle.tucson.proofs.Items.{items_to_end-again, items_to_end-takes}
 
 name_behind-again : (texts : List (List ℕ)) (name : List ℕ) (b : ℕ) (more : List ℕ) → IsTrue (is_name name) → is_word b ≡ false → name_behind texts (joined texts ++ (name ++ b ∷ more)) ≡ Some (name, b ∷ more)
@@ -86,7 +87,7 @@ length-parts s =
     let few = length-items_text (item_text s.centre) 44 s.ops in
     (omega arith, omega arith, omega arith)
 
-pub read_again : (bytes : List ℕ) (s : Setup) → Spells bytes s → setup_at bytes ≡ Some s
+pub read_again : (bytes : List ℕ) (s : Setup) → IsTextOfSetup bytes s → setup_at bytes ≡ Some s
 unfolding setup_at at_role at_grants at_script
 read_again bytes s spelled =
     let whole : bytes ≡ codes "centre(" ++ (s.centre ++ at_role s) = spelled.text ∙ setup_text-read s in
@@ -116,7 +117,7 @@ from_role centre role = option_and_then (from_agent centre role) (name_behind (g
 abbrev from_centre : Named → Option Setup
 from_centre centre = option_and_then (from_role centre) (name_behind (codes ").\nrole(" ∷ []) centre.1)
 
-parts_spell : (bytes : List ℕ) (centre role agent : Named) (ops : List Op) → length bytes ≤ 8192 → IsNameBehind (codes "centre(" ∷ []) bytes centre.0 centre.1 → IsNameBehind (codes ").\nrole(" ∷ []) centre.1 role.0 role.1 → IsNameBehind (grants centre.0 role.0) role.1 agent.0 agent.1 → IsScriptAt centre.0 role.0 agent.0 agent.1 ops → Spells bytes (setup_of centre role agent ops)
+parts_spell : (bytes : List ℕ) (centre role agent : Named) (ops : List Op) → length bytes ≤ 8192 → IsNameBehind (codes "centre(" ∷ []) bytes centre.0 centre.1 → IsNameBehind (codes ").\nrole(" ∷ []) centre.1 role.0 role.1 → IsNameBehind (grants centre.0 role.0) role.1 agent.0 agent.1 → IsScriptAt centre.0 role.0 agent.0 agent.1 ops → IsTextOfSetup bytes (setup_of centre role agent ops)
 unfolding at_role at_grants at_script
 parts_spell bytes centre role agent ops short first second third last =
     let s : Setup = setup_of centre role agent ops in
@@ -135,7 +136,7 @@ parts_spell bytes centre role agent ops short first second third last =
       text = text;
     }
 
-pub spelled : (bytes : List ℕ) (s : Setup) → length bytes ≤ 8192 → setup_at bytes ≡ Some s → Spells bytes s
+pub spelled : (bytes : List ℕ) (s : Setup) → length bytes ≤ 8192 → setup_at bytes ≡ Some s → IsTextOfSetup bytes s
 unfolding setup_at
 spelled bytes s short e =
     option_and_then_some from_centre (name_behind (codes "centre(" ∷ []) bytes) s e
@@ -146,10 +147,10 @@ spelled bytes s short e =
     (λ (agent : Named) (third : name_behind (grants centre.0 role.0) role.1 ≡ Some agent) (behind_agent : from_agent centre role agent ≡ Some s).
     option_and_then_some (λ ops. Some (setup_of centre role agent ops)) (script_at centre.0 role.0 agent.0 agent.1) s behind_agent
     (λ (ops : List Op) (last : script_at centre.0 role.0 agent.0 agent.1 ≡ Some ops) (made : Some (setup_of centre role agent ops) ≡ Some s).
-    let spells : Spells bytes (setup_of centre role agent ops) =
+    let spells : IsTextOfSetup bytes (setup_of centre role agent ops) =
     parts_spell bytes centre role agent ops short
     (name_behind-takes (codes "centre(" ∷ []) bytes centre.0 centre.1 first)
     (name_behind-takes (codes ").\nrole(" ∷ []) centre.1 role.0 role.1 second)
     (name_behind-takes (grants centre.0 role.0) role.1 agent.0 agent.1 third)
     (script_at-takes centre.0 role.0 agent.0 agent.1 ops last) in
-    subst (λ (q : Setup). Spells bytes q) (same_Some (setup_of centre role agent ops) s made) spells))))
+    subst (λ (q : Setup). IsTextOfSetup bytes q) (same_Some (setup_of centre role agent ops) s made) spells))))

@@ -2,24 +2,17 @@
 use Rattle.std.proofs.Common.{◌≡◌, ◌↔◌, ℕ, ◌≤◌, ◌<◌, Bool, IsTrue, List, [], ◌∷◌, length, get_or, map, codes, Vec, Global, sym, ap, ◌∙◌, arith}
 use Rattle.std.specs.Str.{bytes_eq}
 use Rattle.std.proofs.lemmas.Slice.Eq.{bytes_eq-Decides}
+use Rattle.tc_lists.proofs.Parts.{singleton_read, cons_head}
 use Rattle.tucson.specs.Answer.{run_words}
-
-one_word : {W : Type 0} (words : List W) (w : W) → 1 ≤ length words → length words < 2 → w ≡ get_or words 0 w → words ≡ w ∷ []
-one_word [] w some one is = absurd (omega arith)
-one_word (v ∷ []) w some one is = cc
-one_word (u ∷ v ∷ vs) w some one is = absurd (omega arith)
 
 abbrev bytes : Vec ℕ Global → List ℕ
 bytes w = w.items
 
-same_first : (a b : List ℕ) → ◌≡◌ {A = List (List ℕ)} (a ∷ []) (b ∷ []) → a ≡ b
-same_first a b e = cc
-
 -- one word is `run` exactly where it equals it
 pub run_words-one : (words : List (Vec ℕ Global)) (w : Vec ℕ Global) (equal : Bool) → 1 ≤ length words → length words < 2 → w ≡ get_or words 0 w → equal ≡ bytes_eq w.items (codes "run") → IsTrue equal ↔ (map bytes words ≡ run_words)
 run_words-one words w equal some one is tested =
-    let single : map bytes words ≡ w.items ∷ [] = ap (map bytes) (one_word words w some one is) in
+    let single : map bytes words ≡ w.items ∷ [] = ap (map bytes) (singleton_read words w some one is) in
     let decides = bytes_eq-Decides w.items (codes "run") in (
       λ yes. single ∙ ap (λ (l : List ℕ). l ∷ []) (decides.0 (sym tested ∙ yes)),
-      λ e. tested ∙ decides.1 (same_first w.items (codes "run") (sym single ∙ e)),
+      λ e. tested ∙ decides.1 (cons_head (sym single ∙ e)),
     )

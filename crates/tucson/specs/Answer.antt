@@ -5,7 +5,7 @@ use Rattle.tc_model.specs.declared.outcomes.Reply.{Reply}
 use Rattle.tucson.specs.declared.status.Cause.TheVariants.{Form}
 use Rattle.tucson.specs.declared.status.Status.{Status}
 use Rattle.tucson.specs.declared.status.Status.TheVariants.{Ended, Refused, Usage}
-use Rattle.tucson.specs.Setup.{Setup, Spells}
+use Rattle.tucson.specs.Setup.{Setup, IsTextOfSetup}
 use Rattle.tucson.specs.Good.{IsGood}
 use Rattle.tucson.specs.Output.{run_text}
 use Rattle.tc_io.specs.Sources.{ReadsAll, ReadsPast}
@@ -30,12 +30,12 @@ pub record IsTextOf (s : Setup) (text : List ℕ) : Type 0 where
 -- the text is that of a run of the configuration that the input spells
 pub record IsTextOfRun (input text : List ℕ) : Type 0 where
   pub setup : Setup
-  pub spells : Spells input setup
+  pub spells : IsTextOfSetup input setup
   pub run : IsTextOf setup text
 
 -- the input spells no configuration
 abbrev pub IsNoForm : List ℕ → Type 0
-IsNoForm input = (s : Setup) → Spells input s → ⊥
+IsNoForm input = (s : Setup) → IsTextOfSetup input s → ⊥
 
 -- what a call reads
 pub data Input : Type 0 where
@@ -44,10 +44,10 @@ pub data Input : Type 0 where
   TooLong : Input
 
 -- nothing was read, or all that was left, or more than 8,192 bytes
-abbrev pub IsRead : Option (List ℕ) → Option (List ℕ) → Input → Type 0
-IsRead left rest Unread = rest ≡ left
-IsRead left rest (Whole input) = ReadsAll left rest 8192 input
-IsRead left rest TooLong = ReadsPast left rest 8192
+abbrev pub IsInput : Option (List ℕ) → Option (List ℕ) → Input → Type 0
+IsInput left rest Unread = rest ≡ left
+IsInput left rest (Whole input) = ReadsAll left rest 8192 input
+IsInput left rest TooLong = ReadsPast left rest 8192
 
 -- a call with these words and this input is to end with this status, and to write this text
 abbrev pub IsDue : List (List ℕ) → Input → Status → List ℕ → Type 0

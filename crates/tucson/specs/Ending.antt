@@ -5,7 +5,7 @@ use Rattle.tc_io.specs.Sources.{SourceState}
 use Rattle.tc_io.specs.Sinks.{SinkState, AppendsFront, appended}
 use Rattle.tucson.specs.declared.status.Status.{Status}
 use Rattle.tucson.specs.declared.status.Status.TheVariants.{WriteFault, ReadFault, NoMemory}
-use Rattle.tucson.specs.Answer.{run_words, Input, IsRead, IsDue}
+use Rattle.tucson.specs.Answer.{run_words, Input, IsInput, IsDue}
 
 -- a call: its words, and the source and the sink as it begins and as it ends
 pub record Call : Type 0 where
@@ -16,10 +16,10 @@ pub record Call : Type 0 where
   pub sink_after : SinkState
 
 -- the input was read, this status is due, and the whole of its text was taken
-pub record Answers (call : Call) (status : Status) : Type 0 where
+pub record EndsAsDue (call : Call) (status : Status) : Type 0 where
   pub input : Input
   pub text : List ℕ
-  pub read : IsRead call.source.left call.source_after.left input
+  pub read : IsInput call.source.left call.source_after.left input
   pub due : IsDue call.words input status text
   pub taken : call.sink_after.taken ≡ appended call.sink.taken text
 
@@ -28,7 +28,7 @@ pub record BreaksOff (call : Call) : Type 0 where
   pub input : Input
   pub status : Status
   pub text : List ℕ
-  pub read : IsRead call.source.left call.source_after.left input
+  pub read : IsInput call.source.left call.source_after.left input
   pub due : IsDue call.words input status text
   pub taken : AppendsFront call.sink.taken call.sink_after.taken text
 
@@ -54,7 +54,7 @@ abbrev pub Ends : Call → Status → Type 0
 Ends call WriteFault = FailsToWrite call
 Ends call ReadFault = FailsToRead call
 Ends call NoMemory = TakesNothing call ⊎ BreaksOff call
-Ends call status = Answers call status
+Ends call status = EndsAsDue call status
 
 -- the call was stopped: by a fault of writing or of reading, or by want of memory
 abbrev pub IsStopped : Status → Type 0

@@ -44,7 +44,7 @@ AreRepliesIn history number (r ∷ rs) =
 
 -- each operation stands once in the history, in order, numbered 1, 2, .., and the log has for each
 -- the reply that the history gives
-pub record IsServed (ops : List Op) (history : List Entry) (log : List Reply) : Type 0 where
+pub record IsScriptServed (ops : List Op) (history : List Entry) (log : List Reply) : Type 0 where
   pub calls : AreCallsFor 1 ops (calls_of 0 history)
   pub rows : length log ≡ length ops
   pub replies : AreRepliesIn history 1 log
@@ -53,4 +53,4 @@ pub record IsServed (ops : List Op) (history : List Entry) (log : List Reply) : 
 -- is served in it with this log
 pub record IsGood (s : Setup) (history : List Entry) (log : List Reply) : Type 0 where
   pub run : IsFirstRun (origin_of s) history
-  pub served : IsServed s.ops history log
+  pub served : IsScriptServed s.ops history log

@@ -4,7 +4,7 @@ pub mod Good
 pub mod Serving
 pub mod Status
 pub mod Answer
-pub mod Reading
+pub mod Form
 pub mod Given
 pub mod Config
 pub mod Ending

@@ -71,6 +71,6 @@ pub record IsSetup (s : Setup) : Type 0 where
   pub length : length (setup_text s) ≤ 8192
 
 -- the bytes are the text of this configuration
-pub record Spells (bytes : List ℕ) (s : Setup) : Type 0 where
+pub record IsTextOfSetup (bytes : List ℕ) (s : Setup) : Type 0 where
   pub setup : IsSetup s
   pub text : bytes ≡ setup_text s

@@ -4,9 +4,9 @@ ghost use Rattle.std.specs.Result.{IsErrOf};
 ghost use Rattle.tc_lists.specs.Items.{items_at};
 ghost use Rattle.tc_term.specs.Tree.{IsTuple};
 ghost use Rattle.tc_term.specs.TreeView.{tree_of};
-ghost use Rattle.tucson.specs.Reading.{operand_at, op_at, item_at, items_to_end, name_behind, script_at, grants, setup_at};
+ghost use Rattle.tucson.specs.Form.{operand_at, op_at, item_at, items_to_end, name_behind, script_at, grants, setup_at};
 ghost use Rattle.tucson.specs.Given.{Gives};
-ghost use Rattle.tucson.specs.Setup.{Spells};
+ghost use Rattle.tucson.specs.Setup.{IsTextOfSetup};
 ghost use Rattle.tucson.specs.Answer.{IsNoForm};
 ghost use Rattle.tucson.specs.Config.{setup_of};
 
@@ -32,7 +32,7 @@ pub struct Config {
 }
 
 // An operand, up to the bracket that closes it.
-#[tactic(auto, unfolding(crate::specs::Reading::operand_at))]
+#[tactic(auto, unfolding(crate::specs::Form::operand_at))]
 fn operand(alloc: Global, bytes: &[u8]) -> Result<(Term, &[u8]), Fault>
     requires { length bytes.now ≤ 8192 }
     ensures read { Gives (λ r. (tree_of r.0, r.1.now)) result (operand_at bytes.now) }
@@ -60,14 +60,11 @@ fn template(term: Term) -> Pattern
     requires { IsTuple (tree_of term) }
     ensures { result ≡ tree_of term }
 {
-    match Pattern::of(term) {
-        Ok(template) => template,
-        Err(_) => unreachable!(),
-    }
+    Pattern::of_tuple(tuple(term))
 }
 
 // An operation on a centre.
-#[tactic(auto, unfolding(crate::specs::Reading::op_at))]
+#[tactic(auto, unfolding(crate::specs::Form::op_at))]
 fn op(alloc: Global, bytes: &[u8]) -> Result<(Op, &[u8]), Fault>
     requires { length bytes.now ≤ 8192 }
     ensures read { Gives (λ r. (r.0, r.1.now)) result (op_at bytes.now) }
@@ -83,7 +80,7 @@ fn op(alloc: Global, bytes: &[u8]) -> Result<(Op, &[u8]), Fault>
 }
 
 // An item of a script: an operation on the centre.
-#[tactic(auto, unfolding(crate::specs::Reading::item_at))]
+#[tactic(auto, unfolding(crate::specs::Form::item_at))]
 fn item<'x>(alloc: Global, centre: &[u8], bytes: &'x [u8]) -> Result<(Op, &'x [u8]), Fault>
     requires { length bytes.now ≤ 8192 }
     ensures read { Gives (λ r. (r.0, r.1.now)) result (item_at centre.now bytes.now) }
@@ -115,7 +112,7 @@ fn items<'x>(alloc: Global, centre: &[u8], bytes: &'x [u8]) -> Result<(Vec<Op>, 
 }
 
 // The items of a script, up to the end of the text.
-#[tactic(auto, unfolding(crate::specs::Reading::items_to_end))]
+#[tactic(auto, unfolding(crate::specs::Form::items_to_end))]
 fn last_items(alloc: Global, centre: &[u8], bytes: &[u8]) -> Result<Vec<Op>, Fault>
     requires { length bytes.now ≤ 8192 }
     ensures { Gives (λ ops. ops.items) result (items_to_end centre.now bytes.now) }
@@ -130,7 +127,7 @@ fn last_items(alloc: Global, centre: &[u8], bytes: &[u8]) -> Result<Vec<Op>, Fau
 }
 
 // The script of the agent, up to the end of the text.
-#[tactic(auto, unfolding(crate::specs::Reading::script_at))]
+#[tactic(auto, unfolding(crate::specs::Form::script_at))]
 fn script<'n>(
     alloc: Global,
     centre: &'n [u8],
@@ -147,7 +144,7 @@ fn script<'n>(
 }
 
 // A name behind these texts.
-#[tactic(auto, unfolding(crate::specs::Reading::name_behind))]
+#[tactic(auto, unfolding(crate::specs::Form::name_behind))]
 fn name_behind<'x>(
     alloc: Global,
     texts: &[&[u8]],
@@ -187,7 +184,7 @@ fn agent<'n, 'x>(
 }
 
 // The whole configuration, by its function on lists.
-#[tactic(auto, unfolding(crate::specs::Reading::setup_at))]
+#[tactic(auto, unfolding(crate::specs::Form::setup_at))]
 fn exact_config(alloc: Global, bytes: &[u8]) -> Result<Config, Fault>
     requires { length bytes.now ≤ 8192 }
     ensures { Gives setup_of result (setup_at bytes.now) }
@@ -208,7 +205,7 @@ fn exact_config(alloc: Global, bytes: &[u8]) -> Result<Config, Fault>
 pub fn read_config(alloc: Global, bytes: &[u8]) -> Result<Config, Fault>
     requires { length bytes.now ≤ 8192 }
     // What is read is spelled so.
-    ensures found { IfOk result (λ c. Spells bytes.now (setup_of c)) }
+    ensures found { IfOk result (λ c. IsTextOfSetup bytes.now (setup_of c)) }
 
     // What is spelled so is read, unless memory runs out.
     ensures form { IsErrOf result Fault.Form → IsNoForm bytes.now }

@@ -4,7 +4,7 @@ ghost use Rattle.std.specs.Option.{option_map};
 ghost use Rattle.tc_lists.specs.Decimals.{integer_at};
 ghost use Rattle.tc_lists.specs.Items.{items_at};
 ghost use Rattle.tc_term.specs.TreeView.{tree_of};
-ghost use Rattle.tucson.specs.Reading.{term_at};
+ghost use Rattle.tucson.specs.Form.{term_at};
 ghost use Rattle.tucson.specs.Given.{Gives};
 
 use crate::reading::{Fault, behind, name};

@@ -3,8 +3,9 @@ ghost use Rattle.std.specs.Prelude.{◌≡◌, ◌<◌, ◌≤◌, length, map, 
 ghost use Rattle.std.specs.List.{prefix_len, list_all};
 ghost use Rattle.std.specs.Option.{option_map};
 ghost use Rattle.tc_lists.specs.Texts.{after, after_all};
-ghost use Rattle.tc_term.specs.Text.{is_word, is_name};
-ghost use Rattle.tucson.specs.Reading.{name_at};
+ghost use Rattle.tc_term.specs.Bytes.{is_word};
+ghost use Rattle.tc_term.specs.Text.{is_name};
+ghost use Rattle.tucson.specs.Form.{name_at};
 ghost use Rattle.tucson.specs.Given.{Gives};
 
 use std::alloc::{AllocFailed, Global};
@@ -61,7 +62,7 @@ pub fn behind_all<'x>(texts: &[&[u8]], bytes: &'x [u8]) -> Option<&'x [u8]>
 }
 
 /// The name at the front of the bytes, and what stands behind it.
-#[tactic(auto, unfolding(crate::specs::Reading::name_at))]
+#[tactic(auto, unfolding(crate::specs::Form::name_at))]
 pub fn name(alloc: Global, bytes: &[u8]) -> Result<(Name, &[u8]), Fault>
     ensures read { Gives (λ r. (r.0, r.1.now)) result (name_at bytes.now) }
     ensures shorter { IfOk result (λ r. length r.1.now < length bytes.now) }

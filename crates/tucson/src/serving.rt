@@ -1,6 +1,6 @@
 //! A script that is served by a centre of its own.
 ghost use Rattle.std.specs.Prelude.{◌≡◌, All, IfOk};
-ghost use Rattle.tucson.specs.Good.{IsServed};
+ghost use Rattle.tucson.specs.Good.{IsScriptServed};
 ghost use Rattle.tucson.specs.Output.{IsLine, HasReplyWords};
 ghost use Rattle.tucson.specs.Serving.{IsFresh, IsScript};
 
@@ -15,7 +15,7 @@ pub fn serve_script(alloc: Global, core: &mut Core, ops: Vec<Op>) -> Result<Vec<
     requires fresh { IsFresh core.old }
     requires script { IsScript ops.items }
     ensures origin { core.new.origin ≡ core.old.origin }
-    ensures served { IfOk result (λ log. IsServed ops.items core.new.history log.items) }
+    ensures served { IfOk result (λ log. IsScriptServed ops.items core.new.history log.items) }
     ensures lines { IfOk result (λ log. All IsLine core.new.history) }
     ensures rows { IfOk result (λ log. All HasReplyWords log.items) }
 {

@@ -2,10 +2,13 @@
 ghost use Rattle.std.specs.Prelude.{◌≡◌};
 ghost use Rattle.tucson.specs.Status.{number_of};
 
+use thiserror::Error;
+
 /// Why a configuration is refused.
-#[derive(Clone, Copy, PartialEq, Eq, Debug)]
+#[derive(Clone, Copy, PartialEq, Eq, Debug, Drop, Error)]
 pub enum Cause {
     /// It hasn't the form of a configuration.
+    #[error("form")]
     Form,
 }
 

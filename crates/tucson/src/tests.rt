@@ -63,52 +63,13 @@ fn ends(
     Ok(())
 }
 
-// The configuration with this operand is run, or it is refused.
-fn is_run(rt: &impl Abort, alloc: Global, operand: &[u8], run: bool) -> Result<(), Fail> {
+// Whether the configuration with this operand is run; if not, it is refused.
+fn is_run(rt: &impl Abort, alloc: Global, operand: &[u8]) -> Result<bool, Fail> {
     let mut source = SureSource::new(input(alloc, operand)?);
     let mut sink = SureSink::new(alloc);
     let ended = tucson(alloc, &words(alloc, 1)?, &mut source, &mut sink);
-    assert_eq!(rt; ended, if run { Status::Ended } else { REFUSED });
-    Ok(())
-}
-
-#[test]
-fn a_script_is_run(rt: HostRuntime) -> Result<(), Fail> {
-    let alloc = rt.alloc();
-    ends(&rt, alloc, 1, input(alloc, SCRIPT)?, Status::Ended, TEXT)
-}
-
-#[test]
-fn an_input_without_its_last_line_feed_is_refused(rt: HostRuntime) -> Result<(), Fail> {
-    let alloc = rt.alloc();
-    let mut cut = input(alloc, SCRIPT)?;
-    cut.pop();
-    ends(&rt, alloc, 1, cut, REFUSED, REFUSAL)
-}
-
-#[test]
-fn other_words_get_the_usage(rt: HostRuntime) -> Result<(), Fail> {
-    let alloc = rt.alloc();
-    ends(&rt, alloc, 2, input(alloc, SCRIPT)?, Status::Usage, USAGE)?;
-    ends(&rt, alloc, 0, input(alloc, SCRIPT)?, Status::Usage, USAGE)
-}
-
-#[test]
-fn numbers_stand_in_their_one_form(rt: HostRuntime) -> Result<(), Fail> {
-    let alloc = rt.alloc();
-    is_run(&rt, alloc, b"-9223372036854775808", true)?;
-    is_run(&rt, alloc, b"9223372036854775807", true)?;
-    is_run(&rt, alloc, b"9223372036854775808", false)?;
-    is_run(&rt, alloc, b"-0", false)?;
-    is_run(&rt, alloc, b"01", false)?;
-    is_run(&rt, alloc, b"+1", false)
-}
-
-#[test]
-fn a_hundred_and_fifty_brackets_may_be_open(rt: HostRuntime) -> Result<(), Fail> {
-    let alloc = rt.alloc();
-    is_run(&rt, alloc, &nested(alloc, 150)?, true)?;
-    is_run(&rt, alloc, &nested(alloc, 151)?, false)
+    assert!(rt; ended == Status::Ended || ended == REFUSED);
+    Ok(ended == Status::Ended)
 }
 
 // A term in which so many brackets are open.
@@ -125,32 +86,76 @@ fn nested(alloc: Global, brackets: usize) -> Result<Vec<u8>, Fail> {
 }
 
 #[test]
-fn an_input_of_8192_bytes_is_read(rt: HostRuntime) -> Result<(), Fail> {
+fn a_script_is_run(rt: HostRuntime) -> Result<(), Fail> {
     let alloc = rt.alloc();
-    let around = input(alloc, b"")?.len();
-    assert!(&rt; around <= 8192);
-    is_run(&rt, alloc, &vec![in alloc; b'a'; 8192 - around]?, true)?;
-    is_run(&rt, alloc, &vec![in alloc; b'a'; 8193 - around]?, false)
+    ends(&rt, alloc, 1, input(alloc, SCRIPT)?, Status::Ended, TEXT)
 }
 
 #[test]
-fn a_failing_read_writes_nothing(rt: HostRuntime) -> Result<(), Fail> {
+fn other_words_get_the_usage(rt: HostRuntime) -> Result<(), Fail> {
     let alloc = rt.alloc();
-    let mut source = MemSource::new(input(alloc, SCRIPT)?, 16, vec![in alloc; 1]?);
-    let mut sink = SureSink::new(alloc);
-    let ended = tucson(alloc, &words(alloc, 1)?, &mut source, &mut sink);
-    assert_eq!(&rt; ended, Status::ReadFault);
-    assert_eq!(&rt; sink.taken(), b"".as_slice());
+    ends(&rt, alloc, 2, input(alloc, SCRIPT)?, Status::Usage, USAGE)?;
+    ends(&rt, alloc, 0, input(alloc, SCRIPT)?, Status::Usage, USAGE)
+}
+
+#[test]
+fn an_input_without_its_last_line_feed_is_refused(rt: HostRuntime) -> Result<(), Fail> {
+    let alloc = rt.alloc();
+    let mut cut = input(alloc, SCRIPT)?;
+    cut.pop();
+    ends(&rt, alloc, 1, cut, REFUSED, REFUSAL)
+}
+
+#[test]
+fn operands_stand_in_their_one_form(rt: HostRuntime) -> Result<(), Fail> {
+    let rows = [
+        (b"-9223372036854775808".as_slice(), true),
+        (b"9223372036854775807", true),
+        (b"9223372036854775808", false),
+        (b"-0", false),
+        (b"01", false),
+        (b"+1", false),
+        (b"f()", false),
+    ];
+    for (operand, run) in rows {
+        let found = is_run(&rt, rt.alloc(), operand)?;
+        assert_eq!(rt; found, run);
+    }
     Ok(())
 }
 
 #[test]
-fn a_failing_write_leaves_a_beginning(rt: HostRuntime) -> Result<(), Fail> {
+fn operands_are_read_up_to_the_limits(rt: HostRuntime) -> Result<(), Fail> {
     let alloc = rt.alloc();
+    let around = input(alloc, b"")?.len();
+    assert!(rt; around <= 8192);
+    let rows = [
+        (nested(alloc, 150)?, true),
+        (nested(alloc, 151)?, false),
+        (vec![in alloc; b'a'; 8192 - around]?, true),
+        (vec![in alloc; b'a'; 8193 - around]?, false),
+    ];
+    for (operand, run) in rows {
+        let found = is_run(&rt, alloc, &operand)?;
+        assert_eq!(rt; found, run);
+    }
+    Ok(())
+}
+
+#[test]
+fn a_fault_stops_the_call(rt: HostRuntime) -> Result<(), Fail> {
+    let alloc = rt.alloc();
+    let words = words(alloc, 1)?;
+    let mut failing = MemSource::new(input(alloc, SCRIPT)?, 16, vec![in alloc; 1]?);
+    let mut sink = SureSink::new(alloc);
+    let ended = tucson(alloc, &words, &mut failing, &mut sink);
+    assert_eq!(rt; ended, Status::ReadFault);
+    assert_eq!(rt; sink.taken(), b"".as_slice());
+
     let mut source = SureSource::new(input(alloc, SCRIPT)?);
-    let mut sink = MemSink::new(alloc, 1, vec![in alloc; 21]?);
-    let ended = tucson(alloc, &words(alloc, 1)?, &mut source, &mut sink);
-    assert_eq!(&rt; ended, Status::WriteFault);
-    assert_eq!(&rt; sink.taken(), b"tucson 1\ncentre c\nca".as_slice());
+    let mut failing = MemSink::new(alloc, 1, vec![in alloc; 21]?);
+    let ended = tucson(alloc, &words, &mut source, &mut failing);
+    assert_eq!(rt; ended, Status::WriteFault);
+    assert_eq!(rt; failing.taken(), b"tucson 1\ncentre c\nca".as_slice());
     Ok(())
 }

@@ -1,7 +1,7 @@
 //! The top call.
 ghost use Rattle.std.specs.Prelude.{◌≡◌, ◌≢◌, ℕ, ◌⊎◌, List, IfSome, map};
 ghost use Rattle.tc_io.specs.Faults.{Counts};
-ghost use Rattle.tucson.specs.Setup.{Setup, Spells};
+ghost use Rattle.tucson.specs.Setup.{Setup, IsTextOfSetup};
 ghost use Rattle.tucson.specs.Answer.{run_words, IsNoForm};
 ghost use Rattle.tucson.specs.Ending.{Ends, IsUnlessStopped};
 
@@ -54,7 +54,7 @@ pub fn tucson<S: Source, K: Sink>(
     ensures usage { map (λ w. w.items) words.now ≢ run_words
         → IsUnlessStopped Status.Usage result }
     ensures ended { map (λ w. w.items) words.now ≡ run_words
-        → IfSome (S.left source.old) (λ input. (s : Setup) → Spells input s
+        → IfSome (S.left source.old) (λ input. (s : Setup) → IsTextOfSetup input s
         → IsUnlessStopped Status.Ended result) }
     ensures refused { map (λ w. w.items) words.now ≡ run_words
         → IfSome (S.left source.old) (λ input. IsNoForm input

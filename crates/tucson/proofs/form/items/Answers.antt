@@ -1,9 +1,10 @@
 use Rattle.std.proofs.Common.{ℕ, List, option_map, Bor, Some, sym, ap, ◌∙◌, subst, arith}
 use Rattle.tc_model.specs.declared.calls.Op.{Op}
 use Rattle.tucson.specs.declared.reading.Fault.TheVariants.{Form}
-use Rattle.tucson.specs.Reading.{item_at}
-use Rattle.tucson.proofs.Listing.{IsItemRead, IsReadSoFar, IsReadSoFar-more, IsReadSoFar-closed, comma-square}
-use Rattle.tucson.proofs.TermSteps.{ok_or-some}
+use Rattle.tucson.specs.Form.{item_at}
+use Rattle.tc_lists.proofs.Listing.{IsItemRead, IsReadSoFar, IsReadSoFar-more, IsReadSoFar-closed}
+use Rattle.tucson.proofs.Commas.{comma-square}
+use Rattle.tc_lists.proofs.Results.{ok_or_some}
 use Rattle.tucson.proofs.form.items.Goals as goal
 
 pub loop-ops-preserved : goal.loop-ops-preserved
@@ -24,7 +25,7 @@ returns-in_default-clause-read c =
     let read = item_at c.args.centre.now in
     let item : IsItemRead 44 93 read c.loop-ops.rest.now c.in_ok-op.op c.in_ok-op.after_op.now =
     record { is = c.in_ok-op.ensures.read; shorter = c.in_ok-op.ensures.shorter } in
-    let some = ok_or-some c.behind-in_default.result Form c.in_ok-more.more (sym c.ok_or.ensures.value ∙ c.in_ok-more.was) in
+    let some = ok_or_some c.behind-in_default.result Form c.in_ok-more.more (sym c.ok_or.ensures.value ∙ c.in_ok-more.was) in
     let closed = sym c.behind-in_default.ensures.exact ∙ ap (option_map (λ (l : Bor (List ℕ)). l.now)) some in
     IsReadSoFar-closed 44 93 read comma-square c.args.bytes.now c.loop-ops.ops.items c.loop-ops.rest.now c.in_ok-op.op c.in_ok-op.after_op.now c.in_ok-more.more.now c.loop-ops.invariant.so_far item closed
     ∙ ap (λ (ops : List Op). Some (ops, c.in_ok-more.more.now)) (sym c.in_ok-push.ensures.items)

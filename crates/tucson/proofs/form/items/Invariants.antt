@@ -1,6 +1,6 @@
 use Rattle.std.proofs.Common.{length, ◌≤◌}
-use Rattle.tucson.specs.Reading.{item_at}
-use Rattle.tucson.proofs.Listing.{IsReadSoFar}
+use Rattle.tucson.specs.Form.{item_at}
+use Rattle.tc_lists.proofs.Listing.{IsReadSoFar}
 use Rattle.tucson.proofs.form.items.Given as goal
 
 -- the items so far are the first of the list

@@ -3,12 +3,12 @@ use Rattle.tucson.specs.declared.form.Config.{Config}
 use Rattle.tucson.specs.declared.reading.Fault.{Fault}
 use Rattle.tucson.specs.Config.{setup_of}
 use Rattle.tucson.specs.Given.{Gives}
-use Rattle.tucson.specs.Reading.{setup_at}
-use Rattle.tucson.specs.Setup.{Setup, Spells}
+use Rattle.tucson.specs.Form.{setup_at}
+use Rattle.tucson.specs.Setup.{Setup, IsTextOfSetup}
 use Rattle.tucson.proofs.Whole.{spelled, read_again}
 use Rattle.tucson.proofs.form.read_config.Goals as goal
 
-found : (r : Result Config Fault) (bytes : List ℕ) → length bytes ≤ 8192 → Gives setup_of r (setup_at bytes) → IfOk r (λ c. Spells bytes (setup_of c))
+found : (r : Result Config Fault) (bytes : List ℕ) → length bytes ≤ 8192 → Gives setup_of r (setup_at bytes) → IfOk r (λ c. IsTextOfSetup bytes (setup_of c))
 found (Ok c) bytes short given = spelled bytes (setup_of c) short given
 found (Err e) bytes short given = tt
 

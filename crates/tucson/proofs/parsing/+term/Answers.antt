@@ -3,9 +3,11 @@ use Rattle.std.proofs.lemmas.List.{map_push}
 use Rattle.tc_term.specs.Tree.{Tree, Trees, Compound}
 use Rattle.tc_term.specs.TreeView.{tree_of}
 use Rattle.tucson.specs.declared.reading.Fault.TheVariants.{Form}
-use Rattle.tucson.specs.Reading.{term_at}
-use Rattle.tucson.proofs.Listing.{IsItemRead, IsReadSoFar, IsReadSoFar-more, IsReadSoFar-closed, comma-round}
-use Rattle.tucson.proofs.TermSteps.{ok_or-some, term_at-args, trees_of-gathered}
+use Rattle.tucson.specs.Form.{term_at}
+use Rattle.tc_lists.proofs.Listing.{IsItemRead, IsReadSoFar, IsReadSoFar-more, IsReadSoFar-closed}
+use Rattle.tucson.proofs.Commas.{comma-round}
+use Rattle.tc_lists.proofs.Results.{ok_or_some}
+use Rattle.tucson.proofs.TermSteps.{term_at-args, trees_of-gathered}
 use Rattle.tucson.proofs.parsing.+term.Goals as goal
 
 pub arguments-loop-args-preserved : goal.arguments-loop-args-preserved
@@ -28,7 +30,7 @@ arguments-returns-in_default-clause-read t c =
     let pushed = ap (map tree_of) c.in_ok-push.ensures.items ∙ map_push tree_of c.loop-args.args.items c.in_ok-arg.arg in
     let item : IsItemRead 44 41 read c.loop-args.rest.now (tree_of c.in_ok-arg.arg) c.in_ok-arg.after_arg.now =
     record { is = c.in_ok-arg.ensures.read; shorter = c.in_ok-arg.ensures.shorter } in
-    let some = ok_or-some c.behind-in_default.result Form c.in_ok-more.more (sym c.ok_or.ensures.value ∙ c.in_ok-more.was) in
+    let some = ok_or_some c.behind-in_default.result Form c.in_ok-more.more (sym c.ok_or.ensures.value ∙ c.in_ok-more.was) in
     let closed = sym c.behind-in_default.ensures.exact ∙ ap (option_map (λ (l : Bor (List ℕ)). l.now)) some in
     IsReadSoFar-closed 44 41 read comma-round c.args.bytes.now (map tree_of c.loop-args.args.items) c.loop-args.rest.now (tree_of c.in_ok-arg.arg) c.in_ok-arg.after_arg.now c.in_ok-more.more.now c.loop-args.invariant.so_far item closed
     ∙ ap (λ (ts : List Tree). Some (ts, c.in_ok-more.more.now)) (sym pushed)

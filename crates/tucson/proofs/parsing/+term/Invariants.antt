@@ -1,7 +1,7 @@
 use Rattle.std.proofs.Common.{length, map, ◌+◌, ◌*◌, ◌≤◌}
 use Rattle.tc_term.specs.TreeView.{tree_of}
-use Rattle.tucson.specs.Reading.{term_at}
-use Rattle.tucson.proofs.Listing.{IsReadSoFar}
+use Rattle.tucson.specs.Form.{term_at}
+use Rattle.tc_lists.proofs.Listing.{IsReadSoFar}
 use Rattle.tucson.proofs.parsing.+term.Given as goal
 
 -- arguments begin with a term of the same bytes, and a term goes on with arguments of fewer

@@ -1,5 +1,5 @@
 use Rattle.std.proofs.lemmas.Option.{IfSome_then}
-use Rattle.tucson.proofs.TermSteps.{IsIntegerAt-shorter}
+use Rattle.tc_lists.proofs.Decimals.{IsIntegerAt-shorter}
 use Rattle.tucson.proofs.parsing.number.Goals as goal
 
 pub returns-clause-shorter : goal.returns-clause-shorter

@@ -1,6 +1,6 @@
 use Rattle.std.proofs.Common.{◌≡◌, ◌++◌, map, drop}
 use Rattle.tc_lists.specs.Texts.{joined}
-use Rattle.tucson.proofs.Behind.{lent}
+use Rattle.tc_lists.proofs.Behind.{lent}
 use Rattle.tucson.proofs.printing.append_all.Given as goal
 
 -- what was appended, and then the texts that are left, is all of them

@@ -1,4 +1,4 @@
-use Rattle.tucson.proofs.Behind.{strip_prefix-after}
+use Rattle.tc_lists.proofs.Behind.{strip_prefix-after}
 use Rattle.tucson.proofs.reading.behind.Goals as goal
 
 pub returns-clause-exact : goal.returns-clause-exact

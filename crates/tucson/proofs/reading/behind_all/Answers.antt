@@ -1,6 +1,6 @@
 use Rattle.std.proofs.Common.{◌+◌, ℕ, List, [], map, drop, Bor, option_and_then, ap, ◌∙◌, sym, arith}
 use Rattle.tc_lists.specs.Texts.{after_all}
-use Rattle.tucson.proofs.Behind.{lent, after_all-next}
+use Rattle.tc_lists.proofs.Behind.{lent, after_all-next}
 use Rattle.tucson.proofs.reading.behind_all.Goals as goal
 
 -- of no text

@@ -6,7 +6,7 @@ use Rattle.tc_model.specs.declared.entries.Entry.{Entry}
 use Rattle.tc_model.specs.declared.outcomes.Reply.{Reply}
 use Rattle.tucson.specs.Answer.{IsTextOf}
 use Rattle.tucson.specs.Config.{setup_of}
-use Rattle.tucson.specs.Good.{origin_of, IsServed, IsGood}
+use Rattle.tucson.specs.Good.{origin_of, IsScriptServed, IsGood}
 use Rattle.tucson.specs.Output.{HasReplyWords, IsLine, run_text}
 use Rattle.tucson.specs.Serving.{IsFresh}
 use Rattle.tucson.specs.Setup.{Setup}
@@ -27,10 +27,10 @@ print_run-requires c = record {
 
 -- the served core has a good run
 good_of : (s : Setup) (core : Centre) (history : List Entry) (log : List Reply) → core.origin ≡ origin_of s
-    → history ≡ core.history → IsFirstRun core.origin core.history → IsServed s.ops core.history log → IsGood s history log
+    → history ≡ core.history → IsFirstRun core.origin core.history → IsScriptServed s.ops core.history log → IsGood s history log
 good_of s core history log origin same run served = record {
   run = subst (λ h. IsFirstRun (origin_of s) h) (sym same) (subst (λ o. IsFirstRun o core.history) origin run);
-  served = subst (λ h. IsServed s.ops h log) (sym same) served;
+  served = subst (λ h. IsScriptServed s.ops h log) (sym same) served;
 }
 
 -- what was printed is the text of a good run

@@ -9,7 +9,8 @@ use Rattle.tc_lists.specs.Texts.{after, after_all}
 use Rattle.tc_term.specs.Tree.{Tree, Atomic, Number, Compound, Trees, Last, More}
 use Rattle.tc_model.specs.declared.calls.Op.{Op}
 use Rattle.tc_model.specs.declared.calls.Op.TheVariants.{Out, Inp}
-use Rattle.tc_term.specs.Text.{is_name, is_word}
+use Rattle.tc_term.specs.Bytes.{is_word}
+use Rattle.tc_term.specs.Text.{is_name}
 use Rattle.tucson.specs.Setup.{Setup}
 
 infixl 10 ◌>>=◌
