@@ -1,7 +1,14 @@
 //! A bag: tuples in order of age, with marks to which it goes back.
 //!
-//! Each tuple that is put is younger than all before it, and is found by its key. Nothing here
-//! knows of templates, operations or histories.
+//! Each tuple that is put is younger than all before it, and is found by its key and its first
+//! argument. Nothing here knows of templates, operations or histories.
+//!
+//! ```text
+//! let mut bag = Bag::new(alloc);
+//! bag.add(tuple)?;
+//! let key = Key::of(alloc, template)?;
+//! let found = bag.candidate_like(&key, known_first(template), 0);
+//! ```
 #![tactic(auto)]
 
 mod bag;

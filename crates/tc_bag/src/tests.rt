@@ -1,4 +1,5 @@
 //! Tables of keys and ages, and marks within marks.
+use crate::codes::code_like;
 use crate::{Bag, Key};
 use std::alloc::Global;
 use std::process::Abort;
@@ -58,6 +59,63 @@ fn candidates_agree_with_the_key(rt: HostRuntime) -> Result<(), Fail> {
         let found = bag.candidate(key, from).map(|row| row.0);
         assert!(rt; found == want, "{key:?} from {from}");
     }
+    Ok(())
+}
+
+#[test]
+fn candidates_have_the_first_argument(rt: HostRuntime) -> Result<(), Fail> {
+    let alloc = rt.alloc();
+    let mut bag = Bag::new(alloc);
+    bag.add(p(alloc, 1)?)?;
+    bag.add(p(alloc, 2)?)?;
+    bag.add(atom(alloc, b"p")?)?;
+    bag.add(p(alloc, 1)?)?;
+    let key = Key::Comp(Name::new(alloc, b"p")?, 1);
+    let rows: [(&Key, i64, u64, Option<u64>); 6] = [
+        (&key, 1, 0, Some(0)),
+        (&key, 1, 1, Some(3)),
+        (&key, 2, 0, Some(1)),
+        (&key, 2, 2, None),
+        (&key, 3, 0, None),
+        (&Key::Any, 2, 0, Some(1)),
+    ];
+    for (key, first, from, want) in rows {
+        let term = Term::Int(first);
+        let found = bag.candidate_like(key, Some(&term), from).map(|row| row.0);
+        assert!(rt; found == want, "{key:?} with {first} from {from}");
+    }
+    Ok(())
+}
+
+// One of two words of 1,024 letters that have the same code.
+fn word(alloc: Global, flipped: bool) -> Result<Name, Fail> {
+    let mut letters = Vec::new(alloc);
+    for i in 0..1024u32 {
+        letters.push(if (i.count_ones() % 2 == 0) == flipped {
+            b'a'
+        } else {
+            b'b'
+        })?;
+    }
+    Ok(Name::new(alloc, &letters)?)
+}
+
+#[test]
+fn names_of_one_code_are_told_apart(rt: HostRuntime) -> Result<(), Fail> {
+    let alloc = rt.alloc();
+    let one = Key::Atom(word(alloc, false)?);
+    let other = Key::Atom(word(alloc, true)?);
+    assert_eq!(rt; code_like(&one, None), code_like(&other, None));
+    let mut bag = Bag::new(alloc);
+    let tuple = Term::Atom(word(alloc, false)?);
+    bag.add(Ground::of(tuple).ok().ok_or("an atom is a tuple")?)?;
+    assert!(rt; bag.candidate(&other, 0).is_none());
+    assert!(rt; bag.candidate(&one, 0).is_some_and(|row| row.0 == 0));
+    bag.mark()?;
+    bag.take(0);
+    assert!(rt; bag.candidate(&one, 0).is_none());
+    bag.undo();
+    assert!(rt; bag.candidate(&one, 0).is_some_and(|row| row.0 == 0));
     Ok(())
 }
 
