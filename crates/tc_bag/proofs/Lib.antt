@@ -5,6 +5,5 @@ pub mod Pairs
 pub mod Entries
 pub mod Searching
 pub mod Logged
-pub mod Marks
 pub mod Stocks
 pub mod Walks

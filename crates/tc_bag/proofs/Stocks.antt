@@ -8,11 +8,12 @@ use Rattle.tc_term.specs.Tree.{Tree, IsTuple}
 use Rattle.tc_lists.specs.Firsts.{NoneOf, IsFirst}
 use Rattle.tc_bag.specs.declared.key.Key.{Key}
 use Rattle.tc_bag.specs.declared.slots.Mark.{Mark}
-use Rattle.tc_bag.specs.Stock.{Row, row, IsCandidateLike, Saved, Stock, Rises, tuple_at, with_tuple, marked, IsUndone, IsKept, without_age}
-use Rattle.tc_bag.specs.Slots.{Slot, slot, row_of, is_there, is_older, was_there, rows_now, rows_then, saved_at, stock_of, InOrder, Climbs, IsLogged, IsThereLike, StartsEmpty, IsSound, is_not_of, taken_at, revived, tuple_there}
+use Rattle.tc_bag.specs.Stock.{Row, row, IsCandidateLike, Saved, Rises, tuple_at, with_tuple, saved_of, marked, without_age}
+use Rattle.tc_bag.specs.Slots.{Slot, slot, row_of, is_there, is_older, was_there, rows_now, rows_then, saved_at, stock_of, InOrder, IsLogged, IsThereLike, StartsEmpty, IsSound, is_not_of, taken_at, revived, tuple_there}
 use Rattle.tc_bag.proofs.Ages.{IsOther, without_age-none, tuple_at-none}
 use Rattle.tc_bag.proofs.Firsts.{filter-all, NoneOf-from_All, All-from_NoneOf, IsTold, kept-append, kept-at, kept-fail, kept-alike, kept-changed}
-use Rattle.tc_bag.proofs.Marks.{Climbs-more, Climbs-push, Climbs-pop}
+use Rattle.tc_lists.specs.Marks.{IsBack, IsGivenUp, Climbs}
+use Rattle.tc_lists.proofs.Marks.{Climbs-more, Climbs-push, Climbs-pop}
 use Rattle.tc_bag.proofs.Entries.{behind_others, map-others, filter-others, slice_get-seam}
 use Rattle.tc_bag.proofs.Logged.{InOrder-map, InOrder-filter, read_more, read_take, taken_within, nil_from}
 
@@ -463,7 +464,7 @@ module _ (slots : List Slot) (next : ℕ) (log : List ℕ) (room : ℕ) (marks :
     pub saved_last : map (saved_at slots) marks ≡ map (saved_at slots) before ++ saved_at slots top ∷ []
     saved_last = ap (map (saved_at slots)) last ∙ map-append (saved_at slots) before (top ∷ [])
 
-    pub stock-undone : IsUndone (stock_of slots next marks) (stock_of undone top.next before)
+    pub stock-undone : IsBack (map (saved_at slots) marks) (saved_of (stock_of undone top.next before)) (map (saved_at undone) before)
     stock-undone older saved split =
         let same = same_from_push (map (saved_at slots) before) older (saved_at slots top) saved (sym saved_last ∙ split) in
         let now : rows_now undone ≡ rows_then top.taken top.next slots =
@@ -477,17 +478,13 @@ module _ (slots : List Slot) (next : ℕ) (log : List ℕ) (room : ℕ) (marks :
         (λ i e within. undone_then _ top.next m.next _ top.taken m.taken
         (marks_below (λ m. m.next) before top.next top_nexts.1 k d inside)
         (marks_below (λ m. m.taken) before top.taken top_counts.1 k d inside))) in
-        let made : List Row → ℕ → List Saved → Stock = λ rows n ss. record { now = rows; next = n; saved = ss } in
-        ap (λ rows. made rows top.next (map (saved_at undone) before)) now
-        ∙ ap (made (rows_then top.taken top.next slots) top.next) (rest ∙ same.0)
-        ∙ ap (λ (s : Saved). made s.rows s.next older) same.1
+        let made : List Row → Saved = λ rows. record { rows = rows; next = top.next } in
+        (ap made now ∙ same.1, rest ∙ same.0)
 
-    pub stock-kept : (new : List Slot) → rows_now new ≡ rows_now slots → map (saved_at new) before ≡ map (saved_at slots) before
-        → IsKept (stock_of slots next marks) (stock_of new next before)
-    stock-kept new now then older saved split =
-        let same = same_from_push (map (saved_at slots) before) older (saved_at slots top) saved (sym saved_last ∙ split) in
-        let rest : map (saved_at new) before ≡ older = then ∙ same.0 in
-        cc
+    pub stock-kept : (new : List Slot) → map (saved_at new) before ≡ map (saved_at slots) before
+        → IsGivenUp (map (saved_at slots) marks) (map (saved_at new) before)
+    stock-kept new then older saved split =
+        then ∙ (same_from_push (map (saved_at slots) before) older (saved_at slots top) saved (sym saved_last ∙ split)).0
 
 -- a result that is no error
 pub ok_from : {A B : Type 0} (P : Type 0) (r : Result A B) → OnErr r P → (P → ⊥) → is_ok r ≡ true

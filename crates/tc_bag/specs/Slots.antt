@@ -1,12 +1,14 @@
 -- How a bag keeps its rows: each in a slot, which stays while a mark may bring its row back.
 use Rattle.std.specs.Prelude.{◌≡◌, ℕ, ◌+◌, ◌-◌, ◌<◌, ◌≤◌, ◌==◌, ◌&&◌, ◌||◌, not, nat_lt, Bool, IsTrue, if◌then◌else◌, List, [], ◌∷◌, ◌++◌, length, map, filter, slice_get, All, Option, Some, None}
+use Rattle.tc_lists.specs.Marks.{Climbs}
 use Rattle.tc_term.specs.Tree.{Tree, IsTuple}
 use Rattle.tc_bag.specs.declared.key.Key.{Key}
 use Rattle.tc_bag.specs.declared.slots.Mark.{Mark}
 use Rattle.tc_bag.specs.Keys.{IsLike}
 use Rattle.tc_bag.specs.Stock.{Row, Saved, Stock, tuples_of}
 
--- a row in its slot: it is there where taken is 0, else it was so manieth to be taken
+-- a row in its slot: taken is 0 where it is there, else its place, from 1, among the rows that were
+-- taken
 pub record Slot : Type 0 where
   pub age : ℕ
   pub tuple : Tree
@@ -56,11 +58,6 @@ stock_of slots next marks = record {
 abbrev pub InOrder : List Slot → Type 0
 InOrder [] = Unit {0}
 InOrder (s ∷ ss) = All (λ t. s.age < t.age) ss × InOrder ss
-
--- the numbers don't fall, and are at most this one
-abbrev pub Climbs : List ℕ → ℕ → Type 0
-Climbs [] next = Unit {0}
-Climbs (m ∷ ms) next = (m ≤ next) × All (λ k. m ≤ k) ms × Climbs ms next
 
 -- where the row was taken, its age stands at that place of the list
 abbrev pub IsLogged : List ℕ → Slot → Type 0

@@ -1,5 +1,6 @@
 -- A bag as contracts see it.
-use Rattle.std.specs.Prelude.{◌≡◌, ℕ, ◌+◌, ◌<◌, ◌≤◌, ◌==◌, if◌then◌else◌, List, [], ◌∷◌, ◌++◌, map, All, Option, Some, None}
+use Rattle.std.specs.Prelude.{ℕ, ◌+◌, ◌<◌, ◌≤◌, ◌==◌, if◌then◌else◌, List, [], ◌∷◌, ◌++◌, map, All, Option, Some, None}
+use Rattle.tc_lists.specs.Marks.{with_mark}
 use Rattle.tc_term.specs.Tree.{Tree}
 use Rattle.tc_bag.specs.declared.key.Key.{Key}
 use Rattle.tc_bag.specs.Keys.{Agrees, IsLike}
@@ -60,22 +61,10 @@ with_tuple s t = record {
   saved = s.saved;
 }
 
+-- what is saved at a mark that is set now
+abbrev pub saved_of : Stock → Saved
+saved_of s = record { rows = s.now; next = s.next }
+
 -- with one more mark
 abbrev pub marked : Stock → Stock
-marked s = record {
-  now = s.now;
-  next = s.next;
-  saved = s.saved ++ record { rows = s.now; next = s.next } ∷ [];
-}
-
--- what there was at the latest mark, without that mark
-abbrev pub IsUndone : Stock → Stock → Type 0
-IsUndone old new =
-    (before : List Saved) (top : Saved) → old.saved ≡ before ++ top ∷ []
-    → new ≡ record { now = top.rows; next = top.next; saved = before }
-
--- what there is, without the latest mark
-abbrev pub IsKept : Stock → Stock → Type 0
-IsKept old new =
-    (before : List Saved) (top : Saved) → old.saved ≡ before ++ top ∷ []
-    → new ≡ record { now = old.now; next = old.next; saved = before }
+marked s = record s { saved = with_mark s.saved (saved_of s) }

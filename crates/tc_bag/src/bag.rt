@@ -47,9 +47,10 @@ impl Bag {
     ghost use Rattle.std.specs.Prelude.{◌≡◌, ◌^◌, ◌<◌, [], length, slice_get, All, OnOk, OnErr, IfErr, IfSome, IfNone};
     ghost use Rattle.std.specs.Option.{option_copied, option_map};
     ghost use Rattle.tc_lists.specs.Firsts.{NoneOf, IsFirst};
+    ghost use Rattle.tc_lists.specs.Marks.{IsBack, IsGivenUp};
     ghost use Rattle.tc_term.specs.Tree.{IsTuple};
     ghost use Rattle.tc_term.specs.TreeView.{tree_of};
-    ghost use Rattle.tc_bag.specs.Stock.{row, tuples_of, Rises, IsCandidate, IsCandidateLike, tuple_at, without_age, with_tuple, marked, IsUndone, IsKept};
+    ghost use Rattle.tc_bag.specs.Stock.{row, tuples_of, Rises, IsCandidate, IsCandidateLike, tuple_at, without_age, with_tuple, saved_of, marked};
 
     /// No tuple and no mark. The first tuple that is put has the age 0.
     pub fn new(alloc: Global) -> Bag
@@ -202,7 +203,7 @@ impl Bag {
     /// The next age is again that at the mark. Takes O(log tuples) time for each tuple that was put
     /// or taken since.
     pub fn undo(&mut self)
-        ensures back { IsUndone self.old self.new }
+        ensures back { IsBack self.old.saved (saved_of self.new) self.new.saved }
         ensures unmarked { self.old.saved ≡ [] → self.new ≡ self.old }
     {
         if let Some(top) = self.marks.pop() {
@@ -217,7 +218,9 @@ impl Bag {
     /// Takes O(log tuples) time for each tuple that was taken since, where it is the only mark, and
     /// else no time.
     pub fn keep(&mut self)
-        ensures kept { IsKept self.old self.new }
+        ensures rows { self.new.now ≡ self.old.now }
+        ensures next { self.new.next ≡ self.old.next }
+        ensures given_up { IsGivenUp self.old.saved self.new.saved }
         ensures unmarked { self.old.saved ≡ [] → self.new ≡ self.old }
     {
         if let Some(_top) = self.marks.pop() {

@@ -1,9 +1,9 @@
-use Rattle.std.proofs.Common.{◌≡◌, ◌<◌, [], map, vec_capacity, vec_len, ap, sym, subst, ◌∙◌}
+use Rattle.std.proofs.Common.{◌≡◌, ◌<◌, [], vec_capacity, vec_len, ap, sym, subst, ◌∙◌}
 use Rattle.std.proofs.lemmas.Bool.{eqb-true}
-use Rattle.tc_bag.specs.Stock.{IsKept}
-use Rattle.tc_bag.specs.Slots.{IsSound, stock_of, saved_at, rows_now}
+use Rattle.tc_bag.specs.Stock.{Stock}
+use Rattle.tc_bag.specs.Slots.{IsSound, rows_now}
 use Rattle.tc_bag.proofs.Logged.{nil_from}
-use Rattle.tc_bag.proofs.Stocks.{sound-kept, sound-settled, rows-settled, stock-kept, some_from}
+use Rattle.tc_bag.proofs.Stocks.{sound-kept, sound-settled, rows-settled, some_from}
 use Rattle.tc_bag.proofs.bag.Bag.keep.Goals as goal
 use Rattle.tc_bag.proofs.bag.Bag.keep.Goals.{After-discard}
 
@@ -29,12 +29,6 @@ invariant_of-self-else-is_empty c =
     c.self.invariant c.in-Some.ensures.items
     (subst (λ k. 0 < k) c.pop.new.self.ok.0 (some_from (vec_len c.pop.new.self) c.if-is_empty.ensures))
 
-pub returns-then-is_empty-clause-kept : goal.returns-then-is_empty-clause-kept
-returns-then-is_empty-clause-kept c =
-    let b = c.self.inside in
-    let new = c.discard.new.rows in
-    let none = last c in
-    subst (λ old. IsKept old (stock_of new b.next c.pop.new.self.items)) c.self.view_is
-    (stock-kept b.rows b.next b.log.items (vec_capacity b.log) b.marks.items c.self.invariant c.pop.new.self.items c.in-Some._top
-    c.in-Some.ensures.items new (ap rows_now c.discard.ensures.rows ∙ rows-settled b.rows)
-    (ap (map (saved_at new)) none ∙ sym (ap (map (saved_at b.rows)) none)))
+pub returns-then-is_empty-clause-rows : goal.returns-then-is_empty-clause-rows
+returns-then-is_empty-clause-rows c =
+    ap rows_now c.discard.ensures.rows ∙ rows-settled c.self.inside.rows ∙ ap (λ (s : Stock). s.now) c.self.view_is

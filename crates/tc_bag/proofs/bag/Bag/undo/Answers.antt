@@ -1,6 +1,7 @@
 use Rattle.std.proofs.Common.{◌≡◌, ◌≤◌, ◌+◌, length, take, map, filter, vec_capacity, All, ap, sym, subst, ◌∙◌, arith}
 use Rattle.std.proofs.lemmas.List.Elements.{All-filter}
-use Rattle.tc_bag.specs.Stock.{IsUndone}
+use Rattle.tc_lists.specs.Marks.{IsBack}
+use Rattle.tc_bag.specs.Stock.{Stock, saved_of}
 use Rattle.tc_bag.specs.Slots.{InOrder, IsLogged, IsSound, stock_of, is_there, is_older, revived}
 use Rattle.tc_bag.proofs.Logged.{InOrder-filter}
 use Rattle.tc_bag.proofs.Stocks.{sound-undone, stock-undone, fewer_there}
@@ -46,7 +47,8 @@ pub returns-in-Some-clause-back : goal.returns-in-Some-clause-back
 returns-in-Some-clause-back c =
     let b = c.self.inside in
     let top = c.in-Some.top in
-    subst (λ old. IsUndone old (stock_of c.unwind.new.rows top.next c.pop.new.self.items)) c.self.view_is
-    (subst (λ ss. IsUndone (stock_of b.rows b.next b.marks.items) (stock_of ss top.next c.pop.new.self.items)) (sym (left c))
+    let undone : Stock → Stock → Type 0 = λ old new. IsBack old.saved (saved_of new) new.saved in
+    subst (λ old. undone old (stock_of c.unwind.new.rows top.next c.pop.new.self.items)) c.self.view_is
+    (subst (λ ss. undone (stock_of b.rows b.next b.marks.items) (stock_of ss top.next c.pop.new.self.items)) (sym (left c))
     (stock-undone b.rows b.next b.log.items (vec_capacity b.log) b.marks.items c.self.invariant c.pop.new.self.items top
     c.in-Some.ensures.items))
