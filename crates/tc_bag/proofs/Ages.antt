@@ -3,7 +3,7 @@ use Rattle.std.proofs.Common.{◌≡◌, ◌≢◌, ◌<◌, ◌==◌, ℕ, fals
 use Rattle.std.proofs.lemmas.Bool.{eq-eqb, ne_eqb}
 use Rattle.std.proofs.lemmas.List.Elements.{All-head, All-tail, All-weaker, All-cons}
 use Rattle.tc_bag.specs.Stock.{Row, Rises, tuple_at, without_age}
-use Rattle.tc_bag.proofs.Firsts.{All-back}
+use Rattle.tc_lists.proofs.Elements.{All-append_right}
 
 -- the row has another age
 abbrev pub IsOther : ℕ → Row → Type 0
@@ -53,7 +53,7 @@ pub Rises-front : (xs ys : List Row) (r : Row) (next : ℕ) → Rises (xs ++ r �
 Rises-front [] ys r next rises = λ k d inside. absurd (omega (arith, inside))
 Rises-front (x ∷ xs) ys r next rises =
     let above : x.age < r.age =
-    All-head (λ s. x.age < s.age) r ys (All-back (λ s. x.age < s.age) xs (r ∷ ys) rises.1) in
+    All-head (λ s. x.age < s.age) r ys (All-append_right (λ s. x.age < s.age) xs (r ∷ ys) rises.1) in
     All-cons (λ s. s.age < r.age) x xs above (Rises-front xs ys r next rises.2)
 
 -- so they have other ages

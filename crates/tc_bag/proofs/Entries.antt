@@ -16,7 +16,9 @@ use Rattle.tc_bag.specs.declared.index.Index.{Index}
 use Rattle.tc_bag.specs.Ages.{Has}
 use Rattle.tc_bag.specs.Codes.{first_code}
 use Rattle.tc_bag.specs.Slots.{Slot, InOrder, IsYoungest, is_there, is_older, is_not_of, stays, taken_at, revived_at, with_taken, tuple_there}
-use Rattle.tc_bag.proofs.Firsts.{filter-all, map-same, All-front, All-back}
+use Rattle.tc_lists.proofs.Filters.{filter_all}
+use Rattle.tc_lists.proofs.Elements.{All-append_left, All-append_right}
+use Rattle.std.proofs.lemmas.List.Folds.{map_fixed}
 
 pub at_age : (age k : ℕ) → is_at (nat_cmp age) k ≡ (k == age)
 at_age age k = grind (arith, nat_tests)
@@ -119,7 +121,7 @@ set-with_taken age n (e ∷ es) h w order found is =
 
 pub filter-others : (age : ℕ) (ss : List Slot) → All (λ s. s.age ≢ age) ss → filter (is_not_of age) ss ≡ ss
 filter-others age ss others =
-    filter-all (is_not_of age) ss (All-weaker (λ s. s.age ≢ age) (λ s. is_not_of age s ≡ true) (λ s other. ap not (ne_eqb s.age age other)) ss others)
+    filter_all (is_not_of age) ss (All-weaker (λ s. s.age ≢ age) (λ s. is_not_of age s ≡ true) (λ s other. ap not (ne_eqb s.age age other)) ss others)
 
 pub remove-filter : (age : ℕ) (es : List (ℕ × Held)) → InOrder (slots_of es)
     → slots_of (remove_entry (is_at (nat_cmp age)) es) ≡ filter (is_not_of age) (slots_of es)
@@ -174,7 +176,7 @@ pub InOrder-last : (xs : List Slot) (s : Slot) → InOrder (xs ++ s ∷ []) → 
 InOrder-last [] s order = λ k d inside. absurd (omega (arith, inside))
 InOrder-last (x ∷ xs) s order =
     All-cons (λ t. t.age < s.age) x xs
-    (All-head (λ t. x.age < t.age) s [] (All-back (λ t. x.age < t.age) xs (s ∷ []) order.0))
+    (All-head (λ t. x.age < t.age) s [] (All-append_right (λ t. x.age < t.age) xs (s ∷ []) order.0))
     (InOrder-last xs s order.1)
 
 -- what is left without an age has others
@@ -254,7 +256,7 @@ map-taken age n ss order told =
 pub map-not_taken : (age n : ℕ) (ss : List Slot) → InOrder ss → is_some (tuple_there age ss) ≡ false
     → ss ≡ map (taken_at age n) ss
 map-not_taken age n ss order told =
-    sym (map-same (taken_at age n) ss
+    sym (map_fixed (taken_at age n) ss
     (All-weaker (λ s. s.age ≡ age → is_there s ≡ false) (λ s. taken_at age n s ≡ s)
     (λ s gone. sym (ap (slot_with s) (taken_not s.age age n s.taken gone))) ss (there_all age ss false order told)))
 
@@ -268,7 +270,7 @@ map-revived age n r ss more same =
 pub map-not_revived : (age n r : ℕ) (ss : List Slot) → (n < r → ⊥) → All (λ s. s.age ≡ age → s.taken ≡ r) ss
     → ss ≡ map (revived_at age n) ss
 map-not_revived age n r ss few same =
-    sym (map-same (revived_at age n) ss
+    sym (map_fixed (revived_at age n) ss
     (All-weaker (λ s. s.age ≡ age → s.taken ≡ r) (λ s. revived_at age n s ≡ s)
     (λ s is. sym (ap (slot_with s) (revived_not s.age age n s.taken r few is))) ss same))
 
@@ -282,7 +284,7 @@ filter-discarded age ss order told =
 pub filter-stays : (age : ℕ) (ss : List Slot) → InOrder ss → is_some (tuple_there age ss) ≡ true
     → ss ≡ filter (stays age) ss
 filter-stays age ss order told =
-    sym (filter-all (stays age) ss
+    sym (filter_all (stays age) ss
     (All-weaker (λ s. s.age ≡ age → is_there s ≡ true) (λ s. stays age s ≡ true)
     (λ s there. stays_here s.age age s.taken there) ss (there_all age ss true order told)))
 
@@ -328,7 +330,7 @@ some-map f (Some x) = refl
 -- order of the slots before the last
 pub InOrder-front : (xs ys : List Slot) → InOrder (xs ++ ys) → InOrder xs
 InOrder-front [] ys order = tt
-InOrder-front (x ∷ xs) ys order = (All-front (λ t. x.age < t.age) xs ys order.0, InOrder-front xs ys order.1)
+InOrder-front (x ∷ xs) ys order = (All-append_left (λ t. x.age < t.age) xs ys order.0, InOrder-front xs ys order.1)
 
 pub filter-last : (p : Slot → Bool) (xs : List Slot) (s : Slot) → p s ≡ false → filter p (xs ++ s ∷ []) ≡ filter p xs
 filter-last p [] s fails = ap (λ b. cond b (s ∷ []) []) fails
@@ -351,7 +353,7 @@ truncated next age ss new order up y is = (
 
 pub all_older : (next age : ℕ) (ss : List Slot) → InOrder ss → age < next → (y : IsYoungest ss age) → ss ≡ filter (is_older next) ss
 all_older next age ss order down y =
-    sym (filter-all (is_older next) ss
+    sym (filter_all (is_older next) ss
     (All-weaker (λ s. s.age < next) (λ s. is_older next s ≡ true) (λ s less. older s.age next less) ss
     (subst (All (λ s. s.age < next)) (sym y.split)
     (All-push (λ s. s.age < next) y.before y.last

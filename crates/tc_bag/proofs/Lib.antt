@@ -1,5 +1,4 @@
 pub mod Agreement
-pub mod Firsts
 pub mod Ages
 pub mod Pairs
 pub mod Entries

@@ -4,10 +4,12 @@ use Rattle.std.proofs.lemmas.Bool.{cases_Bool, eqb-true, eq-eqb, ne_eqb, true≢
 use Rattle.std.proofs.lemmas.Bool.Decides.{nat_tests}
 use Rattle.std.proofs.lemmas.List.Elements.{All-weaker, All-map, All-filter, filter_passes}
 use Rattle.tc_bag.specs.Slots.{Slot, InOrder, IsLogged, is_there, stays, revived_at, revived}
-use Rattle.tc_bag.proofs.Firsts.{filter-all, map-same, split_read}
 use Rattle.std.proofs.lemmas.List.{drop_all}
 use Rattle.tc_bag.proofs.Entries.{behind_others, map-others, map-alike}
 use Rattle.tc_bag.proofs.Searching.{less_or}
+use Rattle.tc_lists.proofs.Filters.{filter_all}
+use Rattle.tc_lists.proofs.Parts.{split_read}
+use Rattle.std.proofs.lemmas.List.Folds.{map_fixed}
 
 -- what stands in a list stands within it
 pub read_within : {X : Type 0} (xs : List X) (i : ℕ) (x : X) → slice_get xs i ≡ Some x → i < length xs
@@ -88,7 +90,7 @@ revived-twice age n ss =
 
 pub revived-all : (n : ℕ) (ss : List Slot) → All (λ s. s.taken ≤ n) ss → ss ≡ map (revived n) ss
 revived-all n ss below =
-    sym (map-same (revived n) ss
+    sym (map_fixed (revived n) ss
     (All-weaker (λ s. s.taken ≤ n) (λ s. revived n s ≡ s) (λ s down. ap (with_number s) (few n s.taken down)) ss below))
 
 -- the last of the list is brought back
@@ -179,7 +181,7 @@ logged_less front age ss logged k d inside some =
 
 pub filter-there-all : (ss : List Slot) → All (λ s. s.taken ≤ 0) ss → ss ≡ filter is_there ss
 filter-there-all ss none =
-    sym (filter-all is_there ss
+    sym (filter_all is_there ss
     (All-weaker (λ s. s.taken ≤ 0) (λ s. is_there s ≡ true) (λ s zero_taken. eq-eqb s.taken 0 (omega (arith, zero_taken))) ss none))
 
 -- a list and its last element

@@ -21,7 +21,8 @@ use Rattle.tc_bag.specs.Codes.{key_code, first_code, code_like}
 use Rattle.tc_bag.specs.Keys.{first_of, first_argument, key_of, IsLike}
 use Rattle.tc_bag.specs.Held.{slots_of, IsIndexed}
 use Rattle.tc_bag.specs.Slots.{Slot, slot, InOrder, IsThereLike, is_there, tuple_there}
-use Rattle.tc_bag.proofs.Firsts.{All-from_NoneOf, NoneOf-from_All, All-back}
+use Rattle.tc_lists.proofs.Elements.{All-append_right}
+use Rattle.tc_lists.proofs.Firsts.{All-from_NoneOf, NoneOf-from_All}
 
 abbrev made : ℕ → Tree → ℕ → Slot
 made age t n = record { age = age; tuple = t; taken = n }
@@ -60,7 +61,7 @@ first_at P age t (s ∷ ss) order found has none =
           let first = first_at P age t ss order.1 rest has (All-tail Never s ss none) in
           let older : s.age < age =
           All-head (λ u. s.age < u.age) (slot age t) first.behind
-          (All-back (λ u. s.age < u.age) first.before (slot age t ∷ first.behind) (subst (All (λ u. s.age < u.age)) first.split order.0)) in
+          (All-append_right (λ u. s.age < u.age) first.before (slot age t ∷ first.behind) (subst (All (λ u. s.age < u.age)) first.split order.0)) in
           record {
             before = s ∷ first.before;
             behind = first.behind;

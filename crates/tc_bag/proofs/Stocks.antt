@@ -11,11 +11,12 @@ use Rattle.tc_bag.specs.declared.slots.Mark.{Mark}
 use Rattle.tc_bag.specs.Stock.{Row, row, IsCandidateLike, Saved, Rises, tuple_at, with_tuple, saved_of, marked, without_age}
 use Rattle.tc_bag.specs.Slots.{Slot, slot, row_of, is_there, is_older, was_there, rows_now, rows_then, saved_at, stock_of, InOrder, IsLogged, IsThereLike, StartsEmpty, IsSound, is_not_of, taken_at, revived, tuple_there}
 use Rattle.tc_bag.proofs.Ages.{IsOther, without_age-none, tuple_at-none}
-use Rattle.tc_bag.proofs.Firsts.{filter-all, NoneOf-from_All, All-from_NoneOf, IsTold, kept-append, kept-at, kept-fail, kept-alike, kept-changed}
 use Rattle.tc_lists.specs.Marks.{IsBack, IsGivenUp, Climbs}
 use Rattle.tc_lists.proofs.Marks.{Climbs-more, Climbs-push, Climbs-pop}
 use Rattle.tc_bag.proofs.Entries.{behind_others, map-others, filter-others, slice_get-seam}
 use Rattle.tc_bag.proofs.Logged.{InOrder-map, InOrder-filter, read_more, read_take, taken_within, nil_from}
+use Rattle.tc_lists.proofs.Filters.{IsTold, filter_all, map-filter-append, map-filter_alike, map-filter_at, map-filter_changed, map-filter_fail}
+use Rattle.tc_lists.proofs.Firsts.{All-from_NoneOf, NoneOf-from_All}
 
 -- rows of slots of other ages have other ages
 pub rows-others : (age : ℕ) (ss : List Slot) → All (λ s. s.age ≢ age) ss → All (IsOther age) (rows_now ss)
@@ -230,14 +231,14 @@ module _ (slots : List Slot) (next : ℕ) (log : List ℕ) (room : ℕ) (marks :
     pub stock-put : stock_of put (next + 1) marks ≡ with_tuple (stock_of slots next marks) t
     stock-put =
         let now : rows_now put ≡ rows_now slots ++ record { age = next; tuple = t } ∷ [] =
-        kept-at row_of is_there slots [] (slot next t) refl in
+        map-filter_at row_of is_there slots [] (slot next t) refl in
         let saved : map (saved_at put) marks ≡ map (saved_at slots) marks =
         saved_same marks put slots
         (All-weaker (λ m. m.next ≤ next) (λ m. rows_then m.taken m.next put ≡ rows_then m.taken m.next slots)
         (λ m low.
-        kept-append row_of (was_there m.taken m.next) slots (slot next t ∷ [])
+        map-filter-append row_of (was_there m.taken m.next) slots (slot next t ∷ [])
         ∙ ap (λ rows. rows_then m.taken m.next slots ++ rows)
-        (kept-fail row_of (was_there m.taken m.next) (slot next t) [] (put_then next m.next m.taken low))
+        (map-filter_fail row_of (was_there m.taken m.next) (slot next t) [] (put_then next m.next m.taken low))
         ∙ append-nil (rows_then m.taken m.next slots)) marks (marks_below (λ m. m.next) marks next sound.climbs)) in
         cc
 
@@ -262,7 +263,7 @@ module _ (slots : List Slot) (next : ℕ) (log : List ℕ) (room : ℕ) (marks :
   pub stock-marked : stock_of slots next (marks ++ mark ∷ []) ≡ marked (stock_of slots next marks)
   stock-marked =
       let all : rows_then (length log) next slots ≡ rows_now slots =
-      kept-alike row_of (was_there (length log) next) is_there slots
+      map-filter_alike row_of (was_there (length log) next) is_there slots
       (λ k d inside.
       latest _ next _ (length log) (sound.below k d inside) (taken_within log slots sound.logged k d inside)) in
       let saved : map (saved_at slots) (marks ++ mark ∷ [])
@@ -291,7 +292,7 @@ module _ (key : Key) (first : Option Tree) (from : ℕ) (ss : List Slot) where
   first-like age t found = record {
     before = rows_now found.before;
     behind = rows_now found.behind;
-    split = ap rows_now found.split ∙ kept-at row_of is_there found.before found.behind (slot age t) found.has.0;
+    split = ap rows_now found.split ∙ map-filter_at row_of is_there found.before found.behind (slot age t) found.has.0;
     has = (found.has.1, found.has.2);
     none = none_there (IsCandidateLike key first from) found.before
         (All-weaker (λ s. IsThereLike key first from s → ⊥) (λ s. IsTrue (is_there s) → IsCandidateLike key first from (row_of s) → ⊥)
@@ -468,13 +469,13 @@ module _ (slots : List Slot) (next : ℕ) (log : List ℕ) (room : ℕ) (marks :
     stock-undone older saved split =
         let same = same_from_push (map (saved_at slots) before) older (saved_at slots top) saved (sym saved_last ∙ split) in
         let now : rows_now undone ≡ rows_then top.taken top.next slots =
-        kept-changed row_of is_there (is_older top.next) (was_there top.taken top.next) (revived top.taken) slots (λ s. refl)
+        map-filter_changed row_of is_there (is_older top.next) (was_there top.taken top.next) (revived top.taken) slots (λ s. refl)
         (λ k d inside. undone_now _ top.next _ top.taken) in
         let rest : map (saved_at undone) before ≡ map (saved_at slots) before =
         saved_same before undone slots
         (λ k d inside.
         let m = get_or before k d in
-        kept-changed row_of (was_there m.taken m.next) (is_older top.next) (was_there m.taken m.next) (revived top.taken) slots (λ s. refl)
+        map-filter_changed row_of (was_there m.taken m.next) (is_older top.next) (was_there m.taken m.next) (revived top.taken) slots (λ s. refl)
         (λ i e within. undone_then _ top.next m.next _ top.taken m.taken
         (marks_below (λ m. m.next) before top.next top_nexts.1 k d inside)
         (marks_below (λ m. m.taken) before top.taken top_counts.1 k d inside))) in
@@ -527,7 +528,7 @@ sound-settled slots next log room marks sound = record {
 }
 
 pub rows-settled : (slots : List Slot) → rows_now (filter is_there slots) ≡ rows_now slots
-rows-settled slots = ap (map row_of) (filter-all is_there (filter is_there slots) (filter_passes is_there slots))
+rows-settled slots = ap (map row_of) (filter_all is_there (filter is_there slots) (filter_passes is_there slots))
 
 pub sound-undone : (slots : List Slot) (next : ℕ) (log : List ℕ) (room more : ℕ) (marks before : List Mark) (top : Mark)
     → IsSound slots next log room marks → marks ≡ before ++ top ∷ []

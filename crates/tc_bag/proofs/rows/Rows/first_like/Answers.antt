@@ -4,8 +4,8 @@ use Rattle.std.specs.Option.{option_map}
 use Rattle.tc_term.specs.TreeView.{tree_of}
 use Rattle.tc_bag.specs.Slots.{IsThereLike}
 use Rattle.tc_bag.proofs.Searching.{first_at, passed_to, passed_with}
-use Rattle.tc_bag.proofs.Firsts.{NoneOf-from_All}
 use Rattle.tc_bag.proofs.rows.Rows.first_like.Goals as goal
+use Rattle.tc_lists.proofs.Firsts.{NoneOf-from_All}
 
 pub returns-in-Some-like_at-clause-found : goal.returns-in-Some-like_at-clause-found
 returns-in-Some-like_at-clause-found c =

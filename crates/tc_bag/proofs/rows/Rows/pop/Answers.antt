@@ -3,9 +3,9 @@ use Rattle.std.proofs.lemmas.List.{map-append}
 use Rattle.std.proofs.lemmas.List.Elements.{All-weaker}
 use Rattle.tc_bag.specs.Slots.{InOrder}
 use Rattle.tc_bag.specs.Held.{slot_of, slots_of, IsIndexed}
-use Rattle.tc_bag.proofs.Firsts.{All-front}
 use Rattle.tc_bag.proofs.Entries.{indexed_kept, InOrder-last}
 use Rattle.tc_bag.proofs.rows.Rows.pop.Goals as goal
+use Rattle.tc_lists.proofs.Elements.{All-append_left}
 
 pub invariant_of-self : goal.invariant_of-self
 invariant_of-self c =
@@ -17,4 +17,4 @@ invariant_of-self c =
     indexed_kept c.self.inside.index c.drop_row.new.self c.in-Some.age rest c.drop_row.ensures.kept
     (All-weaker (λ t. t.age < s.age) (λ t. t.age ≢ s.age) (λ t older same. absurd (omega (arith, older, same))) rest
     (InOrder-last rest s order))
-    (All-front (IsIndexed c.self.inside.index) rest (s ∷ []) (subst (All (IsIndexed c.self.inside.index)) split c.self.invariant))
+    (All-append_left (IsIndexed c.self.inside.index) rest (s ∷ []) (subst (All (IsIndexed c.self.inside.index)) split c.self.invariant))
