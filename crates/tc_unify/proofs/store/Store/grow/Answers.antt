@@ -10,12 +10,14 @@ same_vars now seen e = ap (λ (x : Equations). x.vars) (sym e)
 pub invariant_of-self-2 : goal.invariant_of-self-2
 invariant_of-self-2 c =
     let store = c.self.invariant.0 in
-    let size : c.len-before.result ≡ c.self.inside.arena.variables = c.len-before.ensures ∙ c.self.inside.links.variables.ok.0 ∙ store.variables in
-    let all : c.len-before.result + c.args.n ≡ c.self.inside.arena.variables + c.args.n = omega arith in (
-      store_grown c.self.inside.arena _ c.self.inside.links _ _ c.args.n store
+    let a = c.self.inside.state.arena in
+    let l = c.self.inside.state.links in
+    let size : c.len-before.result ≡ a.variables = c.len-before.ensures ∙ l.variables.ok.0 ∙ store.variables in
+    let all : c.len-before.result + c.args.n ≡ a.variables + c.args.n = omega arith in (
+      store_grown a _ l _ _ c.args.n store
           refl refl all
-          (λ k. link_in-own_variables c.self.inside.links.terms.items c.self.inside.links.variables.items c.push_own.new.table.items c.push_own.ensures.own k)
+          (λ k. link_in-own_variables l.terms.items l.variables.items c.push_own.new.table.items c.push_own.ensures.own k)
           refl refl (c.in_default.ensures.full ∙ all)
-          (let vars : c.args.self.now.vars ≡ c.self.inside.arena.variables = same_vars _ _ c.self.view_is in let few = c.requires in omega arith),
+          (let vars : c.args.self.now.vars ≡ a.variables = same_vars _ _ c.self.view_is in let few = c.requires in omega arith),
       c.self.invariant.1,
     )
