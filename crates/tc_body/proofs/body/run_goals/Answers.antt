@@ -1,0 +1,101 @@
+use Rattle.std.proofs.Common.{ℕ, ◌≡◌, ◌<◌, List, length, get_or, take, refl, sym, ap, subst, ◌∙◌, arith}
+use Rattle.std.specs.List.{All}
+use Rattle.std.proofs.lemmas.Option.{slice_get_read}
+use Rattle.tc_term.specs.Equations.{Equations}
+use Rattle.tc_model.specs.Choices.{TheFirst}
+use Rattle.tc_model.specs.Reactions.{Rule, IsRule}
+use Rattle.tc_model.specs.Goals.{Scene, IsStuck}
+use Rattle.tc_model.specs.Bodies.{scene_of, beginning}
+use Rattle.tc_model.specs.declared.goals.Goal.{Goal}
+use Rattle.tc_model.proofs.Following.{body-tuples}
+use Rattle.tc_bag.specs.Stock.{tuples_of}
+use Rattle.tc_model.specs.Within.{HasVarsBelow, terms_of}
+use Rattle.tc_body.specs.Moments.{moment_of, IsDone}
+use Rattle.tc_body.proofs.Leading.{begun_moment, failed_first, more_done}
+use Rattle.tc_model.proofs.Rules.{rule_goals, rule_vars}
+use Rattle.tc_body.proofs.body.run_goals.Goals as goal
+
+pub overflow_add-vars : goal.overflow_add-vars
+overflow_add-vars c =
+    let few = rule_vars c.args.r.now c.goals-goals.ensures.rule in
+    let pattern = c.term-term.ensures.event.term.template.few in
+    omega (arith, few, c.vars.ensures.vars, c.vars-2.ensures.count, pattern, ap (λ t. length (Rattle.tc_term.specs.Variables.variables t)) c.term-term.ensures.term)
+
+pub returns-then-not-branch-clause-failed : goal.returns-then-not-branch-clause-failed
+returns-then-not-branch-clause-failed c =
+    failed_first c.args.r.now c.args.e.now c.args.context.now (tuples_of c.args.bag.now.now) c.new-effects.result.items
+    c.goals-goals.ensures.rule.some c.new-effects.ensures.items (c.in_ok-meet.ensures.refused c.if-not-branch.true)
+
+pub loop-i-init : goal.loop-i-init
+loop-i-init c =
+    let q = c.in_ok-meet.ensures.added c.if-not-branch.false in
+    record {
+      leads = begun_moment c.args.r.now c.args.e.now c.args.context.now c.meet.new.store _ c.args.bag.now c.new-effects.result.items c.new-effects.ensures.items q;
+      width = ap (λ (s : Equations). s.vars) q;
+      solvable = c.meet.ensures.solvable;
+      saved = refl;
+      next = omega arith;
+    }
+
+-- the goal of this place
+below : (gs hs : List Goal) (i : ℕ) → gs ≡ hs → i < length gs → i < length hs
+below gs hs i same inside = subst (λ (xs : List Goal). i < length xs) same inside
+
+here : (gs hs : List Goal) (i : ℕ) (g : Goal) → gs ≡ hs → g ≡ get_or gs i g → g ≡ get_or hs i g
+here gs hs i g same at = subst (λ (xs : List Goal). g ≡ get_or xs i g) same at
+
+within_goal : (r : Rule) (i : ℕ) (g : Goal) (n : ℕ) → IsRule r → n ≡ r.vars → i < length r.goals → g ≡ get_or r.goals i g
+    → All (HasVarsBelow n) (terms_of g)
+within_goal r i g n rule same inside at =
+    subst (λ m. All (HasVarsBelow m) (terms_of g)) (sym same)
+    (subst (λ f. All (HasVarsBelow r.vars) (terms_of f)) (sym at) (rule_goals r rule i g inside))
+
+pub step-requires-clause-goal : goal.step-requires-clause-goal
+step-requires-clause-goal c =
+    within_goal c.args.r.now c.loop-i.i c.index-goals-i.result c.vars-in-loop-i.result c.goals-goals.ensures.rule c.vars-in-loop-i.ensures.vars
+    (below c.goals-goals.result.now c.args.r.now.goals c.loop-i.i c.goals-goals.ensures.goals c.loop-i-test.true)
+    (here c.goals-goals.result.now c.args.r.now.goals c.loop-i.i c.index-goals-i.result c.goals-goals.ensures.goals c.index-goals-i.is)
+
+pub returns-then-not-branch-2-clause-failed : goal.returns-then-not-branch-2-clause-failed
+returns-then-not-branch-2-clause-failed c =
+    let r = c.args.r.now in
+    let g = c.index-goals-i.result in
+    let end = moment_of c.loop-i.store c.loop-i.bag c.loop-i.effects.items in
+    let scene : ℕ → Scene = λ n. record { vars = n; event = c.args.e.now; setting = c.args.context.now } in
+    record {
+      place = c.loop-i.i;
+      at = refl;
+      goal = g;
+      stands = slice_get_read r.goals (length r.goals) c.loop-i.i g refl
+          (below c.goals-goals.result.now r.goals c.loop-i.i c.goals-goals.ensures.goals c.loop-i-test.true)
+          (here c.goals-goals.result.now r.goals c.loop-i.i g c.goals-goals.ensures.goals c.index-goals-i.is);
+      end = end;
+      leads = c.loop-i.invariant.leads;
+      recorded = sym (c.in_ok-step.ensures.effects c.if-not-branch-2.true);
+      stuck = subst (λ n. IsStuck (scene n) g end) c.vars-in-loop-i.ensures.vars (c.in_ok-step.ensures.stuck c.if-not-branch-2.true);
+    }
+
+pub loop-i-preserved : goal.loop-i-preserved
+loop-i-preserved c =
+    let r = c.args.r.now in
+    let g = c.index-goals-i.result in
+    let m = moment_of c.loop-i.store c.loop-i.bag c.loop-i.effects.items in
+    let end = moment_of c.step.new.store c.step.new.bag c.step.new.effects.items in
+    let scene : ℕ → Scene = λ n. record { vars = n; event = c.args.e.now; setting = c.args.context.now } in
+    record {
+      leads = more_done r c.args.e.now c.args.context.now (tuples_of c.args.bag.now.now) c.loop-i.i g m end
+          (below c.goals-goals.result.now r.goals c.loop-i.i c.goals-goals.ensures.goals c.loop-i-test.true)
+          (here c.goals-goals.result.now r.goals c.loop-i.i g c.goals-goals.ensures.goals c.index-goals-i.is)
+          c.loop-i.invariant.leads
+          (subst (λ n. IsDone (scene n) g m end) c.vars-in-loop-i.ensures.vars (c.in_ok-step.ensures.done c.if-not-branch-2.false));
+      width = c.step.ensures.vars ∙ c.loop-i.invariant.width;
+      solvable = c.step.ensures.solvable;
+      saved = c.step.ensures.saved ∙ c.loop-i.invariant.saved;
+      next = omega (arith, c.step.ensures.next, c.loop-i.invariant.next);
+    }
+
+pub returns-clause-tuples : goal.returns-clause-tuples
+returns-clause-tuples c =
+    body-tuples TheFirst (scene_of c.args.r.now c.args.e.now c.args.context.now) (take c.loop-i.i c.args.r.now.goals)
+    (beginning c.args.r.now c.args.e.now (tuples_of c.args.bag.now.now))
+    (moment_of c.loop-i.store c.loop-i.bag c.loop-i.effects.items) refl c.loop-i.invariant.leads

@@ -1,0 +1,289 @@
+//! One goal of a body.
+ghost use Rattle.std.specs.Prelude.{◌≡◌, ◌≤◌, ◌<◌, ◌+◌, ℤ, [], ◌∷◌, ◌++◌, IfOk, IsTrue, false, All};
+ghost use Rattle.tc_lists.specs.Firsts.{NoneOf};
+ghost use Rattle.tc_term.specs.Tree.{Tree, Atomic, Number};
+ghost use Rattle.tc_term.specs.TreeView.{tree_of};
+ghost use Rattle.tc_term.specs.Arithmetic.{holds};
+ghost use Rattle.tc_term.specs.Variables.{var_bound, raised};
+ghost use Rattle.tc_term.specs.Equations.{Matches, Solvable, HasValue, with_pair};
+ghost use Rattle.tc_bag.specs.Stock.{tuples_of};
+ghost use Rattle.tc_model.specs.Goals.{IsStuck};
+ghost use Rattle.tc_model.specs.Events.{op_name};
+ghost use Rattle.tc_model.specs.Within.{terms_of, HasVarsBelow};
+ghost use Rattle.tc_body.specs.Moments.{moment_of, IsDone, HasPut, HasTaken, HasRead, EvaluatesIn, IsNumberOf};
+
+use std::alloc::Global;
+use tc_arith::{compare, eval};
+use tc_bag::{Bag, Key};
+use tc_lists::NoMemory;
+use tc_model::{Context, Effect, Event, EventOp, Goal, Phase, Sign};
+use tc_search::oldest_match;
+use tc_term::{Cmp, Ground, Name, Pattern, Term};
+use tc_unify::{Part, Store};
+
+/// Does one goal, and tells whether it could. After a `false` the equations and the tuples may have
+/// changed, and the effects have not.
+pub fn step(
+    alloc: Global,
+    goal: &Goal,
+    vars: u32,
+    e: &Event,
+    context: &Context,
+    store: &mut Store,
+    bag: &mut Bag,
+    effects: &mut Vec<Effect>,
+) -> Result<bool, NoMemory>
+    requires width { store.old.vars ≡ vars + var_bound e.now.term }
+    requires goal { All (HasVarsBelow vars) (terms_of goal.now) }
+    requires solvable { Solvable store.old.vars store.old.pairs }
+    requires next { bag.old.next < u64.MAX }
+    ensures done { IfOk result (λ y. IsTrue y
+        → IsDone (record { vars = vars; event = e.now; setting = context.now }) goal.now
+        (moment_of store.old bag.old effects.old.items) (moment_of store.new bag.new effects.new.items)) }
+    ensures stuck { IfOk result (λ y. y ≡ false
+        → IsStuck (record { vars = vars; event = e.now; setting = context.now }) goal.now
+        (moment_of store.old bag.old effects.old.items)) }
+    ensures effects { IfOk result (λ y. y ≡ false → effects.new.items ≡ effects.old.items) }
+
+    // After each answer:
+    ensures vars { store.new.vars ≡ store.old.vars }
+    ensures solvable { Solvable store.new.vars store.new.pairs }
+    ensures saved { bag.new.saved ≡ bag.old.saved }
+    ensures next { bag.new.next ≤ bag.old.next + 1 }
+{
+    match goal {
+        Goal::OutR(t) => put(alloc, t, store, bag, effects),
+        Goal::InR(t) => take(alloc, t, store, bag, effects),
+        Goal::RdR(t) => read(alloc, t, store, bag, effects),
+        Goal::NoR(t) => is_absent(alloc, t, store, bag),
+        Goal::Pre => Ok(e.phase() == Phase::Pre),
+        Goal::Post => Ok(e.phase() == Phase::Post),
+        Goal::Success => Ok(e.sign() == Sign::Success),
+        Goal::Failure => Ok(e.sign() == Sign::Failure),
+        Goal::True => Ok(true),
+        Goal::Agent(t) => equate_name(alloc, store, t, context.agent()),
+        Goal::Centre(t) => equate_name(alloc, store, t, context.centre()),
+        Goal::Operation(t) => equate_op(alloc, store, t, e.op()),
+        Goal::Tuple(t) => equate_event(store, t, e.term(), vars),
+        Goal::Equal(s, t) => store.equate(s, t),
+        Goal::Differ(s, t) => Ok(!store.equate(s, t)?),
+        Goal::Is(s, t) => assign(store, s, t),
+        Goal::Compare(op, s, t) => do_compare(store, *op, s, t),
+    }
+}
+
+// Puts the value of a term.
+fn put(
+    alloc: Global,
+    t: &Term,
+    store: &Store,
+    bag: &mut Bag,
+    effects: &mut Vec<Effect>,
+) -> Result<bool, NoMemory>
+    requires bound { var_bound (tree_of t.now) ≤ store.now.vars }
+    requires next { bag.old.next < u64.MAX }
+    ensures put { IfOk result (λ y. IsTrue y
+        → HasPut store.now (tree_of t.now) bag.old bag.new effects.old.items effects.new.items) }
+    ensures none { IfOk result (λ y. y ≡ false
+        → (v : Tree) → HasValue store.now.vars store.now.pairs (tree_of t.now) v → ⊥) }
+    ensures effects { IfOk result (λ y. y ≡ false → effects.new.items ≡ effects.old.items) }
+    ensures saved { bag.new.saved ≡ bag.old.saved }
+    ensures next { bag.new.next ≤ bag.old.next + 1 }
+{
+    let part = Part { term: t, shift: 0 };
+    let Some(value) = store.value(part)? else {
+        return Ok(false);
+    };
+    effects.push(Effect::Put(value.copy(alloc)?))?;
+    bag.add(value)?;
+    Ok(true)
+}
+
+// Takes the oldest tuple that matches.
+fn take(
+    alloc: Global,
+    t: &Term,
+    store: &mut Store,
+    bag: &mut Bag,
+    effects: &mut Vec<Effect>,
+) -> Result<bool, NoMemory>
+    requires within { HasVarsBelow store.old.vars (tree_of t.now) }
+    requires solvable { Solvable store.old.vars store.old.pairs }
+    ensures taken { IfOk result (λ y. IsTrue y
+        → HasTaken store.old store.new (tree_of t.now) bag.old bag.new effects.old.items effects.new.items) }
+    ensures none { IfOk result (λ y. y ≡ false
+        → NoneOf (Matches store.old.vars store.old.pairs (tree_of t.now)) (tuples_of bag.old.now)) }
+    ensures effects { IfOk result (λ y. y ≡ false → effects.new.items ≡ effects.old.items) }
+    ensures vars { store.new.vars ≡ store.old.vars }
+    ensures solvable { Solvable store.new.vars store.new.pairs }
+    ensures saved { bag.new.saved ≡ bag.old.saved }
+    ensures next { bag.new.next ≡ bag.old.next }
+{
+    let key = Key::of(alloc, t)?;
+    let Some((age, tuple)) = oldest_match(store, t, &key, bag)? else {
+        return Ok(false);
+    };
+    effects.push(Effect::Took(tuple.copy(alloc)?))?;
+    bag.take(age);
+    Ok(true)
+}
+
+// Reads the oldest tuple that matches.
+fn read(
+    alloc: Global,
+    t: &Term,
+    store: &mut Store,
+    bag: &Bag,
+    effects: &mut Vec<Effect>,
+) -> Result<bool, NoMemory>
+    requires within { HasVarsBelow store.old.vars (tree_of t.now) }
+    requires solvable { Solvable store.old.vars store.old.pairs }
+    ensures read { IfOk result (λ y. IsTrue y
+        → HasRead store.old store.new (tree_of t.now) bag.now effects.old.items effects.new.items) }
+    ensures none { IfOk result (λ y. y ≡ false
+        → NoneOf (Matches store.old.vars store.old.pairs (tree_of t.now)) (tuples_of bag.now.now)) }
+    ensures effects { IfOk result (λ y. y ≡ false → effects.new.items ≡ effects.old.items) }
+    ensures vars { store.new.vars ≡ store.old.vars }
+    ensures solvable { Solvable store.new.vars store.new.pairs }
+{
+    let key = Key::of(alloc, t)?;
+    let Some((_, tuple)) = oldest_match(store, t, &key, bag)? else {
+        return Ok(false);
+    };
+    effects.push(Effect::Read(tuple.copy(alloc)?))?;
+    Ok(true)
+}
+
+// Whether no tuple matches.
+fn is_absent(alloc: Global, t: &Term, store: &mut Store, bag: &Bag) -> Result<bool, NoMemory>
+    requires within { HasVarsBelow store.old.vars (tree_of t.now) }
+    requires solvable { Solvable store.old.vars store.old.pairs }
+    ensures none { IfOk result (λ y. IsTrue y
+        → NoneOf (Matches store.old.vars store.old.pairs (tree_of t.now)) (tuples_of bag.now.now)) }
+    ensures same { IfOk result (λ y. IsTrue y → store.new ≡ store.old) }
+    ensures some { IfOk result (λ y. y ≡ false
+        → NoneOf (Matches store.old.vars store.old.pairs (tree_of t.now)) (tuples_of bag.now.now) → ⊥) }
+    ensures vars { store.new.vars ≡ store.old.vars }
+    ensures solvable { Solvable store.new.vars store.new.pairs }
+{
+    let key = Key::of(alloc, t)?;
+    match oldest_match(store, t, &key, bag)? {
+        Some(_) => Ok(false),
+        None => Ok(true),
+    }
+}
+
+// Adds the equation of a term and a name.
+fn equate_name(alloc: Global, store: &mut Store, t: &Term, name: &Name) -> Result<bool, NoMemory>
+    requires left { var_bound (tree_of t.now) ≤ store.old.vars }
+    requires solvable { Solvable store.old.vars store.old.pairs }
+    ensures added { IfOk result (λ y. IsTrue y → store.new ≡ with_pair store.old (tree_of t.now) (Atomic name.now)) }
+    ensures refused { IfOk result (λ y. y ≡ false
+        → Solvable store.old.vars (store.old.pairs ++ (tree_of t.now, Atomic name.now) ∷ []) → ⊥) }
+    ensures vars { store.new.vars ≡ store.old.vars }
+    ensures solvable { Solvable store.new.vars store.new.pairs }
+{
+    let atom = Term::Atom(name.copy(alloc)?);
+    let added = store.equate(t, &atom)?;
+    Ok(added)
+}
+
+// Adds the equation of a term and the name of an operation.
+fn equate_op(alloc: Global, store: &mut Store, t: &Term, op: EventOp) -> Result<bool, NoMemory>
+    requires left { var_bound (tree_of t.now) ≤ store.old.vars }
+    requires solvable { Solvable store.old.vars store.old.pairs }
+    ensures added { IfOk result (λ y. IsTrue y → store.new ≡ with_pair store.old (tree_of t.now) (Atomic (op_name op))) }
+    ensures refused { IfOk result (λ y. y ≡ false
+        → Solvable store.old.vars (store.old.pairs ++ (tree_of t.now, Atomic (op_name op)) ∷ []) → ⊥) }
+    ensures vars { store.new.vars ≡ store.old.vars }
+    ensures solvable { Solvable store.new.vars store.new.pairs }
+{
+    let name = Name::new(alloc, op.name())?;
+    let added = equate_name(alloc, store, t, &name)?;
+    Ok(added)
+}
+
+// Adds the equation of a term and the event's.
+fn equate_event(store: &mut Store, t: &Term, e: &Pattern, vars: u32) -> Result<bool, NoMemory>
+    requires left { var_bound (tree_of t.now) ≤ vars }
+    requires width { store.old.vars ≡ vars + var_bound e.now }
+    ensures added { IfOk result (λ y. IsTrue y → store.new ≡ with_pair store.old (tree_of t.now) (raised vars e.now)) }
+    ensures refused { IfOk result (λ y. y ≡ false
+        → Solvable store.old.vars (store.old.pairs ++ (tree_of t.now, raised vars e.now) ∷ []) → ⊥) }
+    ensures vars { store.new.vars ≡ store.old.vars }
+    ensures solvable { Solvable store.new.vars store.new.pairs }
+{
+    let left = Part { term: t, shift: 0 };
+    let right = Part {
+        term: e.term(),
+        shift: vars,
+    };
+    let added = store.add(left, right)?;
+    Ok(added)
+}
+
+// The number to which a term's value evaluates.
+fn number(store: &Store, t: &Term) -> Result<Option<i64>, NoMemory>
+    requires { var_bound (tree_of t.now) ≤ store.now.vars }
+    ensures { IfOk result (IsNumberOf store.now (tree_of t.now)) }
+{
+    let part = Part { term: t, shift: 0 };
+    let Some(value) = store.value(part)? else {
+        return Ok(None);
+    };
+    Ok(eval(&value))
+}
+
+// Adds the equation of a term and a number.
+fn equate_number(store: &mut Store, s: &Term, i: i64) -> Result<bool, NoMemory>
+    requires left { var_bound (tree_of s.now) ≤ store.old.vars }
+    ensures added { IfOk result (λ y. IsTrue y → store.new ≡ with_pair store.old (tree_of s.now) (Number i)) }
+    ensures refused { IfOk result (λ y. y ≡ false
+        → Solvable store.old.vars (store.old.pairs ++ (tree_of s.now, Number i) ∷ []) → ⊥) }
+    ensures vars { store.new.vars ≡ store.old.vars }
+    ensures solvable { Solvable store.new.vars store.new.pairs }
+{
+    let number = Term::Int(i);
+    let added = store.equate(s, &number)?;
+    Ok(added)
+}
+
+// Adds the equation of a term and the number to which another evaluates.
+fn assign(store: &mut Store, s: &Term, t: &Term) -> Result<bool, NoMemory>
+    requires left { var_bound (tree_of s.now) ≤ store.old.vars }
+    requires right { var_bound (tree_of t.now) ≤ store.old.vars }
+    requires solvable { Solvable store.old.vars store.old.pairs }
+    ensures assigned { IfOk result (λ y. IsTrue y
+        → (i : ℤ) × EvaluatesIn store.old (tree_of t.now) i × (store.new ≡ with_pair store.old (tree_of s.now) (Number i))) }
+    ensures refused { IfOk result (λ y. y ≡ false
+        → (i : ℤ) → EvaluatesIn store.old (tree_of t.now) i
+        → Solvable store.old.vars (store.old.pairs ++ (tree_of s.now, Number i) ∷ []) → ⊥) }
+    ensures vars { store.new.vars ≡ store.old.vars }
+    ensures solvable { Solvable store.new.vars store.new.pairs }
+{
+    let Some(i) = number(store, t)? else {
+        return Ok(false);
+    };
+    let added = equate_number(store, s, i)?;
+    Ok(added)
+}
+
+// Whether a comparison holds of what two terms evaluate to.
+fn do_compare(store: &Store, op: Cmp, s: &Term, t: &Term) -> Result<bool, NoMemory>
+    requires left { var_bound (tree_of s.now) ≤ store.now.vars }
+    requires right { var_bound (tree_of t.now) ≤ store.now.vars }
+    ensures holds { IfOk result (λ y. IsTrue y
+        → (i : ℤ) × (j : ℤ) × EvaluatesIn store.now (tree_of s.now) i × EvaluatesIn store.now (tree_of t.now) j
+        × IsTrue (holds op i j)) }
+    ensures fails { IfOk result (λ y. y ≡ false
+        → (i j : ℤ) → EvaluatesIn store.now (tree_of s.now) i → EvaluatesIn store.now (tree_of t.now) j
+        → IsTrue (holds op i j) → ⊥) }
+{
+    let Some(i) = number(store, s)? else {
+        return Ok(false);
+    };
+    let Some(j) = number(store, t)? else {
+        return Ok(false);
+    };
+    Ok(compare(op, i, j))
+}
