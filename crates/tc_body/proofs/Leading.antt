@@ -33,6 +33,14 @@ first_goal : (gs : List Goal) → 1 ≤ length gs → (g : Goal) × (slice_get g
 first_goal [] some = absurd (omega (arith, some))
 first_goal (g ∷ gs) some = (g, refl)
 
+-- a store without equations, as wide as head and event ask for
+pub fresh : (r : Rule) (e : Occurrence) (s : Equations) (k n : ℕ) (u : Tree) → s ≡ record { vars = k + n; pairs = [] }
+    → k ≡ r.vars → n ≡ var_bound u → u ≡ e.term → s ≡ record { vars = r.vars + var_bound e.term; pairs = [] }
+fresh r e s k n u es ek en eu =
+    let none : ℕ → Equations = λ w. record { vars = w; pairs = [] } in
+    let wide : k + n ≡ r.vars + var_bound e.term = omega (arith, ek, en, ap var_bound eu) in
+    es ∙ ap none wide
+
 -- the store holds the equation with which a body begins
 pub begun : (r : Rule) (e : Occurrence) (s q : Equations) (head u : Tree) (n : ℕ) → s ≡ record { vars = n; pairs = [] } → head ≡ r.head → u ≡ e.term
     → q ≡ with_pair s (raised 0 head) (raised r.vars u)

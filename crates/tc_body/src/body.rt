@@ -1,15 +1,14 @@
 //! The goals of a body, one after another.
-ghost use Rattle.std.specs.Prelude.{◌≡◌, ◌≤◌, ◌+◌, [], ◌∷◌, false, IsTrue, IfOk, OnErr, IfSome, IfNone};
-ghost use Rattle.tc_term.specs.Variables.{var_bound, raised};
+ghost use Rattle.std.specs.Prelude.{◌≡◌, ◌≤◌, ◌+◌, false, IsTrue, IfOk, OnOk, OnErr, IfSome, IfNone};
 ghost use Rattle.tc_term.specs.Equations.{Solvable};
-ghost use Rattle.tc_model.specs.Reactions.{IsRule};
 ghost use Rattle.tc_model.specs.Bodies.{IsBody, IsFired, IsFailed};
 ghost use Rattle.tc_model.specs.Choices.{TheFirst};
 ghost use Rattle.tc_model.specs.Tuples.{after_effects};
 ghost use Rattle.tc_model.specs.Cascades.{pick_of, clause_of};
 ghost use Rattle.tc_model.specs.Triggers.{raises};
 ghost use Rattle.tc_bag.specs.Stock.{tuples_of};
-ghost use Rattle.tc_body.specs.Left.{IsTriedOn, IsLeft, has_fired};
+ghost use Rattle.tc_body.specs.Left.{IsLeft};
+ghost use Rattle.tc_body.specs.Met.{met};
 
 use crate::events::events_of;
 use crate::goal::step;
@@ -70,14 +69,37 @@ pub fn execute_in(
     ensures next { bag.new.next ≤ bag.old.next + 64 }
 {
     bag.mark()?;
-    match attempt(alloc, store, r, pick, clause, e, context, bag) {
-        Ok((item, events)) => {
-            if did_fire(&item) {
+    match run_goals(alloc, store, r, e, context, bag) {
+        Ok((None, effects)) => match events_of(alloc, &effects) {
+            Ok(events) => {
                 bag.keep();
-            } else {
-                bag.undo();
+                let effects = Seq::new(effects);
+                Ok((
+                    Item::Fired {
+                        pick,
+                        clause,
+                        effects,
+                    },
+                    events,
+                ))
             }
-            Ok((item, events))
+            Err(fault) => {
+                bag.undo();
+                Err(fault)
+            }
+        },
+        Ok((Some(goal), effects)) => {
+            bag.undo();
+            let effects = Seq::new(effects);
+            Ok((
+                Item::Failed {
+                    pick,
+                    clause,
+                    goal,
+                    effects,
+                },
+                Vec::new(alloc),
+            ))
         }
         Err(fault) => {
             bag.undo();
@@ -86,60 +108,12 @@ pub fn execute_in(
     }
 }
 
-// Whether the body has fired.
-fn did_fire(item: &Item) -> bool
-    ensures { result ≡ has_fired item.now }
-{
-    matches!(item, Item::Fired { .. })
-}
-
-// The item, and the events of its effects. The bag's marks stay.
-fn attempt(
-    alloc: Global,
-    store: &mut Store,
-    r: &Reaction,
-    pick: u32,
-    clause: u32,
-    e: &Event,
-    context: &Context,
-    bag: &mut Bag,
-) -> Result<(Item, Vec<Event>), NoMemory>
-    requires { bag.old.next + 64 ≤ u64.MAX }
-    ensures body { IfOk result
-        (λ x. IsBody TheFirst r.now e.now context.now (tuples_of bag.old.now) x.0) }
-    ensures names { IfOk result (λ x. (pick_of x.0 ≡ pick) × (clause_of x.0 ≡ clause)) }
-    ensures events { IfOk result (λ x. x.1.items ≡ raises x.0) }
-    ensures tuples { IfOk result (λ x. IsTriedOn x.0 (tuples_of bag.old.now) (tuples_of bag.new.now)) }
-    ensures saved { bag.new.saved ≡ bag.old.saved }
-    ensures next { bag.new.next ≤ bag.old.next + 64 }
-{
-    let (failed, effects) = run_goals(alloc, store, r, e, context, bag)?;
-    match failed {
-        Some(goal) => Ok((
-            Item::Failed {
-                pick,
-                clause,
-                goal,
-                effects: Seq::new(effects),
-            },
-            Vec::new(alloc),
-        )),
-        None => {
-            let events = events_of(alloc, &effects)?;
-            Ok((
-                Item::Fired {
-                    pick,
-                    clause,
-                    effects: Seq::new(effects),
-                },
-                events,
-            ))
-        }
-    }
-}
-
-// The goal that has failed, if one has, and the effects of those before it.
-fn run_goals(
+/// Does the goals of a reaction one after another, and leaves what they did in the bag: which goal
+/// has failed, counted from 1, if one has, and the effects of those before it.
+///
+/// The store is made anew, as in `execute_in`. Where head and event can't be made equal, the first
+/// goal has failed. After a failed goal and after want of memory the caller goes back to a mark.
+pub fn run_goals(
     alloc: Global,
     store: &mut Store,
     r: &Reaction,
@@ -150,8 +124,8 @@ fn run_goals(
     requires { bag.old.next + 64 ≤ u64.MAX }
     ensures fired { IfOk result (λ x. IfNone x.0
         (IsFired TheFirst r.now e.now context.now (tuples_of bag.old.now) x.1.items)) }
-    ensures failed { IfOk result (λ x. IfSome x.0
-        (λ goal. IsFailed TheFirst r.now e.now context.now (tuples_of bag.old.now) goal x.1.items)) }
+    ensures failed { IfOk result (λ x. IfSome x.0 (λ goal.
+        IsFailed TheFirst r.now e.now context.now (tuples_of bag.old.now) goal x.1.items)) }
     ensures tuples { IfOk result (λ x. IfNone x.0
         (tuples_of bag.new.now ≡ after_effects x.1.items (tuples_of bag.old.now))) }
     ensures saved { bag.new.saved ≡ bag.old.saved }
@@ -159,8 +133,6 @@ fn run_goals(
 {
     let mut effects = Vec::new(alloc);
     let goals = r.goals();
-    let term = e.term();
-    store.renew(r.vars() + term.vars())?;
     if !meet(store, r, e)? {
         return Ok((Some(1), effects));
     }
@@ -172,26 +144,26 @@ fn run_goals(
     Ok((None, effects))
 }
 
-// Adds the equation of a reaction's head and an event's term to a store of no equations.
-fn meet(store: &mut Store, r: &Reaction, e: &Event) -> Result<bool, NoMemory>
-    requires rule { IsRule r.now }
-    requires store { store.old ≡ record { vars = r.now.vars + var_bound e.now.term; pairs = [] } }
-    ensures added { IfOk result (λ y. IsTrue y → store.new ≡ record {
-      vars = r.now.vars + var_bound e.now.term;
-      pairs = (r.now.head, raised r.now.vars e.now.term) ∷ [];
-    }) }
-    ensures refused { IfOk result (λ y. y ≡ false → Solvable (r.now.vars + var_bound e.now.term)
-        ((r.now.head, raised r.now.vars e.now.term) ∷ []) → ⊥) }
-    ensures solvable { Solvable store.new.vars store.new.pairs }
+/// Whether a reaction's head and an event's term can be made equal, their variables kept apart.
+///
+/// The store is made anew; where they can, it holds that equation, and else none. What it holds
+/// before does not count.
+pub fn meet(store: &mut Store, r: &Reaction, e: &Event) -> Result<bool, NoMemory>
+    ensures met { IfOk result (λ y. IsTrue y → store.new ≡ met r.now e.now) }
+    ensures apart { IfOk result (λ y. y ≡ false
+        → Solvable (met r.now e.now).vars (met r.now e.now).pairs → ⊥) }
+    ensures solvable { OnOk result (Solvable store.new.vars store.new.pairs) }
 {
+    let term = e.term();
+    store.renew(r.vars() + term.vars())?;
     let left = Part {
         term: r.head(),
         shift: 0,
     };
     let right = Part {
-        term: e.term().term(),
+        term: term.term(),
         shift: r.vars(),
     };
-    let added = store.add(left, right)?;
-    Ok(added)
+    let met = store.add(left, right)?;
+    Ok(met)
 }

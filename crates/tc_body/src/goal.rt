@@ -1,16 +1,16 @@
 //! One goal of a body.
-ghost use Rattle.std.specs.Prelude.{◌≡◌, ◌≤◌, ◌<◌, ◌+◌, ℤ, [], ◌∷◌, ◌++◌, IfOk, IsTrue, false, All};
-ghost use Rattle.tc_lists.specs.Firsts.{NoneOf};
-ghost use Rattle.tc_term.specs.Tree.{Tree, Atomic, Number};
+ghost use Rattle.std.specs.Prelude.{◌≡◌, ◌≤◌, ◌<◌, ◌+◌, ℤ, IfOk, IsTrue, false, All};
+ghost use Rattle.tc_term.specs.Tree.{Atomic, Number};
 ghost use Rattle.tc_term.specs.TreeView.{tree_of};
 ghost use Rattle.tc_term.specs.Arithmetic.{holds};
 ghost use Rattle.tc_term.specs.Variables.{var_bound, raised};
-ghost use Rattle.tc_term.specs.Equations.{Matches, Solvable, HasValue, with_pair};
-ghost use Rattle.tc_bag.specs.Stock.{tuples_of};
+ghost use Rattle.tc_term.specs.Equations.{Solvable, with_pair};
 ghost use Rattle.tc_model.specs.Goals.{IsStuck};
 ghost use Rattle.tc_model.specs.Events.{op_name};
 ghost use Rattle.tc_model.specs.Within.{terms_of, HasVarsBelow};
-ghost use Rattle.tc_body.specs.Moments.{moment_of, IsDone, HasPut, HasTaken, HasRead, EvaluatesIn, IsNumberOf};
+ghost use Rattle.tc_body.specs.Moments.{scene, moment_of, IsDone, CannotEqual};
+ghost use Rattle.tc_body.specs.Moments.{HasPut, HasNoValue, HasTaken, HasRead, HasNoMatch};
+ghost use Rattle.tc_body.specs.Moments.{EvaluatesIn, IsNumberOf};
 
 use std::alloc::Global;
 use tc_arith::{compare, eval};
@@ -18,11 +18,14 @@ use tc_bag::{Bag, Key};
 use tc_lists::NoMemory;
 use tc_model::{Context, Effect, Event, EventOp, Goal, Phase, Sign};
 use tc_search::oldest_match;
-use tc_term::{Cmp, Ground, Name, Pattern, Term};
+use tc_term::{Cmp, Name, Pattern, Term};
 use tc_unify::{Part, Store};
 
-/// Does one goal, and tells whether it could. After a `false` the equations and the tuples may have
-/// changed, and the effects have not.
+/// Does one goal of a body with so many variables, and tells whether it could.
+///
+/// Where it could, the equations, the tuples and the effects are those after its step, by the
+/// oldest tuple that matches. Where it could not, it has no step by any tuple, the effects are as
+/// before, and the equations and the tuples may have changed: the body has failed.
 pub fn step(
     alloc: Global,
     goal: &Goal,
@@ -38,10 +41,11 @@ pub fn step(
     requires solvable { Solvable store.old.vars store.old.pairs }
     requires next { bag.old.next < u64.MAX }
     ensures done { IfOk result (λ y. IsTrue y
-        → IsDone (record { vars = vars; event = e.now; setting = context.now }) goal.now
-        (moment_of store.old bag.old effects.old.items) (moment_of store.new bag.new effects.new.items)) }
+        → IsDone (scene vars e.now context.now) goal.now
+        (moment_of store.old bag.old effects.old.items)
+        (moment_of store.new bag.new effects.new.items)) }
     ensures stuck { IfOk result (λ y. y ≡ false
-        → IsStuck (record { vars = vars; event = e.now; setting = context.now }) goal.now
+        → IsStuck (scene vars e.now context.now) goal.now
         (moment_of store.old bag.old effects.old.items)) }
     ensures effects { IfOk result (λ y. y ≡ false → effects.new.items ≡ effects.old.items) }
 
@@ -53,8 +57,8 @@ pub fn step(
 {
     match goal {
         Goal::OutR(t) => put(alloc, t, store, bag, effects),
-        Goal::InR(t) => take(alloc, t, store, bag, effects),
-        Goal::RdR(t) => read(alloc, t, store, bag, effects),
+        Goal::InR(t) => take_oldest(alloc, t, store, bag, effects),
+        Goal::RdR(t) => read_oldest(alloc, t, store, bag, effects),
         Goal::NoR(t) => is_absent(alloc, t, store, bag),
         Goal::Pre => Ok(e.phase() == Phase::Pre),
         Goal::Post => Ok(e.phase() == Phase::Post),
@@ -84,8 +88,7 @@ fn put(
     requires next { bag.old.next < u64.MAX }
     ensures put { IfOk result (λ y. IsTrue y
         → HasPut store.now (tree_of t.now) bag.old bag.new effects.old.items effects.new.items) }
-    ensures none { IfOk result (λ y. y ≡ false
-        → (v : Tree) → HasValue store.now.vars store.now.pairs (tree_of t.now) v → ⊥) }
+    ensures none { IfOk result (λ y. y ≡ false → HasNoValue store.now (tree_of t.now)) }
     ensures effects { IfOk result (λ y. y ≡ false → effects.new.items ≡ effects.old.items) }
     ensures saved { bag.new.saved ≡ bag.old.saved }
     ensures next { bag.new.next ≤ bag.old.next + 1 }
@@ -100,7 +103,7 @@ fn put(
 }
 
 // Takes the oldest tuple that matches.
-fn take(
+fn take_oldest(
     alloc: Global,
     t: &Term,
     store: &mut Store,
@@ -110,9 +113,10 @@ fn take(
     requires within { HasVarsBelow store.old.vars (tree_of t.now) }
     requires solvable { Solvable store.old.vars store.old.pairs }
     ensures taken { IfOk result (λ y. IsTrue y
-        → HasTaken store.old store.new (tree_of t.now) bag.old bag.new effects.old.items effects.new.items) }
+        → HasTaken store.old store.new (tree_of t.now) bag.old bag.new
+        effects.old.items effects.new.items) }
     ensures none { IfOk result (λ y. y ≡ false
-        → NoneOf (Matches store.old.vars store.old.pairs (tree_of t.now)) (tuples_of bag.old.now)) }
+        → HasNoMatch store.old (tree_of t.now) bag.old) }
     ensures effects { IfOk result (λ y. y ≡ false → effects.new.items ≡ effects.old.items) }
     ensures vars { store.new.vars ≡ store.old.vars }
     ensures solvable { Solvable store.new.vars store.new.pairs }
@@ -129,7 +133,7 @@ fn take(
 }
 
 // Reads the oldest tuple that matches.
-fn read(
+fn read_oldest(
     alloc: Global,
     t: &Term,
     store: &mut Store,
@@ -141,7 +145,7 @@ fn read(
     ensures read { IfOk result (λ y. IsTrue y
         → HasRead store.old store.new (tree_of t.now) bag.now effects.old.items effects.new.items) }
     ensures none { IfOk result (λ y. y ≡ false
-        → NoneOf (Matches store.old.vars store.old.pairs (tree_of t.now)) (tuples_of bag.now.now)) }
+        → HasNoMatch store.old (tree_of t.now) bag.now) }
     ensures effects { IfOk result (λ y. y ≡ false → effects.new.items ≡ effects.old.items) }
     ensures vars { store.new.vars ≡ store.old.vars }
     ensures solvable { Solvable store.new.vars store.new.pairs }
@@ -158,11 +162,10 @@ fn read(
 fn is_absent(alloc: Global, t: &Term, store: &mut Store, bag: &Bag) -> Result<bool, NoMemory>
     requires within { HasVarsBelow store.old.vars (tree_of t.now) }
     requires solvable { Solvable store.old.vars store.old.pairs }
-    ensures none { IfOk result (λ y. IsTrue y
-        → NoneOf (Matches store.old.vars store.old.pairs (tree_of t.now)) (tuples_of bag.now.now)) }
+    ensures none { IfOk result (λ y. IsTrue y → HasNoMatch store.old (tree_of t.now) bag.now) }
     ensures same { IfOk result (λ y. IsTrue y → store.new ≡ store.old) }
     ensures some { IfOk result (λ y. y ≡ false
-        → NoneOf (Matches store.old.vars store.old.pairs (tree_of t.now)) (tuples_of bag.now.now) → ⊥) }
+        → HasNoMatch store.old (tree_of t.now) bag.now → ⊥) }
     ensures vars { store.new.vars ≡ store.old.vars }
     ensures solvable { Solvable store.new.vars store.new.pairs }
 {
@@ -177,9 +180,10 @@ fn is_absent(alloc: Global, t: &Term, store: &mut Store, bag: &Bag) -> Result<bo
 fn equate_name(alloc: Global, store: &mut Store, t: &Term, name: &Name) -> Result<bool, NoMemory>
     requires left { var_bound (tree_of t.now) ≤ store.old.vars }
     requires solvable { Solvable store.old.vars store.old.pairs }
-    ensures added { IfOk result (λ y. IsTrue y → store.new ≡ with_pair store.old (tree_of t.now) (Atomic name.now)) }
+    ensures added { IfOk result (λ y. IsTrue y
+        → store.new ≡ with_pair store.old (tree_of t.now) (Atomic name.now)) }
     ensures refused { IfOk result (λ y. y ≡ false
-        → Solvable store.old.vars (store.old.pairs ++ (tree_of t.now, Atomic name.now) ∷ []) → ⊥) }
+        → CannotEqual store.old (tree_of t.now) (Atomic name.now)) }
     ensures vars { store.new.vars ≡ store.old.vars }
     ensures solvable { Solvable store.new.vars store.new.pairs }
 {
@@ -192,9 +196,10 @@ fn equate_name(alloc: Global, store: &mut Store, t: &Term, name: &Name) -> Resul
 fn equate_op(alloc: Global, store: &mut Store, t: &Term, op: EventOp) -> Result<bool, NoMemory>
     requires left { var_bound (tree_of t.now) ≤ store.old.vars }
     requires solvable { Solvable store.old.vars store.old.pairs }
-    ensures added { IfOk result (λ y. IsTrue y → store.new ≡ with_pair store.old (tree_of t.now) (Atomic (op_name op))) }
+    ensures added { IfOk result (λ y. IsTrue y
+        → store.new ≡ with_pair store.old (tree_of t.now) (Atomic (op_name op))) }
     ensures refused { IfOk result (λ y. y ≡ false
-        → Solvable store.old.vars (store.old.pairs ++ (tree_of t.now, Atomic (op_name op)) ∷ []) → ⊥) }
+        → CannotEqual store.old (tree_of t.now) (Atomic (op_name op))) }
     ensures vars { store.new.vars ≡ store.old.vars }
     ensures solvable { Solvable store.new.vars store.new.pairs }
 {
@@ -207,9 +212,10 @@ fn equate_op(alloc: Global, store: &mut Store, t: &Term, op: EventOp) -> Result<
 fn equate_event(store: &mut Store, t: &Term, e: &Pattern, vars: u32) -> Result<bool, NoMemory>
     requires left { var_bound (tree_of t.now) ≤ vars }
     requires width { store.old.vars ≡ vars + var_bound e.now }
-    ensures added { IfOk result (λ y. IsTrue y → store.new ≡ with_pair store.old (tree_of t.now) (raised vars e.now)) }
+    ensures added { IfOk result (λ y. IsTrue y
+        → store.new ≡ with_pair store.old (tree_of t.now) (raised vars e.now)) }
     ensures refused { IfOk result (λ y. y ≡ false
-        → Solvable store.old.vars (store.old.pairs ++ (tree_of t.now, raised vars e.now) ∷ []) → ⊥) }
+        → CannotEqual store.old (tree_of t.now) (raised vars e.now)) }
     ensures vars { store.new.vars ≡ store.old.vars }
     ensures solvable { Solvable store.new.vars store.new.pairs }
 {
@@ -236,10 +242,11 @@ fn number(store: &Store, t: &Term) -> Result<Option<i64>, NoMemory>
 
 // Adds the equation of a term and a number.
 fn equate_number(store: &mut Store, s: &Term, i: i64) -> Result<bool, NoMemory>
-    requires left { var_bound (tree_of s.now) ≤ store.old.vars }
-    ensures added { IfOk result (λ y. IsTrue y → store.new ≡ with_pair store.old (tree_of s.now) (Number i)) }
+    requires { var_bound (tree_of s.now) ≤ store.old.vars }
+    ensures added { IfOk result (λ y. IsTrue y
+        → store.new ≡ with_pair store.old (tree_of s.now) (Number i)) }
     ensures refused { IfOk result (λ y. y ≡ false
-        → Solvable store.old.vars (store.old.pairs ++ (tree_of s.now, Number i) ∷ []) → ⊥) }
+        → CannotEqual store.old (tree_of s.now) (Number i)) }
     ensures vars { store.new.vars ≡ store.old.vars }
     ensures solvable { Solvable store.new.vars store.new.pairs }
 {
@@ -254,10 +261,11 @@ fn assign(store: &mut Store, s: &Term, t: &Term) -> Result<bool, NoMemory>
     requires right { var_bound (tree_of t.now) ≤ store.old.vars }
     requires solvable { Solvable store.old.vars store.old.pairs }
     ensures assigned { IfOk result (λ y. IsTrue y
-        → (i : ℤ) × EvaluatesIn store.old (tree_of t.now) i × (store.new ≡ with_pair store.old (tree_of s.now) (Number i))) }
+        → (i : ℤ) × EvaluatesIn store.old (tree_of t.now) i
+        × (store.new ≡ with_pair store.old (tree_of s.now) (Number i))) }
     ensures refused { IfOk result (λ y. y ≡ false
         → (i : ℤ) → EvaluatesIn store.old (tree_of t.now) i
-        → Solvable store.old.vars (store.old.pairs ++ (tree_of s.now, Number i) ∷ []) → ⊥) }
+        → CannotEqual store.old (tree_of s.now) (Number i)) }
     ensures vars { store.new.vars ≡ store.old.vars }
     ensures solvable { Solvable store.new.vars store.new.pairs }
 {
@@ -272,11 +280,11 @@ fn assign(store: &mut Store, s: &Term, t: &Term) -> Result<bool, NoMemory>
 fn do_compare(store: &Store, op: Cmp, s: &Term, t: &Term) -> Result<bool, NoMemory>
     requires left { var_bound (tree_of s.now) ≤ store.now.vars }
     requires right { var_bound (tree_of t.now) ≤ store.now.vars }
-    ensures holds { IfOk result (λ y. IsTrue y
-        → (i : ℤ) × (j : ℤ) × EvaluatesIn store.now (tree_of s.now) i × EvaluatesIn store.now (tree_of t.now) j
+    ensures holds { IfOk result (λ y. IsTrue y → (i : ℤ) × (j : ℤ)
+        × EvaluatesIn store.now (tree_of s.now) i × EvaluatesIn store.now (tree_of t.now) j
         × IsTrue (holds op i j)) }
-    ensures fails { IfOk result (λ y. y ≡ false
-        → (i j : ℤ) → EvaluatesIn store.now (tree_of s.now) i → EvaluatesIn store.now (tree_of t.now) j
+    ensures fails { IfOk result (λ y. y ≡ false → (i j : ℤ)
+        → EvaluatesIn store.now (tree_of s.now) i → EvaluatesIn store.now (tree_of t.now) j
         → IsTrue (holds op i j) → ⊥) }
 {
     let Some(i) = number(store, s)? else {

@@ -12,27 +12,21 @@ use Rattle.tc_bag.specs.Stock.{tuples_of}
 use Rattle.tc_model.specs.Within.{HasVarsBelow, terms_of}
 use Rattle.tc_body.specs.Moments.{moment_of, IsDone}
 use Rattle.tc_body.proofs.Leading.{begun_moment, failed_first, more_done}
-use Rattle.tc_model.proofs.Rules.{rule_goals, rule_vars}
+use Rattle.tc_model.proofs.Rules.{rule_goals}
 use Rattle.tc_body.proofs.body.run_goals.Goals as goal
-
-pub overflow_add-vars : goal.overflow_add-vars
-overflow_add-vars c =
-    let few = rule_vars c.args.r.now c.goals-goals.ensures.rule in
-    let pattern = c.term-term.ensures.event.term.template.few in
-    omega (arith, few, c.vars.ensures.vars, c.vars-2.ensures.count, pattern, ap (λ t. length (Rattle.tc_term.specs.Variables.variables t)) c.term-term.ensures.term)
 
 pub returns-then-not-branch-clause-failed : goal.returns-then-not-branch-clause-failed
 returns-then-not-branch-clause-failed c =
     failed_first c.args.r.now c.args.e.now c.args.context.now (tuples_of c.args.bag.now.now) c.new-effects.result.items
-    c.goals-goals.ensures.rule.some c.new-effects.ensures.items (c.in_ok-meet.ensures.refused c.if-not-branch.true)
+    c.goals-goals.ensures.rule.some c.new-effects.ensures.items (c.in_ok-meet.ensures.apart c.if-not-branch.true)
 
 pub loop-i-init : goal.loop-i-init
 loop-i-init c =
-    let q = c.in_ok-meet.ensures.added c.if-not-branch.false in
+    let q = c.in_ok-meet.ensures.met c.if-not-branch.false in
     record {
       leads = begun_moment c.args.r.now c.args.e.now c.args.context.now c.meet.new.store _ c.args.bag.now c.new-effects.result.items c.new-effects.ensures.items q;
       width = ap (λ (s : Equations). s.vars) q;
-      solvable = c.meet.ensures.solvable;
+      solvable = c.in_ok-meet.ensures.solvable;
       saved = refl;
       next = omega arith;
     }
@@ -52,7 +46,7 @@ within_goal r i g n rule same inside at =
 
 pub step-requires-clause-goal : goal.step-requires-clause-goal
 step-requires-clause-goal c =
-    within_goal c.args.r.now c.loop-i.i c.index-goals-i.result c.vars-in-loop-i.result c.goals-goals.ensures.rule c.vars-in-loop-i.ensures.vars
+    within_goal c.args.r.now c.loop-i.i c.index-goals-i.result c.vars.result c.goals-goals.ensures.rule c.vars.ensures.vars
     (below c.goals-goals.result.now c.args.r.now.goals c.loop-i.i c.goals-goals.ensures.goals c.loop-i-test.true)
     (here c.goals-goals.result.now c.args.r.now.goals c.loop-i.i c.index-goals-i.result c.goals-goals.ensures.goals c.index-goals-i.is)
 
@@ -72,7 +66,7 @@ returns-then-not-branch-2-clause-failed c =
       end = end;
       leads = c.loop-i.invariant.leads;
       recorded = sym (c.in_ok-step.ensures.effects c.if-not-branch-2.true);
-      stuck = subst (λ n. IsStuck (scene n) g end) c.vars-in-loop-i.ensures.vars (c.in_ok-step.ensures.stuck c.if-not-branch-2.true);
+      stuck = subst (λ n. IsStuck (scene n) g end) c.vars.ensures.vars (c.in_ok-step.ensures.stuck c.if-not-branch-2.true);
     }
 
 pub loop-i-preserved : goal.loop-i-preserved
@@ -87,7 +81,7 @@ loop-i-preserved c =
           (below c.goals-goals.result.now r.goals c.loop-i.i c.goals-goals.ensures.goals c.loop-i-test.true)
           (here c.goals-goals.result.now r.goals c.loop-i.i g c.goals-goals.ensures.goals c.index-goals-i.is)
           c.loop-i.invariant.leads
-          (subst (λ n. IsDone (scene n) g m end) c.vars-in-loop-i.ensures.vars (c.in_ok-step.ensures.done c.if-not-branch-2.false));
+          (subst (λ n. IsDone (scene n) g m end) c.vars.ensures.vars (c.in_ok-step.ensures.done c.if-not-branch-2.false));
       width = c.step.ensures.vars ∙ c.loop-i.invariant.width;
       solvable = c.step.ensures.solvable;
       saved = c.step.ensures.saved ∙ c.loop-i.invariant.saved;

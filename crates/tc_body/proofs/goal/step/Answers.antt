@@ -16,12 +16,12 @@ returns-in-OutR-clause-done c =
 pub returns-in-InR-clause-done : goal.returns-in-InR-clause-done
 returns-in-InR-clause-done c =
     let scene : Scene = record { vars = c.args.vars; event = c.args.e.now; setting = c.args.context.now } in
-    rw c.in-InR.is (take_yes scene c.args.store.now c.args.bag.now c.args.effects.now.items c.requires.width c.requires.solvable c.in-InR.t c.take.new.store c.take.new.bag c.take.new.effects.items c.take.result c.take.ensures.solvable c.take.ensures.taken)
+    rw c.in-InR.is (take_yes scene c.args.store.now c.args.bag.now c.args.effects.now.items c.requires.width c.requires.solvable c.in-InR.t c.take_oldest.new.store c.take_oldest.new.bag c.take_oldest.new.effects.items c.take_oldest.result c.take_oldest.ensures.solvable c.take_oldest.ensures.taken)
 
 pub returns-in-RdR-clause-done : goal.returns-in-RdR-clause-done
 returns-in-RdR-clause-done c =
     let scene : Scene = record { vars = c.args.vars; event = c.args.e.now; setting = c.args.context.now } in
-    rw c.in-RdR.is (read_yes scene c.args.store.now c.args.bag.now c.args.effects.now.items c.requires.width c.requires.solvable c.in-RdR.t c.read.new.store c.read.new.effects.items c.read.result c.read.ensures.solvable c.read.ensures.read)
+    rw c.in-RdR.is (read_yes scene c.args.store.now c.args.bag.now c.args.effects.now.items c.requires.width c.requires.solvable c.in-RdR.t c.read_oldest.new.store c.read_oldest.new.effects.items c.read_oldest.result c.read_oldest.ensures.solvable c.read_oldest.ensures.read)
 
 pub returns-in-NoR-clause-done : goal.returns-in-NoR-clause-done
 returns-in-NoR-clause-done c =
