@@ -1,0 +1,125 @@
+//! Clauses with an index by operation.
+ghost use Rattle.std.specs.Prelude.{◌≡◌, ◌↔◌, IsTrue, IfOk, List};
+ghost use Rattle.tc_model.specs.Reactions.{Rule};
+ghost use Rattle.tc_spec.specs.Indexed.{AreOf, IsIndex};
+
+use crate::triggers::{numbers_of, triggered_of};
+use std::alloc::Global;
+use std::marker::Model;
+use tc_lists::NoMemory;
+use tc_model::{Clauses, Event, EventOp};
+use tc_unify::Store;
+
+// The numbers of the clauses of each operation, rising.
+#[derive(Drop)]
+pub struct Index {
+    out: Vec<u32>,
+    in_: Vec<u32>,
+    rd: Vec<u32>,
+    inp: Vec<u32>,
+    rdp: Vec<u32>,
+    out_r: Vec<u32>,
+    in_r: Vec<u32>,
+    rd_r: Vec<u32>,
+    no_r: Vec<u32>,
+}
+
+/// The clauses of a centre, with an index by operation.
+#[derive(Drop)]
+pub struct Spec {
+    clauses: Clauses,
+    index: Index,
+}
+
+impl Model for Spec {
+    ghost use Rattle.std.specs.Prelude.{List};
+    ghost use Rattle.std.specs.Coded.{codes};
+    ghost use Rattle.tc_term.specs.TreeCode.{coded_tree, coded_trees};
+    ghost use Rattle.tc_model.specs.Reactions.{Rule};
+
+    ghost Value = { List Rule };
+
+    ghost coded = { Prim.hlevel (codes, coded_tree, coded_trees) };
+
+    ghost view = { λ s. s.clauses };
+
+    ghost use Rattle.tc_spec.specs.Indexed.{IsIndex};
+
+    ghost invariant = { λ s. IsIndex s.clauses s.index };
+}
+
+impl Spec {
+    ghost use Rattle.tc_model.specs.Triggers.{AreTriggered};
+    ghost use Rattle.tc_spec.specs.Indexed.{HasOp};
+
+    /// The clauses with their index. Takes the time of the clauses.
+    pub fn of(alloc: Global, clauses: Clauses) -> Result<Spec, NoMemory>
+        ensures { IfOk result (λ spec. spec ≡ clauses) }
+    {
+        let items = clauses.items();
+        let index = Index {
+            out: numbers_of(alloc, items, EventOp::Out)?,
+            in_: numbers_of(alloc, items, EventOp::In)?,
+            rd: numbers_of(alloc, items, EventOp::Rd)?,
+            inp: numbers_of(alloc, items, EventOp::Inp)?,
+            rdp: numbers_of(alloc, items, EventOp::Rdp)?,
+            out_r: numbers_of(alloc, items, EventOp::OutR)?,
+            in_r: numbers_of(alloc, items, EventOp::InR)?,
+            rd_r: numbers_of(alloc, items, EventOp::RdR)?,
+            no_r: numbers_of(alloc, items, EventOp::NoR)?,
+        };
+        Ok(Spec { clauses, index })
+    }
+
+    /// The clauses.
+    pub fn clauses(&self) -> &Clauses
+        ensures { result.now ≡ self.now }
+    {
+        &self.clauses
+    }
+
+    /// Whether there is a clause of this operation. Where there is none, no event of the operation
+    /// triggers anything. Takes no memory, and the same time however many clauses there are.
+    pub fn has_op(&self, op: EventOp) -> bool
+        ensures { IsTrue result ↔ HasOp op self.now }
+    {
+        !numbers_in(&self.index, op).is_empty()
+    }
+
+    /// The numbers of the clauses that the event triggers, rising. Clauses count from 1.
+    ///
+    /// The store is scratch: it may hold anything before, and nothing is said of it afterwards.
+    /// Only clauses of the event's operation are tried, each in the time of its head and the event's
+    /// term.
+    pub fn triggered(
+        &self,
+        alloc: Global,
+        store: &mut Store,
+        e: &Event,
+    ) -> Result<Vec<u32>, NoMemory>
+        ensures { IfOk result (λ numbers. AreTriggered self.now e.now numbers.items) }
+    {
+        let op = e.op();
+        let numbers = numbers_in(&self.index, op);
+        let items = self.clauses.items();
+        let found = triggered_of(alloc, store, items, numbers, e)?;
+        Ok(found)
+    }
+}
+
+// The numbers of an operation's clauses.
+fn numbers_in(index: &Index, o: EventOp) -> &[u32]
+    ensures { (clauses : List Rule) → IsIndex clauses index.now → AreOf o clauses result.now }
+{
+    match o {
+        EventOp::Out => &index.out,
+        EventOp::In => &index.in_,
+        EventOp::Rd => &index.rd,
+        EventOp::Inp => &index.inp,
+        EventOp::Rdp => &index.rdp,
+        EventOp::OutR => &index.out_r,
+        EventOp::InR => &index.in_r,
+        EventOp::RdR => &index.rd_r,
+        EventOp::NoR => &index.no_r,
+    }
+}

@@ -1,0 +1,97 @@
+//! The clauses of an operation, and those of them whose heads meet an event.
+ghost use Rattle.std.specs.Prelude.{◌≡◌, ◌≤◌, ◌+◌, ◌↔◌, ◌++◌, ◌∷◌, [], if◌then◌else◌, length, false, IsTrue, IfOk, OnOk};
+ghost use Rattle.tc_term.specs.Variables.{var_bound, raised};
+ghost use Rattle.tc_term.specs.Equations.{Solvable};
+ghost use Rattle.tc_model.specs.Triggers.{AreTriggered};
+ghost use Rattle.tc_model.specs.declared.limits.TheConstants.{MOST_CLAUSES};
+ghost use Rattle.tc_spec.specs.Indexed.{AreOf};
+
+use std::alloc::Global;
+use tc_lists::NoMemory;
+use tc_model::{Event, EventOp, Reaction};
+use tc_unify::{Part, Store};
+
+/// The numbers of the clauses of an operation, from 1, rising.
+pub fn numbers_of(alloc: Global, clauses: &[Reaction], o: EventOp) -> Result<Vec<u32>, NoMemory>
+    requires { length clauses.now ≤ MOST_CLAUSES }
+    ensures { IfOk result (λ numbers. AreOf o clauses.now numbers.items) }
+{
+    let mut numbers = Vec::new(alloc);
+    for i in 0..clauses.len() {
+        let keep = has_op(&clauses[i], o);
+        keep_if(&mut numbers, keep, i as u32 + 1)?;
+    }
+    Ok(numbers)
+}
+
+/// Those of an operation's clauses that the event of the operation triggers.
+pub fn triggered_of(
+    alloc: Global,
+    store: &mut Store,
+    clauses: &[Reaction],
+    numbers: &[u32],
+    e: &Event,
+) -> Result<Vec<u32>, NoMemory>
+    requires { AreOf e.now.op clauses.now numbers.now }
+    ensures { IfOk result (λ found. AreTriggered clauses.now e.now found.items) }
+{
+    let mut found = Vec::new(alloc);
+    for i in 0..numbers.len() {
+        let number = numbers[i];
+        let meets = does_meet(store, &clauses[number as usize - 1], e)?;
+        keep_if(&mut found, meets, number)?;
+    }
+    Ok(found)
+}
+
+// Whether a reaction is to this operation.
+fn has_op(r: &Reaction, o: EventOp) -> bool
+    ensures { IsTrue result ↔ (r.now.op ≡ o) }
+{
+    r.op() == o
+}
+
+// Appends a number, if it is to be kept.
+fn keep_if(numbers: &mut Vec<u32>, keep: bool, number: u32) -> Result<(), NoMemory>
+    ensures { OnOk result (numbers.new.items
+        ≡ (if keep then numbers.old.items ++ number ∷ [] else numbers.old.items)) }
+{
+    if keep {
+        numbers.push(number)?;
+    }
+    Ok(())
+}
+
+// Whether the head of a reaction can be made equal to an event's term.
+fn does_meet(store: &mut Store, r: &Reaction, e: &Event) -> Result<bool, NoMemory>
+    ensures yes { IfOk result (λ y. IsTrue y → Solvable (r.now.vars + var_bound e.now.term)
+        ((r.now.head, raised r.now.vars e.now.term) ∷ [])) }
+    ensures no { IfOk result (λ y. y ≡ false → Solvable (r.now.vars + var_bound e.now.term)
+        ((r.now.head, raised r.now.vars e.now.term) ∷ []) → ⊥) }
+{
+    let vars = r.vars();
+    let term = e.term();
+    store.renew(vars + term.vars())?;
+    let met = meet(store, r, e)?;
+    Ok(met)
+}
+
+// Adds the equation of a reaction's head and an event's term to a store of no equations.
+fn meet(store: &mut Store, r: &Reaction, e: &Event) -> Result<bool, NoMemory>
+    requires { store.old ≡ record { vars = r.now.vars + var_bound e.now.term; pairs = [] } }
+    ensures added { IfOk result (λ y. IsTrue y → Solvable (r.now.vars + var_bound e.now.term)
+        ((r.now.head, raised r.now.vars e.now.term) ∷ [])) }
+    ensures refused { IfOk result (λ y. y ≡ false → Solvable (r.now.vars + var_bound e.now.term)
+        ((r.now.head, raised r.now.vars e.now.term) ∷ []) → ⊥) }
+{
+    let left = Part {
+        term: r.head(),
+        shift: 0,
+    };
+    let right = Part {
+        term: e.term().term(),
+        shift: r.vars(),
+    };
+    let added = store.add(left, right)?;
+    Ok(added)
+}
