@@ -1,2 +1,3 @@
 pub mod Sifting
 pub mod Meeting
+pub mod Nesting

@@ -1,3 +1,4 @@
 pub mod Numbers
 pub mod Indexed
 pub mod Kept
+pub mod Written
