@@ -1,0 +1,5 @@
+pub mod Adding
+pub mod Turns
+pub mod Waiting
+pub mod Fresh
+pub mod Kept
