@@ -1,3 +1,11 @@
 pub mod Sifting
 pub mod Meeting
 pub mod Nesting
+pub mod Tables
+pub mod Failing
+pub mod Pairs
+pub mod Commas
+pub mod Opened
+pub mod Spelling
+pub mod Answered
+pub mod Exact

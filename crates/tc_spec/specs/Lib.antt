@@ -2,3 +2,5 @@ pub mod Numbers
 pub mod Indexed
 pub mod Kept
 pub mod Written
+pub mod Goals
+pub mod Answers

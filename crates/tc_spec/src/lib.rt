@@ -1,9 +1,11 @@
-//! Specifications: the clauses of a centre, their text, and which of them an event triggers.
+//! Specifications: terms as reactions, clauses as text, and which clauses an event triggers.
 //!
 //! An event triggers a clause of its operation whose head can be made equal to the event's term,
 //! their variables kept apart. Nothing here knows of tuples, or of what a body does.
 //!
 //! ```
+//! let mut clauses = Clauses::new(alloc);
+//! clauses.push(reaction_of(alloc, &template)?)?; // reaction(out(p(X)),(in_r(p(X)),out_r(q(X))))
 //! let spec = Spec::of(alloc, clauses)?;
 //! let mut store = Store::new(alloc, 0)?;
 //! if spec.has_op(event.op()) {
@@ -14,11 +16,23 @@
 //! ```
 #![tactic(auto)]
 
+mod arguments;
+mod bodies;
+mod brackets;
+mod faults;
+mod goals;
+mod heads;
+mod leaves;
 mod printing;
+mod reading;
 mod spec;
 mod terms;
+#[cfg(test)]
+mod tests;
 mod triggers;
 
+pub use faults::ReactionFault;
 pub use printing::print_spec;
+pub use reading::reaction_of;
 pub use spec::Spec;
 pub use tc_lists::NoMemory;

@@ -1,6 +1,5 @@
-use Rattle.std.proofs.Common.{◌≡◌, ap, sym, ◌∙◌, map}
+use Rattle.std.proofs.Common.{ap, ◌∙◌, map}
 use Rattle.tc_term.specs.TreeView.{tree_of}
-use Rattle.tc_term.specs.Tree.{Tree}
 use Rattle.tc_model.specs.Reactions.{goal_term}
 use Rattle.tc_model.specs.declared.events.EventOp.{EventOp}
 use Rattle.tc_spec.specs.Written.{clause_of_parts, nested}

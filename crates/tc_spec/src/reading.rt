@@ -1,0 +1,63 @@
+//! From a term to a reaction.
+ghost use Rattle.std.specs.Prelude.{IsTrue, IfErr, IfOk};
+ghost use Rattle.tc_term.specs.NameBytes.{has_read_names};
+ghost use Rattle.tc_model.specs.Reactions.{Rule};
+ghost use Rattle.tc_model.specs.declared.faults.SpecCause.{SpecCause};
+ghost use Rattle.tc_spec.specs.Answers.{IsReactionFault, IsThisFault, IsWant};
+ghost use Rattle.tc_spec.specs.Written.{IsCausedBy, IsWrittenAs};
+
+use crate::bodies::goals_of;
+use crate::brackets::is_small;
+use crate::faults::ReactionFault;
+use crate::heads::parts_of;
+use crate::leaves::push_leaves;
+use crate::terms::clause_of_terms;
+use std::alloc::Global;
+use tc_model::{MOST_GOALS, Reaction, SpecCause};
+use tc_term::Pattern;
+
+/// The reaction that a clause `reaction(Head,Body)` is written as, or its first fault.
+///
+/// A clause with commas nested in any way is read, and the reaction's own is nested to the right.
+/// Names of the template may hold no byte below 32 but line feeds and tabs, as those that were read.
+/// Takes time linear in the template.
+pub fn reaction_of(alloc: Global, p: &Pattern) -> Result<Reaction, ReactionFault>
+    requires { IsTrue (has_read_names p.now) }
+    ensures reaction { IfOk result (IsWrittenAs p.now) }
+    ensures fault { IfErr result (IsReactionFault p.now) }
+
+    // Each answer comes exactly where it is due, but for want of memory.
+    ensures written { (r : Rule) → IsWrittenAs p.now r → IfErr result IsWant }
+    ensures refused { (why : SpecCause) → IsCausedBy p.now why → IfOk result (λ _. ⊥) }
+    ensures caused { (why : SpecCause) → IsCausedBy p.now why → IfErr result (IsThisFault why) }
+{
+    let read = read_reaction(alloc, p);
+    read
+}
+
+// The same, with what each answer says.
+fn read_reaction(alloc: Global, p: &Pattern) -> Result<Reaction, ReactionFault>
+    requires { IsTrue (has_read_names p.now) }
+    ensures reaction { IfOk result (IsWrittenAs p.now) }
+    ensures fault { IfErr result (IsReactionFault p.now) }
+{
+    let (op, head, body) = match parts_of(p.term()) {
+        Ok(parts) => parts,
+        Err(cause) => return Err(ReactionFault::Bad(cause)),
+    };
+    let mut leaves = Vec::new(alloc);
+    push_leaves(alloc, body, &mut leaves)?;
+    let found = goals_of(alloc, &leaves)?;
+    let Some(goals) = found else {
+        return Err(ReactionFault::Bad(SpecCause::Goal));
+    };
+    if goals.len() > MOST_GOALS {
+        return Err(ReactionFault::Bad(SpecCause::Count));
+    }
+    let clause = clause_of_terms(alloc, op, head, leaves)?;
+    if !is_small(&clause) {
+        return Err(ReactionFault::Bad(SpecCause::Size));
+    }
+    let head = head.copy(alloc)?;
+    Ok(Reaction::new(p.vars(), op, head, goals))
+}
