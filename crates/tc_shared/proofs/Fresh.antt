@@ -1,6 +1,7 @@
 -- The passes of a new centre.
 use Rattle.std.proofs.Common.{◌≡◌, ℕ, zero, suc, ◌+◌, ◌<◌, ◌≤◌, List, [], ◌∷◌, All, false, length, refl, sym, ap, ◌∙◌, subst, arith}
 use Rattle.std.proofs.lemmas.List.Elements.{All-nil, All-cons, All-same}
+use Rattle.tc_model.specs.Calls.{id_of}
 use Rattle.tc_model.specs.State.{Origin}
 use Rattle.tc_model.specs.declared.entries.Entry.{Entry}
 use Rattle.tc_turn.specs.Passes.{TurnstileState, PassState, new_pass, new_passes}
@@ -31,3 +32,9 @@ all-fresh t origin history turns passes same none rest made =
     made ∙ ap (λ (o : Origin). new_passes t.table o turns 0 (length o.agents)) (sym same) in
     All-same (IsFreshPassOf t) passes (new_passes t.table t.origin turns 0 (length t.origin.agents)) here
     (fresh-passes t at turns (length t.origin.agents) 0 (omega arith))
+
+-- any number is one for the first call of a fresh pass
+pub fresh-next : (t : TurnstileState Origin) (p : PassState Entry Origin) → IsFreshPassOf t p → (number : ℕ)
+    → All (λ e. (id_of e).number < number) p.mine
+fresh-next t p fresh number =
+    All-same (λ e. (id_of e).number < number) p.mine [] fresh.none (All-nil (λ e. (id_of e).number < number))

@@ -1,6 +1,6 @@
 //! The centre, its passes, and a turn that is kept.
 ghost use Rattle.std.specs.Prelude.{◌≡◌, [], ◌<◌, ◌≤◌, ℕ, false, true, Some, length, IfOk, IfErr, OnErr, All};
-ghost use Rattle.tc_model.specs.Calls.{id_of};
+ghost use Rattle.tc_model.specs.Calls.{id_of, calls_of};
 ghost use Rattle.tc_centre.specs.Turns.{IsOnTuples};
 ghost use Rattle.tc_model.specs.Run.{HasCall};
 ghost use Rattle.tc_model.specs.Replies.{reply_in};
@@ -309,6 +309,7 @@ impl SharedCentre {
         requires whole { (n : ℕ) → n < self.passes → 0 < ended_count n ended.items }
         ensures origin { result.origin ≡ self.origin }
         ensures seen { All (AgreesWith owner_of result.history) ended.items }
+        ensures calls { All (λ e. calls_of e.number result.history ≡ e.mine) ended.items }
         ensures others { (n : ℕ) → self.passes ≤ n → entries_of owner_of n result.history ≡ [] }
     {
         let SharedCentre {
