@@ -1,0 +1,4 @@
+pub mod Rooms
+pub mod Triggering
+pub mod Waves
+pub mod Passing

@@ -1,0 +1,4 @@
+pub mod Adding
+pub mod Batches
+pub mod Ends
+pub mod Reached

@@ -1,0 +1,143 @@
+//! A cascade: all that an event triggers, and what that triggers in turn.
+ghost use Rattle.std.specs.Prelude.{◌≡◌, ◌≤◌, ◌+◌, ◌*◌, ◌∷◌, [], length, IfOk, OnOk};
+ghost use Rattle.tc_model.specs.Triggers.{IsClause};
+ghost use Rattle.tc_model.specs.declared.limits.TheConstants.{MOST_BUDGET};
+ghost use Rattle.tc_cascade.specs.Ends.{IsEnd, items_of};
+ghost use Rattle.tc_cascade.specs.Adding.{Adds, Stands};
+
+use crate::queue::Queue;
+use std::alloc::Global;
+use tc_bag::Bag;
+use tc_body::execute_in;
+use tc_lists::{NoMemory, Seq};
+use tc_model::{Clauses, Context, Event, Item, Reaction};
+use tc_spec::Spec;
+use tc_unify::Store;
+
+/// The items of a cascade, in the order in which they were tried. Reactions that failed count.
+#[derive(Drop)]
+pub enum Cascade {
+    /// Nothing waits any more.
+    Whole(Seq<Item>),
+    /// The budget is spent, and a triggered reaction still waits.
+    Over(Seq<Item>),
+}
+
+/// Runs all that an event triggers, the oldest first, until nothing waits or so many reactions were
+/// tried as the budget allows.
+///
+/// After `Whole` the tuples are those that the items leave. After `Over` and after want of memory
+/// they may be any: going back is the caller's, by a mark that was set before. Marks stay as they
+/// were, whatever the answer, and the next age rises by 64 at most for each reaction.
+pub fn run(
+    alloc: Global,
+    spec: &Spec,
+    e: &Event,
+    context: &Context,
+    budget: u32,
+    bag: &mut Bag,
+) -> Result<Cascade, NoMemory>
+    requires few { budget ≤ MOST_BUDGET }
+    requires next { bag.old.next + 640000 ≤ u64.MAX }
+    ensures ends { IfOk result (IsEnd spec.now context.now budget e.now bag.old bag.new) }
+    ensures rises { IfOk result (λ c. bag.new.next ≤ bag.old.next + 64 * length (items_of c)) }
+    ensures saved { bag.new.saved ≡ bag.old.saved }
+    ensures next { bag.new.next ≤ bag.old.next + 640000 }
+{
+    let mut store = Store::new(alloc, 0)?;
+    let end = run_in(alloc, &mut store, spec, e, context, budget, bag)?;
+    Ok(end)
+}
+
+/// As `run`, with a store that is made anew in the memory that it has. What it holds before does
+/// not count.
+pub fn run_in(
+    alloc: Global,
+    store: &mut Store,
+    spec: &Spec,
+    e: &Event,
+    context: &Context,
+    budget: u32,
+    bag: &mut Bag,
+) -> Result<Cascade, NoMemory>
+    requires few { budget ≤ MOST_BUDGET }
+    requires next { bag.old.next + 640000 ≤ u64.MAX }
+    ensures ends { IfOk result (IsEnd spec.now context.now budget e.now bag.old bag.new) }
+    ensures rises { IfOk result (λ c. bag.new.next ≤ bag.old.next + 64 * length (items_of c)) }
+    ensures saved { bag.new.saved ≡ bag.old.saved }
+    ensures next { bag.new.next ≤ bag.old.next + 640000 }
+{
+    let mut waiting = Queue::new(alloc);
+    add(
+        alloc,
+        store,
+        spec,
+        e.copy(alloc)?,
+        budget as usize + 1,
+        &mut waiting,
+    )?;
+    let mut items = Vec::new(alloc);
+    for k in 0..budget {
+        let Some((clause, event)) = waiting.first() else {
+            return Ok(Cascade::Whole(Seq::new(items)));
+        };
+        let reaction = clause_at(spec.clauses(), clause);
+        let (item, events) = execute_in(alloc, store, reaction, 1, clause, event, context, bag)?;
+        waiting.pass();
+        items.push(item)?;
+        add_all(
+            alloc,
+            store,
+            spec,
+            events,
+            (budget - k) as usize,
+            &mut waiting,
+        )?;
+    }
+    if waiting.is_empty() {
+        Ok(Cascade::Whole(Seq::new(items)))
+    } else {
+        Ok(Cascade::Over(Seq::new(items)))
+    }
+}
+
+// The clause of this number, counted from 1.
+fn clause_at(clauses: &Clauses, number: u32) -> &Reaction
+    requires { Stands clauses.now number }
+    ensures { IsClause clauses.now number result.now }
+{
+    &clauses.items()[number as usize - 1]
+}
+
+// Adds what the event triggers.
+fn add(
+    alloc: Global,
+    store: &mut Store,
+    spec: &Spec,
+    event: Event,
+    room: usize,
+    waiting: &mut Queue,
+) -> Result<(), NoMemory>
+    ensures { OnOk result (Adds spec.now (event ∷ []) room waiting.old waiting.new) }
+{
+    let numbers = spec.triggered(alloc, store, &event)?;
+    waiting.add(event, numbers, room)?;
+    Ok(())
+}
+
+// Adds what each of the events triggers.
+fn add_all(
+    alloc: Global,
+    store: &mut Store,
+    spec: &Spec,
+    events: Vec<Event>,
+    room: usize,
+    waiting: &mut Queue,
+) -> Result<(), NoMemory>
+    ensures { OnOk result (Adds spec.now events.items room waiting.old waiting.new) }
+{
+    for event in events {
+        add(alloc, store, spec, event, room, waiting)?;
+    }
+    Ok(())
+}

@@ -1,0 +1,21 @@
+//! All that comes of an event: the reactions that it triggers, what these trigger, and so on, one
+//! after another, within a budget.
+//!
+//! The oldest triggered reaction is tried first. Nothing here knows how a centre serves a call, or
+//! what it does with a cascade that went over the budget.
+//!
+//! ```text
+//! bag.mark()?;
+//! match run(alloc, &spec, &event, &context, budget, &mut bag) {
+//!     Ok(Cascade::Whole(items)) => bag.keep(), // the tuples are those after the items
+//!     Ok(Cascade::Over(items)) => bag.undo(),
+//!     Err(_) => bag.undo(),
+//! }
+//! ```
+#![tactic(auto)]
+
+mod cascade;
+mod queue;
+
+pub use cascade::{Cascade, run, run_in};
+pub use tc_lists::NoMemory;
