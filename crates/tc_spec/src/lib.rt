@@ -27,8 +27,6 @@ mod printing;
 mod reading;
 mod spec;
 mod terms;
-#[cfg(test)]
-mod tests;
 mod triggers;
 
 pub use faults::ReactionFault;
