@@ -1,3 +1,4 @@
+pub mod Additions
 pub mod Agreement
 pub mod Ages
 pub mod Pairs

@@ -1,5 +1,5 @@
 -- A bag as contracts see it.
-use Rattle.std.specs.Prelude.{ℕ, ◌+◌, ◌<◌, ◌≤◌, ◌==◌, if◌then◌else◌, List, [], ◌∷◌, ◌++◌, map, All, Option, Some, None}
+use Rattle.std.specs.Prelude.{ℕ, ◌+◌, ◌<◌, ◌≤◌, ◌==◌, if◌then◌else◌, List, [], ◌∷◌, ◌++◌, map, All, Contains, Option, Some, None}
 use Rattle.tc_lists.specs.Marks.{with_mark}
 use Rattle.tc_term.specs.Tree.{Tree}
 use Rattle.tc_bag.specs.declared.key.Key.{Key}
@@ -34,6 +34,10 @@ tuples_of rows = map (λ r. r.tuple) rows
 abbrev pub Rises : List Row → ℕ → Type 0
 Rises [] next = Unit {0}
 Rises (r ∷ rs) next = (r.age < next) × All (λ s. r.age < s.age) rs × Rises rs next
+
+-- no row below this age is there that wasn't
+abbrev pub AddsNone : ℕ → List Row → List Row → Type 0
+AddsNone age old new = (row : Row) → Contains new row → row.age < age → Contains old row
 
 -- the row's age is at least this number, and its tuple agrees with the key
 abbrev pub IsCandidate : Key → ℕ → Row → Type 0

@@ -4,11 +4,12 @@ use Rattle.std.proofs.lemmas.List.{get_or-map, length-map, length-take, take_at}
 use Rattle.std.proofs.lemmas.List.Elements.{Contains-push_cases}
 use Rattle.tc_lists.specs.Firsts.{NoneOf}
 use Rattle.tc_term.specs.Tree.{Tree}
-use Rattle.tc_bag.specs.Stock.{Row, row, tuples_of, without_age}
+use Rattle.tc_bag.specs.Stock.{AddsNone, Row, row, tuples_of, without_age}
+use Rattle.tc_bag.proofs.Additions.{without-none}
 use Rattle.tc_pending.specs.Answers.{IsKnown}
 use Rattle.tc_model.specs.State.{IsAnswerable, IsQuiescent}
 use Rattle.tc_model.specs.declared.calls.Request.{Request}
-use Rattle.tc_centre.specs.Held.{AddsNone, KeepsOld, Knows, known_of, state_held}
+use Rattle.tc_centre.specs.Held.{KeepsOld, Knows, known_of, state_held}
 use Rattle.tc_centre.specs.declared.holdings.Holdings.{Holdings}
 use Rattle.tc_centre.proofs.Removals.{rows_left}
 
@@ -32,28 +33,10 @@ known-still old new quiet kept = (
   omega (arith, ap length kept.requests, length-take (length old.pending.now) new.pending.now),
 )
 
--- the rows without one, and with a younger one
-without-case : (b : Bool) (s : Row) (rows rest : List Row) (r : Row) → (Contains rest r → Contains rows r)
-    → Contains (cond b rows (s ∷ rest)) r → Contains (s ∷ rows) r
-without-case true s rows rest r deeper there = (suc there.0, omega (arith, there.1), there.2)
-without-case false s rows rest r deeper (zero, inside, is) = (zero, omega arith, is)
-without-case false s rows rest r deeper (suc k, inside, is) =
-    let found = deeper (k, omega (arith, inside), is) in
-    (suc found.0, omega (arith, found.1), found.2)
-
-without-none : (age : ℕ) (rows : List Row) (r : Row) → Contains (without_age age rows) r → Contains rows r
-without-none age [] r there = there
-without-none age (s ∷ rows) r there =
-    without-case (s.age == age) s rows (without_age age rows) r (without-none age rows r) there
-
+-- the rows that are left, and those with a younger one
 pub left-none : (takes : Bool) (age : ℕ) (rows : List Row) (r : Row) → Contains (rows_left takes age rows) r → Contains rows r
 left-none true age rows r there = without-none age rows r there
 left-none false age rows r there = there
-
-pub pushed-none : (rows new : List Row) (next : ℕ) (t : Tree) → new ≡ rows ++ row next t ∷ [] → AddsNone next rows new
-pushed-none rows new next t is r there older =
-    ⊎_elim (λ before. before) (λ (last : row next t ≡ r). absurd (omega (arith, ap (λ (s : Row). s.age) last, older)))
-    (Contains-push_cases rows (row next t) r (subst (λ rs. Contains rs r) is there))
 
 pub left-adds-none : (takes : Bool) (age next : ℕ) (rows new : List Row) → new ≡ rows_left takes age rows → AddsNone next rows new
 left-adds-none takes age next rows new is r there older =

@@ -1,6 +1,6 @@
 -- What a centre holds between two entries of its history.
 use Rattle.std.specs.Prelude.{◌≡◌, ℕ, ◌+◌, ◌*◌, ◌<◌, ◌≤◌, List, [], ◌∷◌, ◌++◌, All, Contains, length, take}
-use Rattle.tc_bag.specs.Stock.{Row, tuples_of}
+use Rattle.tc_bag.specs.Stock.{Row, AddsNone, tuples_of}
 use Rattle.tc_model.specs.Entries.{weight}
 use Rattle.tc_model.specs.Typed.{IsTyped}
 use Rattle.tc_model.specs.declared.limits.TheConstants.{MOST_TUPLES, MOST_WEIGHT}
@@ -92,10 +92,6 @@ pub record Keeps (old new : Holdings) : Type 0 where
   pub bag : new.bag.saved ≡ old.bag.saved
   pub pending : new.pending.saved ≡ old.pending.saved
   pub longer : IsLonger old.history.items new.history.items
-
--- no row below this age is there that wasn't
-abbrev pub AddsNone : ℕ → List Row → List Row → Type 0
-AddsNone age old new = (row : Row) → Contains new row → row.age < age → Contains old row
 
 -- what is new are younger rows, and requests behind the others
 pub record KeepsOld (old new : Holdings) : Type 0 where

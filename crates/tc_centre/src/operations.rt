@@ -1,10 +1,10 @@
 //! Operations on the tuples and the requests of a centre.
 ghost use Rattle.std.specs.Prelude.{◌≡◌, ◌+◌, ◌<◌, ◌≤◌, if◌then◌else◌, [], ◌∷◌, ◌++◌, Some, length, IfOk, OnOk, IsSome};
-ghost use Rattle.tc_bag.specs.Stock.{tuples_of, tuple_at, without_age};
+ghost use Rattle.tc_bag.specs.Stock.{AddsNone, tuples_of, tuple_at, without_age};
 ghost use Rattle.tc_model.specs.Choices.{TheFirst};
 ghost use Rattle.tc_model.specs.State.{after_call};
 ghost use Rattle.tc_model.specs.Tables.{IsServed};
-ghost use Rattle.tc_centre.specs.Held.{origin_of, state_held, Keeps, KeepsOld, AddsNone};
+ghost use Rattle.tc_centre.specs.Held.{origin_of, state_held, Keeps, KeepsOld};
 ghost use Rattle.tc_centre.specs.Operations.{IsSearched};
 ghost use Rattle.tc_centre.specs.Turns.{IsOnTuples};
 
