@@ -1,5 +1,5 @@
 -- Rows that are there and weren't.
-use Rattle.std.proofs.Common.{◌≡◌, ◌<◌, ◌≤◌, ◌++◌, ◌==◌, ℕ, Bool, true, false, cond, suc, List, [], ◌∷◌, Contains, sym, ap, subst, ⊎_elim, arith}
+use Rattle.std.proofs.Common.{◌≡◌, ◌≤◌, ◌++◌, ◌==◌, ℕ, Bool, true, false, cond, zero, suc, List, [], ◌∷◌, Contains, ap, subst, ⊎_elim, arith}
 use Rattle.std.proofs.lemmas.List.Elements.{Contains-push_cases}
 use Rattle.tc_term.specs.Tree.{Tree}
 use Rattle.tc_bag.specs.Stock.{AddsNone, Row, row, without_age}
