@@ -3,6 +3,8 @@ pub mod Events
 pub mod Reactions
 pub mod ReactionViews
 pub mod Within
+pub mod Asks
+pub mod Scripts
 pub mod Tuples
 pub mod Goals
 pub mod Bodies

@@ -75,8 +75,8 @@ impl Goal {
     }
 }
 
-// An equal term.
-fn copy_term(alloc: Global, t: &Term) -> Result<Term, NoMemory>
+/// An equal term.
+pub fn copy_term(alloc: Global, t: &Term) -> Result<Term, NoMemory>
     ensures { IfOk result (λ term. term ≡ t.now) }
 {
     let copy = t.copy(alloc)?;

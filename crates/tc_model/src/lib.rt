@@ -16,6 +16,7 @@
 //! ```
 #![tactic(auto)]
 
+mod asks;
 mod calls;
 mod entries;
 mod events;
@@ -27,9 +28,11 @@ mod limits;
 mod origins;
 mod outcomes;
 mod reactions;
+mod scripts;
 #[cfg(test)]
 mod tests;
 
+pub use asks::{Ask, Primitive};
 pub use calls::{CallId, Op, Request};
 pub use entries::Entry;
 pub use events::{Context, Event, EventOp, Phase, Sign, event_op_of};
@@ -47,4 +50,5 @@ pub use limits::{
 pub use origins::{OriginFault, check_origin};
 pub use outcomes::{Outcome, Reply};
 pub use reactions::{Clauses, Reaction};
+pub use scripts::{Script, ScriptItem};
 pub use tc_lists::NoMemory;
