@@ -6,7 +6,7 @@ ghost use Rattle.tc_model.specs.Choices.{TheFirst};
 ghost use Rattle.tc_model.specs.Tuples.{after_effects};
 ghost use Rattle.tc_model.specs.Cascades.{pick_of, clause_of};
 ghost use Rattle.tc_model.specs.Triggers.{raises};
-ghost use Rattle.tc_bag.specs.Stock.{tuples_of};
+ghost use Rattle.tc_bag.specs.Stock.{tuples_of, AddsNone};
 ghost use Rattle.tc_body.specs.Left.{IsLeft};
 ghost use Rattle.tc_body.specs.Met.{met};
 
@@ -40,6 +40,8 @@ pub fn execute(
     ensures same { OnErr result (bag.new ≡ bag.old) }
     ensures saved { bag.new.saved ≡ bag.old.saved }
     ensures next { bag.new.next ≤ bag.old.next + 64 }
+    ensures rises { bag.old.next ≤ bag.new.next }
+    ensures old { AddsNone bag.old.next bag.old.now bag.new.now }
 {
     let mut store = Store::new(alloc, 0)?;
     let done = execute_in(alloc, &mut store, r, pick, clause, e, context, bag)?;
@@ -67,6 +69,8 @@ pub fn execute_in(
     ensures same { OnErr result (bag.new ≡ bag.old) }
     ensures saved { bag.new.saved ≡ bag.old.saved }
     ensures next { bag.new.next ≤ bag.old.next + 64 }
+    ensures rises { bag.old.next ≤ bag.new.next }
+    ensures old { AddsNone bag.old.next bag.old.now bag.new.now }
 {
     bag.mark()?;
     match run_goals(alloc, store, r, e, context, bag) {
@@ -130,6 +134,8 @@ pub fn run_goals(
         (tuples_of bag.new.now ≡ after_effects x.1.items (tuples_of bag.old.now))) }
     ensures saved { bag.new.saved ≡ bag.old.saved }
     ensures next { bag.new.next ≤ bag.old.next + 64 }
+    ensures rises { bag.old.next ≤ bag.new.next }
+    ensures old { AddsNone bag.old.next bag.old.now bag.new.now }
 {
     let mut effects = Vec::new(alloc);
     let goals = r.goals();

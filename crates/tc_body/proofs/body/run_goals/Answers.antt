@@ -9,6 +9,7 @@ use Rattle.tc_model.specs.Bodies.{scene_of, beginning}
 use Rattle.tc_model.specs.declared.goals.Goal.{Goal}
 use Rattle.tc_model.proofs.Following.{body-tuples}
 use Rattle.tc_bag.specs.Stock.{tuples_of}
+use Rattle.tc_bag.proofs.Additions.{adds-none-again}
 use Rattle.tc_model.specs.Within.{HasVarsBelow, terms_of}
 use Rattle.tc_body.specs.Moments.{moment_of, IsDone}
 use Rattle.tc_body.proofs.Leading.{begun_moment, failed_first, more_done}
@@ -29,6 +30,8 @@ loop-i-init c =
       solvable = c.in_ok-meet.ensures.solvable;
       saved = refl;
       next = omega arith;
+      rises = omega arith;
+      old = λ r there older. there;
     }
 
 -- the goal of this place
@@ -86,6 +89,9 @@ loop-i-preserved c =
       solvable = c.step.ensures.solvable;
       saved = c.step.ensures.saved ∙ c.loop-i.invariant.saved;
       next = omega (arith, c.step.ensures.next, c.loop-i.invariant.next);
+      rises = omega (arith, c.step.ensures.rises, c.loop-i.invariant.rises);
+      old = adds-none-again c.args.bag.now.next c.loop-i.bag.next c.args.bag.now.now c.loop-i.bag.now c.step.new.bag.now
+          c.loop-i.invariant.rises c.loop-i.invariant.old c.step.ensures.old;
     }
 
 pub returns-clause-tuples : goal.returns-clause-tuples
@@ -93,3 +99,13 @@ returns-clause-tuples c =
     body-tuples TheFirst (scene_of c.args.r.now c.args.e.now c.args.context.now) (take c.loop-i.i c.args.r.now.goals)
     (beginning c.args.r.now c.args.e.now (tuples_of c.args.bag.now.now))
     (moment_of c.loop-i.store c.loop-i.bag c.loop-i.effects.items) refl c.loop-i.invariant.leads
+
+pub returns-in_err-step-clause-old : goal.returns-in_err-step-clause-old
+returns-in_err-step-clause-old c =
+    adds-none-again c.args.bag.now.next c.loop-i.bag.next c.args.bag.now.now c.loop-i.bag.now c.step.new.bag.now
+    c.loop-i.invariant.rises c.loop-i.invariant.old c.step.ensures.old
+
+pub returns-then-not-branch-2-clause-old : goal.returns-then-not-branch-2-clause-old
+returns-then-not-branch-2-clause-old c =
+    adds-none-again c.args.bag.now.next c.loop-i.bag.next c.args.bag.now.now c.loop-i.bag.now c.step.new.bag.now
+    c.loop-i.invariant.rises c.loop-i.invariant.old c.step.ensures.old
