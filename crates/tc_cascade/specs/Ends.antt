@@ -22,3 +22,8 @@ IsEnd clauses setting budget e old new (Whole items) =
     × (tuples_of new.now ≡ after_items items (tuples_of old.now))
 IsEnd clauses setting budget e old new (Over items) =
     IsOver TheFirst clauses setting budget e (tuples_of old.now) items
+
+-- all is as it was where it went over the budget
+abbrev pub IsUndone : Cascade → Stock → Stock → Type 0
+IsUndone (Whole items) old new = Unit {0}
+IsUndone (Over items) old new = new ≡ old

@@ -1,8 +1,9 @@
 //! A cascade: all that an event triggers, and what that triggers in turn.
-ghost use Rattle.std.specs.Prelude.{◌≡◌, ◌≤◌, ◌+◌, ◌*◌, ◌∷◌, [], length, IfOk, OnOk};
+ghost use Rattle.std.specs.Prelude.{◌≡◌, ◌≤◌, ◌+◌, ◌*◌, ◌∷◌, [], length, IfOk, OnOk, OnErr};
 ghost use Rattle.tc_model.specs.Triggers.{IsClause};
 ghost use Rattle.tc_model.specs.declared.limits.TheConstants.{MOST_BUDGET};
-ghost use Rattle.tc_cascade.specs.Ends.{IsEnd, items_of};
+ghost use Rattle.tc_bag.specs.Stock.{AddsNone};
+ghost use Rattle.tc_cascade.specs.Ends.{IsEnd, IsUndone, items_of};
 ghost use Rattle.tc_cascade.specs.Adding.{Adds, Stands};
 
 use crate::queue::Queue;
@@ -27,8 +28,7 @@ pub enum Cascade {
 /// tried as the budget allows.
 ///
 /// After `Whole` the tuples are those that the items leave. After `Over` and after want of memory
-/// they may be any: going back is the caller's, by a mark that was set before. Marks stay as they
-/// were, whatever the answer, and the next age rises by 64 at most for each reaction.
+/// the bag is as before.
 pub fn run(
     alloc: Global,
     spec: &Spec,
@@ -40,17 +40,37 @@ pub fn run(
     requires few { budget ≤ MOST_BUDGET }
     requires next { bag.old.next + 640000 ≤ u64.MAX }
     ensures ends { IfOk result (IsEnd spec.now context.now budget e.now bag.old bag.new) }
-    ensures rises { IfOk result (λ c. bag.new.next ≤ bag.old.next + 64 * length (items_of c)) }
+    ensures over { IfOk result (λ c. IsUndone c bag.old bag.new) }
+    ensures same { OnErr result (bag.new ≡ bag.old) }
+    ensures per_item { IfOk result (λ c. bag.new.next ≤ bag.old.next + 64 * length (items_of c)) }
     ensures saved { bag.new.saved ≡ bag.old.saved }
     ensures next { bag.new.next ≤ bag.old.next + 640000 }
+    ensures rises { bag.old.next ≤ bag.new.next }
+    ensures old { AddsNone bag.old.next bag.old.now bag.new.now }
 {
     let mut store = Store::new(alloc, 0)?;
-    let end = run_in(alloc, &mut store, spec, e, context, budget, bag)?;
-    Ok(end)
+    bag.mark()?;
+    match run_in(alloc, &mut store, spec, e, context, budget, bag) {
+        Ok(Cascade::Whole(items)) => {
+            bag.keep();
+            Ok(Cascade::Whole(items))
+        }
+        Ok(Cascade::Over(items)) => {
+            bag.undo();
+            Ok(Cascade::Over(items))
+        }
+        Err(fault) => {
+            bag.undo();
+            Err(fault)
+        }
+    }
 }
 
-/// As `run`, with a store that is made anew in the memory that it has. What it holds before does
-/// not count.
+/// As `run`, but it does not go back, and its store is made anew in the memory that it has. What
+/// the store holds before does not count.
+///
+/// After `Over` and after want of memory the tuples may be any: going back is the caller's, by a
+/// mark that was set before. Marks stay as they were, whatever the answer.
 pub fn run_in(
     alloc: Global,
     store: &mut Store,
@@ -63,9 +83,11 @@ pub fn run_in(
     requires few { budget ≤ MOST_BUDGET }
     requires next { bag.old.next + 640000 ≤ u64.MAX }
     ensures ends { IfOk result (IsEnd spec.now context.now budget e.now bag.old bag.new) }
-    ensures rises { IfOk result (λ c. bag.new.next ≤ bag.old.next + 64 * length (items_of c)) }
+    ensures per_item { IfOk result (λ c. bag.new.next ≤ bag.old.next + 64 * length (items_of c)) }
     ensures saved { bag.new.saved ≡ bag.old.saved }
     ensures next { bag.new.next ≤ bag.old.next + 640000 }
+    ensures rises { bag.old.next ≤ bag.new.next }
+    ensures old { AddsNone bag.old.next bag.old.now bag.new.now }
 {
     let mut waiting = Queue::new(alloc);
     add(

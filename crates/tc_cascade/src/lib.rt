@@ -5,11 +5,9 @@
 //! what it does with a cascade that went over the budget.
 //!
 //! ```text
-//! bag.mark()?;
-//! match run(alloc, &spec, &event, &context, budget, &mut bag) {
-//!     Ok(Cascade::Whole(items)) => bag.keep(), // the tuples are those after the items
-//!     Ok(Cascade::Over(items)) => bag.undo(),
-//!     Err(_) => bag.undo(),
+//! match run(alloc, &spec, &event, &context, budget, &mut bag)? {
+//!     Cascade::Whole(items) => { .. } // the tuples are those after the items
+//!     Cascade::Over(items) => { .. }  // the bag is as before
 //! }
 //! ```
 #![tactic(auto)]

@@ -1,6 +1,7 @@
 use Rattle.std.proofs.Common.{◌≡◌, ◌≤◌, ◌<◌, ◌+◌, ◌-◌, ◌++◌, [], ◌∷◌, List, length, drop, refl, sym, ap, subst, ◌∙◌, arith, length-append, Bool, true, ◌==◌}
 use Rattle.std.proofs.lemmas.Bool.Decides.{Decides-eqb}
 use Rattle.tc_model.specs.Reactions.{Rule}
+use Rattle.tc_bag.proofs.Additions.{adds-none-again}
 use Rattle.tc_model.specs.Triggers.{Member, IsClause}
 use Rattle.tc_cascade.specs.Adding.{Adds, Stands}
 use Rattle.tc_cascade.proofs.Waves.{at_first, at_stands, at_next, at_whole}
@@ -15,6 +16,8 @@ loop-k-init c =
       count = ap length c.new-items.ensures.items;
       saved = refl;
       next = omega arith;
+      rises = omega arith;
+      old = λ r there older. there;
     }
 
 pub returns-in_default-clause-ends : goal.returns-in_default-clause-ends
@@ -53,6 +56,9 @@ loop-k-preserved c =
       count = ap length c.in_ok-push.ensures.items ∙ (length-append items (item ∷ []) ∙ ap (λ n. n + 1) c.loop-k.invariant.count);
       saved = c.in_ok-item.ensures.saved ∙ c.loop-k.invariant.saved;
       next = omega (arith, c.in_ok-item.ensures.next, c.loop-k.invariant.next);
+      rises = omega (arith, c.execute_in.ensures.rises, c.loop-k.invariant.rises);
+      old = adds-none-again c.args.bag.now.next c.loop-k.bag.next c.args.bag.now.now c.loop-k.bag.now c.execute_in.new.bag.now
+          c.loop-k.invariant.rises c.loop-k.invariant.old c.execute_in.ensures.old;
     }
 
 empty_is : {X : Type 0} (xs : List X) (b : Bool) → b ≡ (length xs == 0) → b ≡ true → xs ≡ []
@@ -66,3 +72,18 @@ returns-then-is_empty-clause-ends c =
     at_whole c.args.spec.now c.args.context.now c.args.e.now c.args.bag.now c.loop-k.bag c.loop-k.items.items c.new-then-is_empty.result c.loop-k.waiting
     (c.args.budget + 1 - c.loop-k.k) c.args.budget c.loop-k.invariant.at (empty_is c.loop-k.waiting c.is_empty.result c.is_empty.ensures c.if-is_empty.true)
     (omega (arith, end)) (omega (arith, end, count)) c.new-then-is_empty.ensures
+
+pub returns-in_err-item-clause-old : goal.returns-in_err-item-clause-old
+returns-in_err-item-clause-old c =
+    adds-none-again c.args.bag.now.next c.loop-k.bag.next c.args.bag.now.now c.loop-k.bag.now c.execute_in.new.bag.now
+    c.loop-k.invariant.rises c.loop-k.invariant.old c.execute_in.ensures.old
+
+pub returns-in_err-push-clause-old : goal.returns-in_err-push-clause-old
+returns-in_err-push-clause-old c =
+    adds-none-again c.args.bag.now.next c.loop-k.bag.next c.args.bag.now.now c.loop-k.bag.now c.execute_in.new.bag.now
+    c.loop-k.invariant.rises c.loop-k.invariant.old c.execute_in.ensures.old
+
+pub returns-in_err-add_all-clause-old : goal.returns-in_err-add_all-clause-old
+returns-in_err-add_all-clause-old c =
+    adds-none-again c.args.bag.now.next c.loop-k.bag.next c.args.bag.now.now c.loop-k.bag.now c.execute_in.new.bag.now
+    c.loop-k.invariant.rises c.loop-k.invariant.old c.execute_in.ensures.old
