@@ -17,7 +17,7 @@ use Rattle.tc_spec.specs.declared.faults.ReactionFault.{ReactionFault}
 use Rattle.tc_spec.specs.declared.faults.ReactionFault.TheVariants as fault
 
 -- a reaction has one head and one body
-one_head : (h b g d : Tree) → of_two (codes "reaction") h b ≡ of_two (codes "reaction") g d → h ≡ g
+pub one_head : (h b g d : Tree) → of_two (codes "reaction") h b ≡ of_two (codes "reaction") g d → h ≡ g
 one_head h b g d same = cc
 
 one_body : (h b g d : Tree) → of_two (codes "reaction") h b ≡ of_two (codes "reaction") g d → b ≡ d
@@ -35,14 +35,14 @@ goal_terms : (gs : List Goal) → All IsGoalTerm (map goal_term gs)
 goal_terms [] = All-nil IsGoalTerm
 goal_terms (g ∷ gs) = All-cons IsGoalTerm (goal_term g) (map goal_term gs) (g, refl) (goal_terms gs)
 
-goal_spells : (t : Tree) (r : Rule) → Spells t r → IsCausedBy t cause.Goal → ⊥
+pub goal_spells : (t : Tree) (r : Rule) → Spells t r → IsCausedBy t cause.Goal → ⊥
 goal_spells t r s why =
     let body : s.body ≡ why.2 =
     one_body (of_one (op_name r.op) r.head) s.body (of_one (op_name why.0) why.1) why.2 (sym s.parts ∙ why.3) in
     why.4 (subst (All IsGoalTerm) (sym s.goals ∙ ap leaves body) (goal_terms r.goals))
 
 -- two rules that it spells have the same clause
-same_goals : (t : Tree) (r q : Rule) → Spells t r → Spells t q → map goal_term r.goals ≡ map goal_term q.goals
+pub same_goals : (t : Tree) (r q : Rule) → Spells t r → Spells t q → map goal_term r.goals ≡ map goal_term q.goals
 same_goals t r q s p =
     let body : s.body ≡ p.body =
     one_body (of_one (op_name r.op) r.head) s.body (of_one (op_name q.op) q.head) p.body (sym s.parts ∙ p.parts) in
@@ -51,14 +51,14 @@ same_goals t r q s p =
 same_length : (t : Tree) (r q : Rule) → Spells t r → Spells t q → length r.goals ≡ length q.goals
 same_length t r q s p = omega (arith, ap length (same_goals t r q s p), length-map r.goals goal_term, length-map q.goals goal_term)
 
-same_clause : (t : Tree) (r q : Rule) → Spells t r → Spells t q → clause_term r ≡ clause_term q
+pub same_clause : (t : Tree) (r q : Rule) → Spells t r → Spells t q → clause_term r ≡ clause_term q
 same_clause t r q s p =
     ap₂ (of_two (codes "reaction"))
     (one_head (of_one (op_name r.op) r.head) s.body (of_one (op_name q.op) q.head) p.body (sym s.parts ∙ p.parts))
     (body-nested r.goals ∙ ap nested (same_goals t r q s p) ∙ sym (body-nested q.goals))
 
 -- no term is written as a rule and has a cause
-excluded : (t : Tree) (r : Rule) (why : SpecCause) → IsWrittenAs t r → IsCausedBy t why → ⊥
+pub excluded : (t : Tree) (r : Rule) (why : SpecCause) → IsWrittenAs t r → IsCausedBy t why → ⊥
 excluded t r cause.Syntax w h = h
 excluded t r cause.Shape w h = shape_parts t r.head w.spells.body r.op w.spells.parts h
 excluded t r cause.Head w h = head_parts t r.head w.spells.body r.op w.spells.parts h
@@ -79,13 +79,13 @@ shape_goal t h k = shape_parts t k.1 k.2 k.0 k.3 h
 head_goal : (t : Tree) → IsCausedBy t cause.Head → IsCausedBy t cause.Goal → ⊥
 head_goal t h k = head_parts t k.1 k.2 k.0 k.3 h
 
-shape_spells : (t : Tree) (r : Rule) → Spells t r → IsCausedBy t cause.Shape → ⊥
+pub shape_spells : (t : Tree) (r : Rule) → Spells t r → IsCausedBy t cause.Shape → ⊥
 shape_spells t r s h = shape_parts t r.head s.body r.op s.parts h
 
-head_spells : (t : Tree) (r : Rule) → Spells t r → IsCausedBy t cause.Head → ⊥
+pub head_spells : (t : Tree) (r : Rule) → Spells t r → IsCausedBy t cause.Head → ⊥
 head_spells t r s h = head_parts t r.head s.body r.op s.parts h
 
-same_cause : (t : Tree) (c d : SpecCause) → IsCausedBy t c → IsCausedBy t d → c ≡ d
+pub same_cause : (t : Tree) (c d : SpecCause) → IsCausedBy t c → IsCausedBy t d → c ≡ d
 same_cause t cause.Syntax d h k = absurd h
 same_cause t cause.Shape cause.Syntax h k = absurd k
 same_cause t cause.Shape cause.Shape h k = refl

@@ -9,3 +9,7 @@ pub mod Opened
 pub mod Spelling
 pub mod Answered
 pub mod Exact
+pub mod Decoding
+pub mod OneText
+pub mod PrintedTexts
+pub mod GoingOn

@@ -4,3 +4,5 @@ pub mod Kept
 pub mod Written
 pub mod Goals
 pub mod Answers
+pub mod Texts
+pub mod TextAnswers

@@ -22,15 +22,22 @@ mod brackets;
 mod faults;
 mod goals;
 mod heads;
+mod laws;
 mod leaves;
 mod printing;
 mod reading;
 mod spec;
 mod terms;
+mod texts;
 mod triggers;
 
-pub use faults::ReactionFault;
+pub use faults::{ReactionFault, SpecFault};
+pub use laws::{clauses_of_a_text_are_unique, printed_clauses_are_read_back};
 pub use printing::print_spec;
 pub use reading::reaction_of;
 pub use spec::Spec;
 pub use tc_lists::NoMemory;
+pub use texts::read_spec;
+
+#[cfg(test)]
+mod tests;

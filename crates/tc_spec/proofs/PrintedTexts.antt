@@ -1,0 +1,222 @@
+-- The text of clauses spells them.
+use Rattle.std.proofs.Common.{◌≡◌, ◌≤◌, ◌+◌, ◌++◌, ℕ, Bool, true, List, [], ◌∷◌, All, codes, drop, length, map, inr, refl, ap, sym, subst, ◌∙◌, append_assoc, length-append, arith}
+use Rattle.std.proofs.Math.Seq.{drop-append_seam}
+use Rattle.std.specs.Char.{is_ascii_digit}
+use Rattle.std.proofs.lemmas.List.Elements.{All-head, All-tail}
+use Rattle.tc_term.specs.Faults.{Answer, Answers, Found, IsRead, Nothing}
+use Rattle.tc_term.specs.Layouts.{At, Layout, NoPiece, Piece, Scan, Stop, TextEnd, at_clause_end, at_no_token, at_text_end, blank, layout, no_layout, token}
+use Rattle.tc_term.specs.Text as text
+use Rattle.tc_term.specs.Text.{canonical}
+use Rattle.tc_term.specs.Tokens.{Lexeme, Spells, Word, Variable, Number, Quoted, Symbol, Punctuation, Open, Close, OpenList, CloseList, Comma, Bar}
+use Rattle.tc_term.specs.declared.comparison.Cmp.TheVariants as cmp
+use Rattle.tc_model.specs.Reactions.{AreClauses, IsRule, Rule, body_term, clause_term, clauses_text, goal_term}
+use Rattle.tc_model.specs.declared.goals.Goal.{Goal}
+use Rattle.tc_model.specs.declared.goals.Goal.TheVariants.{OutR, InR, RdR, NoR, Pre, Post, Success, Failure, True, Agent, Centre, Operation, Tuple, Equal, Differ, Is, Compare}
+use Rattle.tc_read.proofs.Blanks.{no_piece, no_piece_empty}
+use Rattle.tc_read.proofs.ReadBack.{clause-read-back}
+use Rattle.tc_spec.specs.Texts.{AreSpelt, IsSpelt, Reads}
+use Rattle.tc_spec.specs.Written.{IsWrittenAs, leaves}
+
+-- the leaves of a body are its goals
+leaves-goal : (g : Goal) → leaves (goal_term g) ≡ goal_term g ∷ []
+leaves-goal (OutR t) = refl
+leaves-goal (InR t) = refl
+leaves-goal (RdR t) = refl
+leaves-goal (NoR t) = refl
+leaves-goal Pre = refl
+leaves-goal Post = refl
+leaves-goal Success = refl
+leaves-goal Failure = refl
+leaves-goal True = refl
+leaves-goal (Agent t) = refl
+leaves-goal (Centre t) = refl
+leaves-goal (Operation t) = refl
+leaves-goal (Tuple t) = refl
+leaves-goal (Equal s t) = refl
+leaves-goal (Differ s t) = refl
+leaves-goal (Is s t) = refl
+leaves-goal (Compare cmp.Eq s t) = refl
+leaves-goal (Compare cmp.Ne s t) = refl
+leaves-goal (Compare cmp.Lt s t) = refl
+leaves-goal (Compare cmp.Gt s t) = refl
+leaves-goal (Compare cmp.Le s t) = refl
+leaves-goal (Compare cmp.Ge s t) = refl
+
+leaves-body : (gs : List Goal) → 1 ≤ length gs → leaves (body_term gs) ≡ map goal_term gs
+leaves-body [] some = absurd (omega (arith, some))
+leaves-body (g ∷ []) some = leaves-goal g
+leaves-body (g ∷ h ∷ gs) some =
+    ap (λ ts. ts ++ leaves (body_term (h ∷ gs))) (leaves-goal g)
+    ∙ ap (λ ts. goal_term g ∷ ts) (leaves-body (h ∷ gs) (omega arith))
+
+-- a rule's clause is written as the rule
+written : (r : Rule) → IsRule r → IsWrittenAs (clause_term r) r
+written r rule = record {
+  spells = record { body = body_term r.goals; parts = refl; goals = leaves-body r.goals rule.some };
+  rule = rule;
+}
+
+-- a token that begins with the letter r is no number and no bracket
+abbrev IsPlain : Lexeme → Type 0
+IsPlain (Number n) = ⊥
+IsPlain (Punctuation Open) = ⊥
+IsPlain _ = Unit {0}
+
+first_byte : (b c : ℕ) (s t : List ℕ) → b ∷ s ≡ c ∷ t → b ≡ c
+first_byte b c s t same = cc
+
+plain_letter : (s rest front after : List ℕ) (lexeme : Lexeme) → s ≡ 114 ∷ rest → s ≡ front ++ after → Spells front lexeme → IsPlain lexeme
+plain_letter s rest [] after (Number n) is split spelt = spelt.1
+plain_letter s rest (b ∷ front) after (Number n) is split spelt =
+    let digit : is_ascii_digit 114 ≡ true =
+    subst (λ c. is_ascii_digit c ≡ true) (first_byte b 114 (front ++ after) rest (sym split ∙ is)) spelt.1.0 in
+    cc
+plain_letter s rest front after (Punctuation Open) is split spelt =
+    absurd (omega (arith, first_byte 40 114 after rest (sym (ap (λ f. f ++ after) spelt) ∙ sym split ∙ is)))
+plain_letter s rest front after (Word w) is split spelt = tt
+plain_letter s rest front after (Variable w) is split spelt = tt
+plain_letter s rest front after (Quoted w) is split spelt = tt
+plain_letter s rest front after (Symbol w) is split spelt = tt
+plain_letter s rest front after (Punctuation Close) is split spelt = tt
+plain_letter s rest front after (Punctuation OpenList) is split spelt = tt
+plain_letter s rest front after (Punctuation CloseList) is split spelt = tt
+plain_letter s rest front after (Punctuation Comma) is split spelt = tt
+plain_letter s rest front after (Punctuation Bar) is split spelt = tt
+
+-- of a plain token it doesn't matter whether layout stands before it
+abbrev first_token : ℕ → Lexeme → Bool → List At → List At
+first_token place lexeme glued ts = record { lexeme = lexeme; place = place; glued = glued } ∷ ts
+
+glued_or_not : (size place : ℕ) (g h : Bool) (lexeme : Lexeme) (ts : List At) (stop : Stop) (a : Answer) → IsPlain lexeme
+    → Answers true size (first_token place lexeme g ts) stop a → Answers true size (first_token place lexeme h ts) stop a
+glued_or_not size place g h (Word w) ts stop a p x = x
+glued_or_not size place g h (Variable w) ts stop a p x = x
+glued_or_not size place g h (Number n) ts stop a p x = absurd p
+glued_or_not size place g h (Quoted w) ts stop a p x = x
+glued_or_not size place g h (Symbol w) ts stop a p x = x
+glued_or_not size place g h (Punctuation Open) ts stop a p x = absurd p
+glued_or_not size place g h (Punctuation Close) ts stop a p x = x
+glued_or_not size place g h (Punctuation OpenList) ts stop a p x = x
+glued_or_not size place g h (Punctuation CloseList) ts stop a p x = x
+glued_or_not size place g h (Punctuation Comma) ts stop a p x = x
+glued_or_not size place g h (Punctuation Bar) ts stop a p x = x
+
+-- no layout stands at the letter r
+stays : {s mid : List ℕ} → NoPiece s → Layout s mid → s ≡ mid
+stays none (no_layout n) = refl
+stays none (layout p l) = absurd (none _ p)
+
+no_layout_letter : (s rest : List ℕ) → s ≡ 114 ∷ rest → NoPiece s
+no_layout_letter s rest is = subst NoPiece (sym is) (no_piece 114 rest refl (λ h. omega (arith, h)) (λ h. omega (arith, h)))
+
+-- a line feed before a clause changes nothing
+line_feed : (s : List ℕ) → Piece (10 ∷ s) s
+line_feed s = blank refl
+
+scanned : (size : ℕ) (s rest : List ℕ) (a : Answer) → s ≡ 114 ∷ rest → {ts : List At} {stop : Stop} → Scan true size s ts stop
+    → Answers true size ts stop a → IsRead true size (10 ∷ s) a
+scanned size s rest a is (at_text_end l) x = ([], TextEnd, at_text_end (layout (line_feed s) l), x)
+scanned size s rest a is (at_clause_end e l b) x = ([], _, at_clause_end e (layout (line_feed s) l) b, x)
+scanned size s rest a is (at_no_token l n f) x = ([], _, at_no_token (layout (line_feed s) l) n f, x)
+scanned size s rest a is (token {mid} {front} {after} {lexeme} {ts} {stop} l longest scan) x = (
+  _,
+  stop,
+  token (layout (line_feed s) l) longest scan,
+  glued_or_not size _ _ _ lexeme ts stop a
+      (plain_letter s rest front after lexeme is (stays (no_layout_letter s rest is) l ∙ longest.split) longest.spelled) x,
+)
+
+behind_line_feed : (size : ℕ) (s rest : List ℕ) (a : Answer) → s ≡ 114 ∷ rest → IsRead true size s a → IsRead true size (10 ∷ s) a
+behind_line_feed size s rest a is x = scanned size s rest a is x.2 x.3
+
+-- nothing is left at the end, nor at a line feed there
+nothing_left : (size : ℕ) → IsRead true size [] Nothing
+nothing_left size = ([], TextEnd, at_text_end (no_layout no_piece_empty), refl)
+
+nothing_behind : (size : ℕ) → IsRead true size (10 ∷ []) Nothing
+nothing_behind size = ([], TextEnd, at_text_end (layout (line_feed []) (no_layout no_piece_empty)), refl)
+
+-- the text from a rule's clause on
+abbrev clause_on : Rule → List ℕ → List ℕ
+clause_on r more = canonical (clause_term r) ++ 46 ∷ 10 ∷ more
+
+-- the place behind the clause
+abbrev place_behind : ℕ → Rule → ℕ
+place_behind from r = from + length (canonical (clause_term r)) + 1
+
+-- it begins with the letter r
+begins : (r : Rule) (more : List ℕ) → clause_on r more ≡ 114 ∷ drop 1 (clause_on r more)
+unfolding text.text_in
+begins r more = refl
+
+text_on : (rs : List Rule) (r : Rule) → clauses_text (r ∷ rs) ≡ clause_on r (clauses_text rs)
+text_on rs r = append_assoc (canonical (clause_term r)) (codes ".\n") (clauses_text rs)
+
+rest_from : (text before after : List ℕ) → text ≡ before ++ after → drop (length before) text ≡ after
+rest_from text before after is = ap (drop (length before)) is ∙ drop-append_seam before after
+
+clause_read : (text before more : List ℕ) (r : Rule) → IsRule r → text ≡ before ++ clause_on r more
+    → Reads text (length before) (Found (clause_term r) (place_behind (length before) r))
+clause_read text before more r rule is =
+    let c = canonical (clause_term r) in
+    let whole : before ++ c ++ codes "." ++ (10 ∷ more) ≡ text =
+    append_assoc (before ++ c) (codes ".") (10 ∷ more) ∙ append_assoc before c (46 ∷ 10 ∷ more) ∙ sym is in
+    subst (λ s. Reads s (length before) (Found (clause_term r) (place_behind (length before) r))) whole
+    (clause-read-back before (10 ∷ more) (clause_term r) rule.clause (inr (more, line_feed more)))
+
+-- behind the line feed of the clause before it
+clause_read_behind : (text before more : List ℕ) (r : Rule) → IsRule r → text ≡ before ++ 10 ∷ clause_on r more
+    → Reads text (length before) (Found (clause_term r) (place_behind (length before + 1) r))
+clause_read_behind text before more r rule is =
+    let fed = before ++ 10 ∷ [] in
+    let there : text ≡ fed ++ clause_on r more = is ∙ sym (append_assoc before (10 ∷ []) (clause_on r more)) in
+    let far : length fed ≡ length before + 1 = length-append before (10 ∷ []) in
+    let a = Found (clause_term r) (place_behind (length before + 1) r) in
+    let read : IsRead true (length text) (clause_on r more) a =
+    subst (λ s. IsRead true (length text) s a) (rest_from text fed (clause_on r more) there)
+    (subst (λ k. Reads text (length fed) (Found (clause_term r) (place_behind k r))) far (clause_read text fed more r rule there)) in
+    subst (λ s. IsRead true (length text) s a) (sym (rest_from text before (10 ∷ clause_on r more) is))
+    (behind_line_feed (length text) (clause_on r more) (drop 1 (clause_on r more)) a (begins r more) read)
+
+-- the clauses are spelt from a place on, and nothing else
+abbrev AreAllSpelt : List ℕ → ℕ → List Rule → Type 0
+AreAllSpelt text from rs = (end : ℕ) × AreSpelt text from rs end × Reads text end Nothing
+
+one_more : (text : List ℕ) (from behind : ℕ) (r : Rule) (rs : List Rule) → IsRule r → Reads text from (Found (clause_term r) behind)
+    → AreAllSpelt text behind rs → AreAllSpelt text from (r ∷ rs)
+one_more text from behind r rs rule read rest =
+    (rest.0, (behind, record { term = clause_term r; found = read; written = written r rule }, rest.1), rest.2)
+
+spelt_behind : (text before : List ℕ) (rs : List Rule) → All IsRule rs → text ≡ before ++ 10 ∷ clauses_text rs
+    → AreAllSpelt text (length before) rs
+spelt_behind text before [] rules is =
+    (length before, refl, subst (λ s. IsRead true (length text) s Nothing) (sym (rest_from text before (10 ∷ []) is)) (nothing_behind (length text)))
+spelt_behind text before (r ∷ rs) rules is =
+    let c = canonical (clause_term r) in
+    let front = before ++ (10 ∷ c ++ codes ".") in
+    let this : text ≡ before ++ 10 ∷ clause_on r (clauses_text rs) = is ∙ ap (λ s. before ++ 10 ∷ s) (text_on rs r) in
+    let next : text ≡ front ++ 10 ∷ clauses_text rs =
+    this ∙ ap (λ s. before ++ 10 ∷ s) (sym (append_assoc c (codes ".") (10 ∷ clauses_text rs)))
+    ∙ sym (append_assoc before (10 ∷ c ++ codes ".") (10 ∷ clauses_text rs)) in
+    let far : length front ≡ place_behind (length before + 1) r =
+    omega (arith, length-append before (10 ∷ c ++ codes "."), length-append c (codes ".")) in
+    one_more text (length before) (place_behind (length before + 1) r) r rs (All-head IsRule r rs rules)
+    (clause_read_behind text before (clauses_text rs) r (All-head IsRule r rs rules) this)
+    (subst (λ k. AreAllSpelt text k rs) far (spelt_behind text front rs (All-tail IsRule r rs rules) next))
+
+all_spelt : (rs : List Rule) → All IsRule rs → AreAllSpelt (clauses_text rs) 0 rs
+all_spelt [] rules = (0, refl, nothing_left 0)
+all_spelt (r ∷ rs) rules =
+    let c = canonical (clause_term r) in
+    let text = clauses_text (r ∷ rs) in
+    let front = c ++ codes "." in
+    let next : text ≡ front ++ 10 ∷ clauses_text rs = text_on rs r ∙ sym (append_assoc c (codes ".") (10 ∷ clauses_text rs)) in
+    let far : length front ≡ place_behind 0 r = omega (arith, length-append c (codes ".")) in
+    one_more text 0 (place_behind 0 r) r rs (All-head IsRule r rs rules)
+    (clause_read text [] (clauses_text rs) r (All-head IsRule r rs rules) (text_on rs r))
+    (subst (λ k. AreAllSpelt text k rs) far (spelt_behind text front rs (All-tail IsRule r rs rules) next))
+
+pub printed-spelt : (rs : List Rule) → AreClauses rs → IsSpelt (clauses_text rs) rs
+printed-spelt rs clauses =
+    let all = all_spelt rs clauses.rules in
+    record { end = all.0; spelt = all.1; nothing = all.2; few = clauses.few }
