@@ -1,5 +1,5 @@
 -- Held rows by their ages, and their slots.
-use Rattle.std.proofs.Common.{◌≡◌, ◌≢◌, ◌<◌, ◌≤◌, ◌-◌, ◌==◌, ◌⊎◌, length, slice_get, length-append, ◌&&◌, ◌||◌, nat_lt, is_some, inl, inr, not, ℕ, Bool, true, false, cond, Option, Some, None, List, [], ◌∷◌, ◌++◌, get_or, map, filter, All, refl, ap, sym, subst, ◌∙◌, arith}
+use Rattle.std.proofs.Common.{◌≡◌, ◌≢◌, ◌<◌, ◌≤◌, ◌-◌, ◌==◌, ◌⊎◌, length, slice_get, length-append, ◌&&◌, ◌||◌, nat_lt, is_some, inl, inr, not, ℕ, Bool, true, false, cond, IsTrue, Option, Some, None, List, [], ◌∷◌, ◌++◌, get_or, map, filter, All, refl, ap, sym, subst, ◌∙◌, arith}
 use Rattle.std.proofs.lemmas.Bool.{cases_Bool, eqb-true, eq-eqb, ne_eqb, true≢false}
 use Rattle.std.proofs.lemmas.Bool.Decides.{nat_tests}
 use Rattle.std.proofs.lemmas.List.Elements.{All-head, All-tail, All-weaker, All-cons, All-map, All-push, filter_passes}
@@ -9,11 +9,11 @@ use Rattle.std.specs.Ordering.{nat_cmp, match_ordering}
 use Rattle.std.specs.declared.cmp.Ordering.TheVariants.{Greater}
 use Rattle.tc_term.specs.Tree.{Tree}
 use Rattle.tc_bag.specs.declared.slots.Held.{Held}
-use Rattle.tc_bag.specs.Held.{slot_of, slots_of, IsIndexed}
+use Rattle.tc_bag.specs.Held.{slot_of, slots_of, IsFindable}
 use Rattle.std.proofs.lemmas.List.{map-append}
 use Rattle.std.specs.Option.{IfSome, option_map}
 use Rattle.tc_bag.specs.declared.index.Index.{Index}
-use Rattle.tc_bag.specs.Ages.{Has}
+use Rattle.tc_bag.specs.Ages.{Has, HasRow}
 use Rattle.tc_bag.specs.Codes.{first_code}
 use Rattle.tc_bag.specs.Slots.{Slot, InOrder, IsYoungest, is_there, is_older, is_not_of, stays, taken_at, revived_at, with_taken, tuple_there}
 use Rattle.tc_lists.proofs.Filters.{filter_all}
@@ -150,26 +150,74 @@ insert-behind age (e ∷ es) h below =
     (above age e.0 (All-head (λ s. s.age < age) (slot_of e) (slots_of es) below))
     ∙ ap (λ rest. e ∷ rest) (insert-behind age es h (All-tail (λ s. s.age < age) (slot_of e) (slots_of es) below))
 
--- an index that keeps the other ages keeps their rows
+-- an index that keeps an age keeps its row
 HasSome-kept : (old new : Index) (age : ℕ) (code : Option ℕ) → ((c : ℕ) → Has old c age → Has new c age)
     → IfSome code (λ c. Has old c age) → IfSome code (λ c. Has new c age)
 HasSome-kept old new age None kept has = tt
 HasSome-kept old new age (Some c) kept has = kept c has
 
-pub indexed_kept : (old new : Index) (age : ℕ) (ss : List Slot) → ((c a : ℕ) → a ≢ age → Has old c a → Has new c a)
-    → All (λ s. s.age ≢ age) ss → All (IsIndexed old) ss → All (IsIndexed new) ss
-indexed_kept old new age ss kept others indexed = λ k d inside.
-    let s = get_or ss k d in
-    let other = others k d inside in
-    let has = indexed k d inside in
-    (kept _ s.age other has.0, HasSome-kept old new s.age (first_code s.tuple) (λ c. kept c s.age other) has.1)
+pub HasRow-kept : (old new : Index) (age : ℕ) (t : Tree) → ((c : ℕ) → Has old c age → Has new c age)
+    → HasRow old age t → HasRow new age t
+HasRow-kept old new age t kept has = (kept _ has.0, HasSome-kept old new age (first_code t) kept has.1)
 
-pub indexed_more : (old new : Index) (ss : List Slot) → ((c a : ℕ) → Has old c a → Has new c a)
-    → All (IsIndexed old) ss → All (IsIndexed new) ss
-indexed_more old new ss kept indexed = λ k d inside.
-    let s = get_or ss k d in
-    let has = indexed k d inside in
-    (kept _ s.age has.0, HasSome-kept old new s.age (first_code s.tuple) (λ c. kept c s.age) has.1)
+module _ (start : ℕ) (whole : Bool) (old new : Index) where
+  -- rows are found as before by an index that keeps the other ages
+  pub findable_kept : (age : ℕ) (ss : List Slot) → ((c a : ℕ) → a ≢ age → Has old c a → Has new c a)
+      → All (λ s. s.age ≢ age) ss → All (IsFindable start whole old) ss → All (IsFindable start whole new) ss
+  findable_kept age ss kept others found = λ k d inside there.
+      let s = get_or ss k d in
+      let has = found k d inside there in
+      (has.0, λ is_whole. HasRow-kept old new s.age s.tuple (λ c. kept c s.age (others k d inside)) (has.1 is_whole))
+
+  -- or by one that has more, from an earlier start
+  pub findable_more : (earlier : ℕ) (ss : List Slot) → earlier ≤ start → ((c a : ℕ) → Has old c a → Has new c a)
+      → All (IsFindable start whole old) ss → All (IsFindable earlier whole new) ss
+  findable_more earlier ss early kept found = λ k d inside there.
+      let s = get_or ss k d in
+      let has = found k d inside there in (
+        omega (arith, early, has.0),
+        λ is_whole. HasRow-kept old new s.age s.tuple (λ c. kept c s.age) (has.1 is_whole),
+      )
+
+  -- or with a row that isn't there any more
+  pub findable_gone : (age n : ℕ) (ss : List Slot) → 0 < n → ((c a : ℕ) → a ≢ age → Has old c a → Has new c a)
+      → All (IsFindable start whole old) ss → All (IsFindable start whole new) (map (with_taken age n) ss)
+  findable_gone age n ss counted kept found =
+      All-map (IsFindable start whole new) (with_taken age n) ss
+      (All-weaker (IsFindable start whole old) (λ s. IsFindable start whole new (with_taken age n s)) (λ s has.
+      elim (cases_Bool (s.age == age)) [
+        | inl same ↦ λ there.
+            let gone : (n == 0) ≡ true = sym (ap (λ b. cond b n s.taken == 0) same) ∙ there in
+            absurd (omega (arith, counted, eqb-true n 0 gone))
+        | inr other ↦ λ there.
+            let was = has (sym (ap (λ b. cond b n s.taken == 0) other) ∙ there) in (
+              was.0,
+              λ is_whole. HasRow-kept old new s.age s.tuple
+                  (λ c. kept c s.age (λ same. true≢false (sym (eq-eqb s.age age same) ∙ other))) (was.1 is_whole),
+            )
+      ]) ss found)
+
+  -- or with one that is there again, from its age on and in an index that got it, or isn't whole
+  pub findable_again : (less age : ℕ) (still : Bool) (t : Tree) (ss : List Slot) → less ≤ start → less ≤ age
+      → ((c a : ℕ) → Has old c a → Has new c a) → (IsTrue still → IsTrue whole × HasRow new age t)
+      → All (λ s. s.age ≡ age → s.tuple ≡ t) ss
+      → All (IsFindable start whole old) ss → All (IsFindable less still new) (map (with_taken age 0) ss)
+  findable_again less age still t ss early before kept got tuple found =
+      All-map (IsFindable less still new) (with_taken age 0) ss (λ k d inside.
+      let s = get_or ss k d in
+      elim (cases_Bool (s.age == age)) [
+        | inl same ↦ λ there.
+            let equal = eqb-true s.age age same in (
+              omega (arith, before, equal),
+              λ is_still. subst (HasRow new s.age) (sym (tuple k d inside equal))
+                  (subst (λ a. HasRow new a t) (sym equal) (got is_still).1),
+            )
+        | inr other ↦ λ there.
+            let was = found k d inside (sym (ap (λ b. cond b 0 s.taken == 0) other) ∙ there) in (
+              omega (arith, early, was.0),
+              λ is_still. HasRow-kept old new s.age s.tuple (λ c. kept c s.age) (was.1 (got is_still).0),
+            )
+      ])
 
 -- all before the last are older
 pub InOrder-last : (xs : List Slot) (s : Slot) → InOrder (xs ++ s ∷ []) → All (λ t. t.age < s.age) xs
@@ -184,10 +232,6 @@ pub not_of-other : (age : ℕ) (ss : List Slot) → All (λ s. s.age ≢ age) (f
 not_of-other age ss =
     All-weaker (λ s. is_not_of age s ≡ true) (λ s. s.age ≢ age)
     (λ s passes same. true≢false (sym passes ∙ ap not (eq-eqb s.age age same))) (filter (is_not_of age) ss) (filter_passes (is_not_of age) ss)
-
--- an index has a row whenever it was taken
-pub indexed_with : (index : Index) (age n : ℕ) (ss : List Slot) → All (IsIndexed index) ss → All (IsIndexed index) (map (with_taken age n) ss)
-indexed_with index age n ss indexed = All-map (IsIndexed index) (with_taken age n) ss indexed
 
 -- maps and filters that agree on the slots
 pub map-alike : (f g : Slot → Slot) (ss : List Slot) → All (λ s. f s ≡ g s) ss → map f ss ≡ map g ss

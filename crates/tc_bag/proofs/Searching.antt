@@ -1,5 +1,5 @@
 -- Finding the first row.
-use Rattle.std.proofs.Common.{◌≡◌, ◌<◌, ◌≤◌, ◌==◌, ◌⊎◌, ◌+◌, inl, inr, nat_lt, slice_get, ℕ, true, cond, Option, Some, None, List, [], ◌∷◌, get_or, All, refl, ap, sym, subst, ◌∙◌, arith}
+use Rattle.std.proofs.Common.{◌≡◌, ◌<◌, ◌≤◌, ◌==◌, ◌⊎◌, ◌+◌, inl, inr, nat_lt, slice_get, max, IsTrue, ℕ, Bool, true, cond, Option, Some, None, List, [], ◌∷◌, get_or, All, refl, ap, sym, subst, ◌∙◌, arith}
 use Rattle.std.proofs.lemmas.Bool.{cases_Bool, eqb-true, eq-eqb, ne_eqb}
 use Rattle.std.proofs.lemmas.List.Elements.{All-head, All-tail, All-cons, All-nil}
 use Rattle.std.specs.Option.{IfSome, IfNone, IsSome}
@@ -10,16 +10,16 @@ use Rattle.std.specs.Ordering.{nat_cmp}
 use Rattle.std.specs.declared.ops.Bound.TheVariants.{Included, Unbounded}
 use Rattle.std.proofs.lemmas.Bool.Decides.{nat_tests}
 use Rattle.tc_bag.specs.declared.slots.Held.{Held}
-use Rattle.tc_bag.proofs.Entries.{lookup_none}
+use Rattle.tc_bag.proofs.Entries.{lookup_none, lookup_all}
 use Rattle.tc_lists.specs.Firsts.{IsFirst}
 use Rattle.tc_term.specs.Tree.{Tree, Variable, Atomic, Number, Compound}
 use Rattle.tc_bag.specs.declared.index.Index.{Index}
 use Rattle.tc_bag.specs.declared.key.Key.{Key}
 use Rattle.tc_bag.specs.declared.key.Key.TheVariants.{Any}
-use Rattle.tc_bag.specs.Ages.{Has}
+use Rattle.tc_bag.specs.Ages.{Has, HasRow}
 use Rattle.tc_bag.specs.Codes.{key_code, first_code, code_like}
 use Rattle.tc_bag.specs.Keys.{first_of, first_argument, key_of, IsLike}
-use Rattle.tc_bag.specs.Held.{slots_of, IsIndexed}
+use Rattle.tc_bag.specs.Held.{slot_of, slots_of, IsFindable}
 use Rattle.tc_bag.specs.Slots.{Slot, slot, InOrder, IsThereLike, is_there, tuple_there}
 use Rattle.tc_lists.proofs.Elements.{All-append_right}
 use Rattle.tc_lists.proofs.Firsts.{All-from_NoneOf, NoneOf-from_All}
@@ -98,7 +98,7 @@ code_first index age key (Compound name args) f same is has =
     subst (λ u. Has index (code_like key (Some u)) age) first
     (subst (λ k. Has index (code_like k (Some (first_of args))) age) (sym same) has)
 
-pub like_has : (index : Index) (key : Key) (first : Option Tree) (s : Slot) → (key ≡ Any → ⊥) → IsIndexed index s
+pub like_has : (index : Index) (key : Key) (first : Option Tree) (s : Slot) → (key ≡ Any → ⊥) → HasRow index s.age s.tuple
     → IsLike key first s.tuple → Has index (code_like key first) s.age
 like_has index key first s known indexed (inl any, has) = absurd (known any)
 like_has index key None s known indexed (inr own, has) = subst (λ k. Has index (key_code k) s.age) (sym own) indexed.0
@@ -114,12 +114,12 @@ less_or a b =
 module _ (key : Key) (first : Option Tree) (from at age : ℕ) (ss : List Slot) where
   -- what was passed over up to an age
   pub passed_to : All (λ s. s.age < at → IsThereLike key first from s → ⊥) ss
-      → All (λ s. at ≤ s.age → s.age < age → IsLike key first s.tuple → ⊥) ss
+      → All (λ s. at ≤ s.age → s.age < age → IsThereLike key first at s → ⊥) ss
       → All (λ s. s.age < age → IsThereLike key first from s → ⊥) ss
   passed_to before between k d inside below has =
       elim (less_or (get_or ss k d).age at) [
         | inl less ↦ before k d inside less has
-        | inr up ↦ between k d inside up below has.2
+        | inr up ↦ between k d inside up below (has.0, up, has.2)
       ]
 
   -- and the age itself
@@ -158,6 +158,12 @@ pub is_found : {X : Type 0} (o : Option X) → (o ≡ None → ⊥) → IsSome o
 is_found None some = absurd (some refl)
 is_found (Some x) some = cc
 
+most : (a b m n : ℕ) → m ≡ max a b → a ≤ n → b ≤ n → m ≤ n
+most a b m n is left right = omega (arith, is, left, right)
+
+at_least : (a b m n : ℕ) → m ≡ max a b → m ≤ n → a ≤ n
+at_least a b m n is up = omega (arith, is, up)
+
 module _ (m : BTreeMap ℕ Held) (from : ℕ) (r : List (ℕ × Held)) (range : IsRangeOf nat_cmp (Included from) Unbounded m r) where
   pub none_from : r ≡ [] → All (λ s. from ≤ s.age → ⊥) (slots_of m.entries)
   none_from empty k d inside up =
@@ -174,3 +180,37 @@ module _ (m : BTreeMap ℕ Held) (from : ℕ) (r : List (ℕ × Held)) (range : 
         (range.2 s.age (below_le from s.age up, tt) (is_found _ (slot_found m.entries k d inside))) in
         absurd (omega (arith, below, le_below e.0 s.age least)),
   )
+
+-- rows that are there are not older than the start, so a search may begin there
+module _ (m : BTreeMap ℕ Held) (start from : ℕ) (whole : Bool) (index : Index) (findable : All (IsFindable start whole index) (slots_of m.entries))
+    (r : List (ℕ × Held)) (begin : ℕ) (is : begin ≡ max from start) (range : IsRangeOf nat_cmp (Included begin) Unbounded m r) where
+  pub none_there : r ≡ [] → All (λ s. from ≤ s.age → IsTrue (is_there s) → ⊥) (slots_of m.entries)
+  none_there empty k d inside up there =
+      none_from m begin r range empty k d inside (most from start begin _ is up (findable k d inside there).0)
+
+  pub least_there : (e : ℕ × Held) (rest : List (ℕ × Held)) → r ≡ e ∷ rest
+      → (from ≤ e.0) × All (λ s. from ≤ s.age → s.age < e.0 → IsTrue (is_there s) → ⊥) (slots_of m.entries)
+  least_there e rest split =
+      let least = least_from m begin r range e rest split in (
+        at_least from start begin e.0 is least.0,
+        λ k d inside up below there. least.1 k d inside (most from start begin _ is up (findable k d inside there).0) below,
+      )
+
+module _ (m : BTreeMap ℕ Held) (start : ℕ) (whole : Bool) (index : Index) (findable : All (IsFindable start whole index) (slots_of m.entries))
+    (order : InOrder (slots_of m.entries))
+    (r : List (ℕ × Held)) (range : IsRangeOf nat_cmp (Included start) Unbounded m r) where
+  -- the first row from the start on isn't there, so none up to it is
+  pub gone_to : (e : ℕ × Held) (rest : List (ℕ × Held)) → r ≡ e ∷ rest → (e.1.taken ≡ 0 → ⊥)
+      → All (λ s. s.age ≤ e.0 → IsTrue (is_there s) → ⊥) (slots_of m.entries)
+  gone_to e rest split gone k d inside up there =
+      let s = get_or (slots_of m.entries) k d in
+      let least = least_from m start r range e rest split in
+      elim (less_or s.age e.0) [
+        | inl less ↦ least.1 k d inside (findable k d inside there).0 less
+        | inr above ↦
+            let same : s.age ≡ e.0 = omega (arith, up, above) in
+            let found : lookup (is_at (nat_cmp e.0)) m.entries ≡ Some e.1 =
+            (subst (λ xs. IfSome (slice_get xs 0) (IsEntryInRange nat_cmp (Included start) Unbounded m)) split range.1).1 in
+            let is : s ≡ slot_of (s.age, e.1) = lookup_all e.0 m.entries e.1 order found k d inside same in
+            gone (eqb-true e.1.taken 0 (sym (ap is_there is) ∙ there))
+      ]

@@ -17,7 +17,7 @@ pub enum PutFault {
 
 /// Tuples, oldest first, each with its age; and marks to which the bag goes back.
 ///
-/// A mark copies nothing: a row that is taken after it stays where it was, and is passed over.
+/// A mark copies nothing: a row that is taken after it stays where it was, out of the index.
 #[derive(Drop)]
 pub struct Bag {
     rows: Rows,
@@ -186,11 +186,13 @@ impl Bag {
         }
     }
 
-    /// Sets a mark. It takes memory for two numbers, however many tuples there are.
+    /// Sets a mark. It takes memory for two numbers, however many tuples there are; only after an
+    /// `undo` for which memory ended also for the index, and then the time of all tuples.
     pub fn mark(&mut self) -> Result<(), NoMemory>
         ensures marked { OnOk result (self.new ≡ marked self.old) }
         ensures same { OnErr result (self.new ≡ self.old) }
     {
+        self.rows.mend()?;
         self.marks.push(Mark {
             next: self.next,
             taken: self.log.len(),
@@ -198,10 +200,11 @@ impl Bag {
         Ok(())
     }
 
-    /// Goes back to the latest mark, and removes it. No memory is taken.
+    /// Goes back to the latest mark, and removes it.
     ///
     /// The next age is again that at the mark. Takes O(log tuples) time for each tuple that was put
-    /// or taken since.
+    /// or taken since. Each tuple that comes back is entered in the index again; where memory ends,
+    /// searches go through all tuples until the next mark that finds memory.
     pub fn undo(&mut self)
         ensures back { IsBack self.old.saved (saved_of self.new) self.new.saved }
         ensures unmarked { self.old.saved ≡ [] → self.new ≡ self.old }

@@ -1,5 +1,5 @@
 //! Ages by codes.
-ghost use Rattle.std.specs.Prelude.{ℕ, ◌≡◌, ◌≢◌, ◌<◌, ◌≤◌, OnOk, IfSome, IfNone};
+ghost use Rattle.std.specs.Prelude.{ℕ, ◌≡◌, ◌≢◌, ◌<◌, ◌≤◌, IsTrue, OnOk, IfSome, IfNone};
 ghost use Rattle.tc_bag.specs.Ages.{Has, HasRow};
 
 use crate::codes::{first_code, tuple_code};
@@ -59,6 +59,17 @@ impl Index {
         match first_code(term) {
             Some(code) => self.enter(code, age),
             None => Ok(()),
+        }
+    }
+
+    /// Enters a row again, and tells whether the index is whole, where it was so before.
+    pub(crate) fn enter_again(&mut self, whole: bool, age: u64, tuple: &Ground) -> bool
+        ensures entered { IsTrue result → IsTrue whole × HasRow self.new age tuple.now }
+        ensures kept { (c a : ℕ) → Has self.old c a → Has self.new c a }
+    {
+        match self.enter_row(age, tuple) {
+            Ok(()) => whole,
+            Err(_) => false,
         }
     }
 

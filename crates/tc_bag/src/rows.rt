@@ -1,21 +1,30 @@
 //! Rows by age, and an index of their ages.
-use crate::codes::{code_like, first_code, tuple_code};
+ghost use Rattle.std.specs.Prelude.{ℕ, ◌≡◌, map, All, OnOk};
+ghost use Rattle.tc_bag.specs.Slots.{InOrder, with_taken};
+ghost use Rattle.tc_bag.specs.Ages.{Has};
+ghost use Rattle.tc_bag.specs.Held.{slots_of, IsEntered};
+
+use crate::codes::code_like;
 use crate::index::Index;
 use crate::key::{Key, is_like};
 use crate::slots::Held;
 use std::alloc::Global;
 use std::collections::BTreeMap;
 use std::marker::Model;
+use tc_lists::NoMemory;
 use tc_term::{Ground, Term};
 
 /// Rows by age, also those that were taken while a mark may bring them back.
 ///
-/// The index has the age of each row twice: by the code of its key, and by that of its key and
-/// first argument.
+/// No row below the age `start` is there. The index has the age of each row that is there twice: by
+/// the code of its key, and by that of its key and first argument. Where memory ended when a row
+/// came back to it, it isn't `whole`, and searches go through the rows.
 #[derive(Drop)]
 pub(crate) struct Rows {
     held: BTreeMap<u64, Held>,
     index: Index,
+    whole: bool,
+    start: u64,
 }
 
 impl Model for Rows {
@@ -23,7 +32,7 @@ impl Model for Rows {
     ghost use Rattle.std.specs.Coded.{codes};
     ghost use Rattle.tc_term.specs.TreeCode.{coded_tree};
     ghost use Rattle.tc_bag.specs.Slots.{Slot};
-    ghost use Rattle.tc_bag.specs.Held.{slots_of, IsIndexed};
+    ghost use Rattle.tc_bag.specs.Held.{slots_of, IsFindable};
 
     ghost Value = { List Slot };
 
@@ -31,11 +40,11 @@ impl Model for Rows {
 
     ghost view = { λ r. slots_of r.held.entries };
 
-    ghost invariant = { λ r. All (IsIndexed r.index) (slots_of r.held.entries) };
+    ghost invariant = { λ r. All (IsFindable r.start r.whole r.index) (slots_of r.held.entries) };
 }
 
 impl Rows {
-    ghost use Rattle.std.specs.Prelude.{◌≡◌, ◌≢◌, ◌<◌, ◌≤◌, ◌^◌, List, [], ◌∷◌, ◌++◌, length, map, filter, slice_get, is_some, All, OnOk, OnErr, IfErr, IfSome, IfNone, Option, Some};
+    ghost use Rattle.std.specs.Prelude.{◌≡◌, ◌≢◌, ◌<◌, ◌≤◌, ◌^◌, IsTrue, List, [], ◌∷◌, ◌++◌, length, map, filter, slice_get, is_some, All, OnOk, OnErr, IfErr, IfSome, IfNone, Option, Some};
     ghost use Rattle.std.specs.Option.{option_copied, option_map};
     ghost use Rattle.tc_lists.specs.Firsts.{NoneOf, IsFirst};
     ghost use Rattle.tc_term.specs.Tree.{Tree};
@@ -51,6 +60,8 @@ impl Rows {
         Rows {
             held: BTreeMap::new(alloc),
             index: Index::new(alloc),
+            whole: true,
+            start: 0,
         }
     }
 
@@ -140,23 +151,26 @@ impl Rows {
         requires order { InOrder self.now }
         ensures found { IfSome result (λ age. (from ≤ age) × ((first : Option Tree)
             → code ≡ code_like key.now first
-            → All (λ s. from ≤ s.age → s.age < age → IsLike key.now first s.tuple → ⊥) self.now)) }
+            → All (λ s. from ≤ s.age → s.age < age → IsThereLike key.now first from s → ⊥) self.now)) }
         ensures none { IfNone result ((first : Option Tree) → code ≡ code_like key.now first
-            → All (λ s. from ≤ s.age → IsLike key.now first s.tuple → ⊥) self.now) }
+            → All (λ s. from ≤ s.age → IsThereLike key.now first from s → ⊥) self.now) }
     {
+        if !self.whole {
+            return self.oldest_from(from);
+        }
         match key {
             Key::Any => self.oldest_from(from),
             _ => self.index.next(code, from),
         }
     }
 
-    // The least age of a row from `from` on.
+    // The least age of a row from `from` on, with none that is there between them.
     fn oldest_from(&self, from: u64) -> Option<u64>
         ensures found { IfSome result (λ age. (from ≤ age)
-            × All (λ s. from ≤ s.age → s.age < age → ⊥) self.now) }
-        ensures none { IfNone result (All (λ s. from ≤ s.age → ⊥) self.now) }
+            × All (λ s. from ≤ s.age → s.age < age → IsTrue (is_there s) → ⊥) self.now) }
+        ensures none { IfNone result (All (λ s. from ≤ s.age → IsTrue (is_there s) → ⊥) self.now) }
     {
-        let (age, _) = self.held.range(from..).next()?;
+        let (age, _) = self.held.range(from.max(self.start)..).next()?;
         Some(*age)
     }
 
@@ -188,7 +202,10 @@ impl Rows {
             return Err(tuple);
         }
         match self.held.insert(age, Held { tuple, taken: 0 }) {
-            Ok(_) => Ok(()),
+            Ok(_) => {
+                self.start = self.start.min(age);
+                Ok(())
+            }
             Err(failed) => {
                 let (_, held) = failed.value;
                 self.index.leave_row(age, &held.tuple);
@@ -213,8 +230,16 @@ impl Rows {
         ensures { self.new ≡ filter (stays age) self.old }
     {
         if self.get(age).is_none() {
-            self.remove(age);
+            self.forget(age);
         }
+    }
+
+    // Removes the row of this age, but not from the index.
+    fn forget(&mut self, age: u64)
+        requires order { InOrder self.old }
+        ensures { self.new ≡ filter (is_not_of age) self.old }
+    {
+        let _held = self.held.remove(&age);
     }
 
     /// Removes the rows that are not older than this age.
@@ -251,17 +276,77 @@ impl Rows {
         }
     }
 
+    /// Has each row that is there in the index, where memory had ended for one.
+    pub(crate) fn mend(&mut self) -> Result<(), NoMemory>
+        ensures { self.new ≡ self.old }
+    {
+        if !self.whole {
+            enter_all(&mut self.index, &self.held)?;
+            self.whole = true;
+        }
+        Ok(())
+    }
+
     /// Notes of the row of this age, where it is there, that it is so manieth to be taken.
     pub(crate) fn take(&mut self, age: u64, n: usize) -> bool
         requires order { InOrder self.old }
+        requires counted { 0 < n }
         ensures taken { self.new ≡ map (taken_at age n) self.old }
         ensures told { result ≡ is_some (tuple_there age self.old) }
     {
         let there = self.get(age).is_some();
         if there {
-            self.set_taken(age, n);
+            self.set_gone(age, n);
+            self.skip_gone();
         }
         there
+    }
+
+    // Notes of the row of this age that it is so manieth to be taken. The index has it no more.
+    fn set_gone(&mut self, age: u64, n: usize)
+        requires order { InOrder self.old }
+        requires counted { 0 < n }
+        ensures { self.new ≡ map (with_taken age n) self.old }
+    {
+        if let Some(held) = self.held.get(&age) {
+            self.index.leave_row(age, &held.tuple);
+        }
+        set_taken(&mut self.held, age, n);
+    }
+
+    // Lets the start pass over rows that aren't there.
+    fn skip_gone(&mut self)
+        requires order { InOrder self.old }
+        ensures { self.new ≡ self.old }
+    {
+        for _ in 0..self.held.len() {
+            if !self.skip_one() {
+                return;
+            }
+        }
+    }
+
+    // Lets the start pass over a row, unless it is there.
+    fn skip_one(&mut self) -> bool
+        requires order { InOrder self.old }
+        ensures { self.new ≡ self.old }
+    {
+        match self.first_gone() {
+            Some(age) => {
+                self.start = age.saturating_add(1);
+                true
+            }
+            None => false,
+        }
+    }
+
+    // The age of the first row from the start on, unless it is there.
+    fn first_gone(&self) -> Option<u64>
+        requires order { InOrder self.now }
+        ensures { IfSome result (λ age. All (λ s. s.age ≤ age → IsTrue (is_there s) → ⊥) self.now) }
+    {
+        let (age, held) = self.held.range(self.start..).next()?;
+        if held.taken == 0 { None } else { Some(*age) }
     }
 
     /// Has the row of this age there again, where more than so many were taken up to it.
@@ -270,7 +355,7 @@ impl Rows {
         ensures { self.new ≡ map (revived_at age n) self.old }
     {
         if self.taken(age) > n {
-            self.set_taken(age, 0);
+            self.set_there(age);
         }
     }
 
@@ -285,13 +370,38 @@ impl Rows {
         }
     }
 
-    // Notes of the row of this age that it is so manieth to be taken.
-    fn set_taken(&mut self, age: u64, n: usize)
+    // Has the row of this age there. The index has it again, where memory lasts.
+    fn set_there(&mut self, age: u64)
         requires order { InOrder self.old }
-        ensures { self.new ≡ map (with_taken age n) self.old }
+        ensures { self.new ≡ map (with_taken age 0) self.old }
     {
-        if let Some(held) = self.held.get_mut(&age) {
-            held.taken = n;
+        if let Some(held) = self.held.get(&age) {
+            self.whole = self.index.enter_again(self.whole, age, &held.tuple);
+            self.start = self.start.min(age);
+        }
+        set_taken(&mut self.held, age, 0);
+    }
+}
+
+// Notes of the row of this age that it is so manieth to be taken, or with 0 that it is there.
+fn set_taken(held: &mut BTreeMap<u64, Held>, age: u64, n: usize)
+    requires order { InOrder (slots_of held.old.entries) }
+    ensures { slots_of held.new.entries ≡ map (with_taken age n) (slots_of held.old.entries) }
+{
+    if let Some(row) = held.get_mut(&age) {
+        row.taken = n;
+    }
+}
+
+// Enters each row that is there.
+fn enter_all(index: &mut Index, held: &BTreeMap<u64, Held>) -> Result<(), NoMemory>
+    ensures entered { OnOk result (All (IsEntered index.new) (slots_of held.now.entries)) }
+    ensures kept { (c a : ℕ) → Has index.old c a → Has index.new c a }
+{
+    for (age, row) in held {
+        if row.taken == 0 {
+            index.enter_row(*age, &row.tuple)?;
         }
     }
+    Ok(())
 }

@@ -22,12 +22,14 @@ marks c =
 pub invariant_of-self-2 : goal.invariant_of-self-2
 invariant_of-self-2 c =
     let b = c.self.inside in
-    subst (IsSound b.rows b.next b.log.items (vec_capacity b.log)) (sym (marks c))
-    (sound-marked b.rows b.next b.log.items (vec_capacity b.log) b.marks.items c.self.invariant)
+    subst (λ rows. IsSound rows b.next b.log.items (vec_capacity b.log) c.push.new.self.items) (sym c.mend.ensures)
+    (subst (IsSound b.rows b.next b.log.items (vec_capacity b.log)) (sym (marks c))
+    (sound-marked b.rows b.next b.log.items (vec_capacity b.log) b.marks.items c.self.invariant))
 
 pub returns-clause-marked : goal.returns-clause-marked
 returns-clause-marked c =
     let b = c.self.inside in
-    ap (stock_of b.rows b.next) (marks c)
+    ap (λ rows. stock_of rows b.next c.push.new.self.items) c.mend.ensures
+    ∙ ap (stock_of b.rows b.next) (marks c)
     ∙ stock-marked b.rows b.next b.log.items (vec_capacity b.log) b.marks.items c.self.invariant
     ∙ ap marked c.self.view_is

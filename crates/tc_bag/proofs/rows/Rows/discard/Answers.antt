@@ -7,7 +7,7 @@ pub returns-then-is_none : goal.returns-then-is_none
 returns-then-is_none c =
     let told : is_some (tuple_there c.args.age c.args.self.now) ≡ false =
     ap is_some (sym c.get.ensures) ∙ some-map (λ t. t.now) c.get.result ∙ c.if-is_none.ensures in
-    c.remove.ensures ∙ filter-discarded c.args.age c.args.self.now c.requires.order told
+    c.forget.ensures ∙ filter-discarded c.args.age c.args.self.now c.requires.order told
 
 pub returns-else-is_none : goal.returns-else-is_none
 returns-else-is_none c =

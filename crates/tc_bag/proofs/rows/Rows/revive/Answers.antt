@@ -4,7 +4,7 @@ use Rattle.tc_bag.proofs.rows.Rows.revive.Goals as goal
 
 pub returns-then-taken-n : goal.returns-then-taken-n
 returns-then-taken-n c =
-    c.set_taken.ensures ∙ map-revived c.args.age c.args.n c.taken.result c.args.self.now c.if-taken-n.true c.taken.ensures
+    c.set_there.ensures ∙ map-revived c.args.age c.args.n c.taken.result c.args.self.now c.if-taken-n.true c.taken.ensures
 
 pub returns-else-taken-n : goal.returns-else-taken-n
 returns-else-taken-n c =

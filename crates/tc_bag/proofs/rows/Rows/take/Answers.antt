@@ -1,13 +1,21 @@
-use Rattle.std.proofs.Common.{◌≡◌, true, false, is_some, ap, sym, ◌∙◌}
-use Rattle.tc_bag.specs.Slots.{tuple_there}
+use Rattle.std.proofs.Common.{◌≡◌, true, false, is_some, refl, subst, ap, sym, ◌∙◌}
+use Rattle.tc_bag.specs.Slots.{InOrder, tuple_there, with_taken}
 use Rattle.tc_bag.proofs.Entries.{map-taken, map-not_taken, some-map}
+use Rattle.tc_bag.proofs.Logged.{InOrder-map}
 use Rattle.tc_bag.proofs.rows.Rows.take.Goals as goal
+
+pub skip_gone-requires : goal.skip_gone-requires
+skip_gone-requires c = record {
+  order =
+      subst InOrder (sym c.set_gone.ensures)
+      (InOrder-map (with_taken c.args.age c.args.n) c.args.self.now (λ s. refl) c.requires.order);
+}
 
 pub returns-then-there-clause-taken : goal.returns-then-there-clause-taken
 returns-then-there-clause-taken c =
     let told : is_some (tuple_there c.args.age c.args.self.now) ≡ true =
     ap is_some (sym c.get.ensures) ∙ some-map (λ t. t.now) c.get.result ∙ sym c.if-there.ensures in
-    c.set_taken.ensures ∙ map-taken c.args.age c.args.n c.args.self.now c.requires.order told
+    c.skip_gone.ensures ∙ c.set_gone.ensures ∙ map-taken c.args.age c.args.n c.args.self.now c.requires.order told
 
 pub returns-else-there-clause-taken : goal.returns-else-there-clause-taken
 returns-else-there-clause-taken c =
