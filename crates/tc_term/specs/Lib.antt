@@ -17,4 +17,5 @@ pub mod Grammar
 pub mod Faults
 pub mod Readable
 pub mod NameBytes
+pub mod Letters
 pub mod Arithmetic

@@ -1,5 +1,5 @@
 //! Names of atoms and compounds.
-ghost use Rattle.std.specs.Prelude.{◌≡◌, IfOk};
+ghost use Rattle.std.specs.Prelude.{◌≡◌, ◌≤◌, IfOk, length};
 
 use std::alloc::Global;
 use std::cmp::Ordering;
@@ -7,10 +7,20 @@ use std::hash::{Hash, Hasher};
 use std::marker::Model;
 use tc_lists::NoMemory;
 
-/// A list of bytes, of any length and in any encoding.
+/// The most bytes of a name for which no memory is taken.
+const SHORT: usize = 16;
+
+/// A list of bytes, of any length and in any encoding. Up to 16 lie in the name itself.
 #[derive(Debug, Drop)]
 pub struct Name {
-    bytes: Vec<u8>,
+    letters: Letters,
+}
+
+// Where the bytes lie: in the first places of so many, or in memory of their own.
+#[derive(Debug, Drop)]
+enum Letters {
+    Short(usize, [u8; SHORT]),
+    Long(Vec<u8>),
 }
 
 impl Model for Name {
@@ -18,16 +28,23 @@ impl Model for Name {
 
     ghost Value = { List ℕ };
 
-    ghost view = { λ n. n.bytes.items };
+    ghost use Rattle.tc_term.specs.Letters.{bytes_of, HasPlaces};
+
+    ghost view = { λ n. bytes_of n.letters };
+
+    ghost invariant = { λ n. HasPlaces n.letters };
 }
 
 impl Name {
-    /// The name of these bytes, which are copied.
+    /// The name of these bytes, which are copied. Up to 16 take no memory.
     pub fn new(alloc: Global, bytes: &[u8]) -> Result<Name, NoMemory>
         ensures { IfOk result (λ name. name ≡ bytes.now) }
     {
+        if bytes.len() <= SHORT {
+            return Ok(Name::short(bytes));
+        }
         Ok(Name {
-            bytes: Vec::from_slice(alloc, bytes)?,
+            letters: Letters::Long(Vec::from_slice(alloc, bytes)?),
         })
     }
 
@@ -35,21 +52,48 @@ impl Name {
     pub fn from_vec(bytes: Vec<u8>) -> Name
         ensures { result ≡ bytes.items }
     {
-        Name { bytes }
+        if bytes.len() <= SHORT {
+            return Name::short(&bytes);
+        }
+        Name {
+            letters: Letters::Long(bytes),
+        }
+    }
+
+    // The name of so few bytes.
+    fn short(bytes: &[u8]) -> Name
+        requires { length bytes.now ≤ 16 }
+        ensures { result ≡ bytes.now }
+    {
+        let mut places = [0; SHORT];
+        places[..bytes.len()].copy_from_slice(bytes);
+        Name {
+            letters: Letters::Short(bytes.len(), places),
+        }
     }
 
     /// Its bytes, of any value.
     pub fn bytes(&self) -> &[u8]
         ensures { result.now ≡ self.now }
     {
-        &self.bytes
+        match &self.letters {
+            Letters::Short(count, places) => &places[..*count],
+            Letters::Long(bytes) => bytes,
+        }
     }
 
     /// Another name of the same bytes.
     pub fn copy(&self, alloc: Global) -> Result<Name, NoMemory>
         ensures { IfOk result (λ name. name ≡ self.now) }
     {
-        Name::new(alloc, self.bytes())
+        match &self.letters {
+            Letters::Short(count, places) => Ok(Name {
+                letters: Letters::Short(*count, *places),
+            }),
+            Letters::Long(bytes) => Ok(Name {
+                letters: Letters::Long(Vec::from_slice(alloc, bytes)?),
+            }),
+        }
     }
 }
 

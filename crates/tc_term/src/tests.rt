@@ -132,3 +132,21 @@ fn names_are_compared_by_bytes(rt: HostRuntime) -> Result<(), Fail> {
     assert!(rt; name < above);
     Ok(())
 }
+
+#[test]
+fn names_of_any_length_have_their_bytes(rt: HostRuntime) -> Result<(), Fail> {
+    let alloc = rt.alloc();
+    let letters = b"abcdefghijklmnopqrstuvwxyz";
+    for length in [0usize, 1, 15, 16, 17, 26] {
+        let bytes = &letters[..length.min(letters.len())];
+        let name = Name::new(alloc, bytes)?;
+        assert!(rt; name.bytes() == bytes, "{length} bytes");
+        assert!(rt; name.copy(alloc)? == name, "{length} bytes");
+        assert!(rt;
+            Name::from_vec(bytes.to_vec(alloc)?) == name,
+            "{length} bytes"
+        );
+    }
+    assert!(rt; Name::new(alloc, &letters[..16])? < Name::new(alloc, letters)?);
+    Ok(())
+}
