@@ -1,6 +1,6 @@
 -- Tests, and what they tell.
-use Rattle.std.proofs.Common.{◌≡◌, ℕ, zero, suc, ◌==◌, ◌<◌, ◌&&◌, Bool, true, false, List, ◌∷◌, length, bytes_eq, refl, arith}
-use Rattle.std.proofs.lemmas.Bool.{ne_eqb, false_from_ne_true}
+use Rattle.std.proofs.Common.{◌≡◌, ◌≢◌, ℕ, zero, suc, ◌==◌, ◌<◌, ◌&&◌, Bool, true, false, List, ◌∷◌, length, bytes_eq, refl, arith}
+use Rattle.std.proofs.lemmas.Bool.{ne_eqb, both_ways, false_from_ne_true}
 use Rattle.std.proofs.lemmas.Slice.Eq.{bytes_eq-Decides}
 
 -- both of two tests are passed
@@ -20,3 +20,6 @@ some_from_test (suc n) none is fails = omega arith
 -- texts that differ
 pub bytes_eq-apart : (xs ys : List ℕ) → (xs ≡ ys → ⊥) → bytes_eq xs ys ≡ false
 bytes_eq-apart xs ys apart = false_from_ne_true (bytes_eq xs ys) (λ same. apart ((bytes_eq-Decides xs ys).0 same))
+
+pub bytes_eq-false : (xs ys : List ℕ) → bytes_eq xs ys ≡ false → xs ≢ ys
+bytes_eq-false xs ys other same = both_ways (bytes_eq xs ys) other ((bytes_eq-Decides xs ys).1 same)

@@ -1,9 +1,10 @@
 -- What holds of each element: of parts of a list, and of a list turned round, mapped or shortened.
-use Rattle.std.proofs.Common.{◌≡◌, ℕ, suc, ◌+◌, ◌<◌, ◌≤◌, List, [], ◌∷◌, ◌++◌, All, Some, length, get_or, take, drop, map, remove, reverse, length-take, length-drop, get_or-take, get_or-drop, take_all, sym, subst, refl, arith}
+use Rattle.std.proofs.Common.{◌≡◌, ℕ, suc, ◌+◌, ◌<◌, ◌≤◌, List, [], ◌∷◌, ◌++◌, All, Some, length, get_or, slice_get, take, drop, map, remove, reverse, length-take, length-drop, get_or-take, get_or-drop, take_all, sym, subst, refl, arith}
 use Rattle.std.specs.List.{AllWithin}
 use Rattle.std.proofs.Math.Seq.{take-append_seam, drop-append_seam}
 use Rattle.std.proofs.lemmas.List.{reverse-append}
 use Rattle.std.proofs.lemmas.List.Elements.{All-nil, All-cons, All-head, All-tail, All-append, All-push, All-pop, All-take, All-drop}
+use Rattle.std.proofs.lemmas.Option.{slice_get_within, get_or_from_slice_get}
 use Rattle.tc_lists.proofs.Parts.{take_read}
 
 module _ {X : Type 0} (P : X → Type 0) where
@@ -15,6 +16,11 @@ module _ {X : Type 0} (P : X → Type 0) where
 
   pub All-last : (xs : List X) (x : X) → All P (xs ++ x ∷ []) → P x
   All-last xs x all = (All-pop P (xs ++ x ∷ []) xs (Some x) refl all).1
+
+  -- what stands at a place
+  pub All-slice_get : (xs : List X) (i : ℕ) (x : X) → All P xs → slice_get xs i ≡ Some x → P x
+  All-slice_get xs i x all at =
+      subst P (get_or_from_slice_get xs i x x at) (all i x (slice_get_within xs i x at))
 
   -- one more element, once it was read; and when all are read
   pub All-take_read : (xs : List X) (i : ℕ) (x : X) → i < length xs → x ≡ get_or xs i x

@@ -1,11 +1,11 @@
 -- What holds of all pairs of a list, and what a removal leaves.
 use Rattle.std.proofs.Common.{◌≡◌, ◌≢◌, ◌⊎◌, ⊎_elim, ℕ, suc, ◌+◌, ◌-◌, ◌<◌, ◌≤◌, Bool, true, false, cond, Some}
-use Rattle.std.proofs.Common.{List, [], ◌∷◌, ◌++◌, All, AllPairs, Contains, length, get_or, slice_get, take, remove, take_all}
+use Rattle.std.proofs.Common.{List, [], ◌∷◌, ◌++◌, All, AllPairs, Contains, length, get_or, slice_get, take, remove, take_all, length-take, get_or-take}
 use Rattle.std.proofs.Common.{refl, sym, ap, ◌∙◌, subst, append-nil, arith}
 use Rattle.std.proofs.lemmas.Bool.{cases_lt, cases_order}
 use Rattle.std.proofs.lemmas.List.Edits.{length-remove, get_or-remove_below, get_or-remove_above}
 use Rattle.std.proofs.lemmas.List.Quantifiers.{all_pairs_push}
-use Rattle.std.proofs.lemmas.Option.{slice_get_within, get_or_from_slice_get}
+use Rattle.std.proofs.lemmas.Option.{slice_get_within, slice_get-get_or, get_or_from_slice_get}
 use Rattle.tc_lists.proofs.Parts.{take_read}
 
 -- what holds of all pairs of a list holds of those behind its first element
@@ -27,6 +27,15 @@ AllPairs-take_read R xs i x inside at pairs before =
 pub AllPairs-from_take : {X : Type 0} (R : X → X → Type 0) (xs : List X) (i : ℕ) → length xs ≤ i
     → AllPairs R (take i xs) → AllPairs R xs
 AllPairs-from_take R xs i past pairs = subst (AllPairs R) (take_all i xs past) pairs
+
+-- what holds of all pairs holds of each element before a place and the one there
+pub AllPairs-before : {X : Type 0} (R : X → X → Type 0) (xs : List X) (n : ℕ) (x : X) → n < length xs
+    → x ≡ get_or xs n x → AllPairs R xs → All (λ y. R y x) (take n xs)
+AllPairs-before R xs n x inside at pairs k d within =
+    let there : slice_get xs n ≡ Some x = slice_get-get_or xs n x inside ∙ ap Some (sym at) in
+    let below : k < n = omega (arith, within, length-take n xs) in
+    subst (λ y. R y x) (sym (get_or-take n xs k d below))
+    (subst (R (get_or xs k d)) (get_or_from_slice_get xs n x d there) (pairs k n d below inside))
 
 -- where a relation that holds both ways holds of all pairs, what is removed has it to all that is left
 pub AllPairs-removed : {X : Type 0} (R : X → X → Type 0) (xs : List X) (n : ℕ) (x : X) → ((y z : X) → R y z → R z y)

@@ -7,7 +7,6 @@ pub mod Waiting
 pub mod NextEntry
 pub mod WaitingCalls
 pub mod Rules
-pub mod Names
 pub mod TypedStates
 pub mod TypedRuns
 pub mod Removals

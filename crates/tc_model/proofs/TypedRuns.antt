@@ -2,7 +2,8 @@
 use Rattle.std.proofs.Common.{◌≡◌, ℕ, Some, None, IfSome, if◌then◌else◌, true, false, List, [], ◌∷◌, ◌++◌, All, slice_get, take}
 use Rattle.std.proofs.Common.{sym, subst, arith}
 use Rattle.std.proofs.lemmas.List.Elements.{All-nil, All-cons, All-head, All-tail, All-push, All-take, All-contains}
-use Rattle.std.proofs.lemmas.Option.{slice_get_within, get_or_from_slice_get}
+use Rattle.std.proofs.lemmas.Option.{slice_get_within}
+use Rattle.tc_lists.proofs.Elements.{All-slice_get}
 use Rattle.tc_lists.proofs.Firsts.{IsFirst-contains}
 use Rattle.tc_lists.specs.Firsts.{IsFirst}
 use Rattle.tc_term.specs.Tree.{Tree, IsTuple}
@@ -119,11 +120,6 @@ leads-typed scene (g ∷ gs) m end within leads typed =
 begins-typed : (r : Rule) (e : Occurrence) (tuples : List Tree) → All IsTuple tuples → IsTypedMoment (beginning r e tuples)
 begins-typed r e tuples all = record { tuples = all; effects = All-nil IsTypedEffect }
 
--- what stands at a place has what all have
-at-place : {X : Type 0} (P : X → Type 0) (xs : List X) (place : ℕ) (x : X) → All P xs → slice_get xs place ≡ Some x → P x
-at-place P xs place x all at =
-    subst P (get_or_from_slice_get xs place x x at) (all place x (slice_get_within xs place x at))
-
 module _ (setting : Setting) (clauses : List Rule) (are : AreClauses clauses) where
   -- a clause's number has 32 bits
   number-typed : (number : ℕ) (r : Rule) → IsClause clauses number r → Is32 number
@@ -134,7 +130,7 @@ module _ (setting : Setting) (clauses : List Rule) (are : AreClauses clauses) wh
   tried-typed : (w : Wave) (item : Item) (next : Wave) → IsTried TheFirst clauses setting w item next
       → All IsTuple w.tuples → IsTypedItem item
   tried-typed w (Fired pick clause effects) next h all =
-      let rule : IsRule h.rule = at-place IsRule clauses h.stands.place h.rule are.rules h.stands.stands in
+      let rule : IsRule h.rule = All-slice_get IsRule clauses h.stands.place h.rule are.rules h.stands.stands in
       let ended = leads-typed (scene_of h.rule h.member.event setting) h.rule.goals
       (beginning h.rule h.member.event w.tuples) h.body.end (rule_goals h.rule rule) h.body.leads
       (begins-typed h.rule h.member.event w.tuples all) in (
@@ -143,7 +139,7 @@ module _ (setting : Setting) (clauses : List Rule) (are : AreClauses clauses) wh
         subst (All IsTypedEffect) h.body.recorded ended.effects,
       )
   tried-typed w (Failed pick clause number effects) next h all =
-      let rule : IsRule h.rule = at-place IsRule clauses h.stands.place h.rule are.rules h.stands.stands in
+      let rule : IsRule h.rule = All-slice_get IsRule clauses h.stands.place h.rule are.rules h.stands.stands in
       let goals : List Goal = h.rule.goals in
       let within = slice_get_within goals h.body.place h.body.goal h.body.stands in
       let Within : Goal → Type 0 = λ g. All (HasVarsBelow h.rule.vars) (terms_of g) in

@@ -24,14 +24,18 @@ beginning r e tuples = record {
 
 -- every goal has done its step, with these effects; a rule has a goal, whose step says that head and
 -- event can be made equal
-pub record IsFired (choice : Choice) (r : Rule) (e : Occurrence) (setting : Setting) (tuples : List Tree) (effects : List Effect) : Type 0 where
+pub record IsFired
+    (choice : Choice) (r : Rule) (e : Occurrence) (setting : Setting) (tuples : List Tree)
+    (effects : List Effect) : Type 0 where
   pub end : Moment
   pub leads : Leads choice (scene_of r e setting) r.goals (beginning r e tuples) end
   pub recorded : end.effects ≡ effects
 
 -- the goals before the one of this number have done their steps, with these effects, and it can do
 -- none; goals count from 1
-pub record IsFailed (choice : Choice) (r : Rule) (e : Occurrence) (setting : Setting) (tuples : List Tree) (number : ℕ) (effects : List Effect) : Type 0 where
+pub record IsFailed
+    (choice : Choice) (r : Rule) (e : Occurrence) (setting : Setting) (tuples : List Tree) (number : ℕ)
+    (effects : List Effect) : Type 0 where
   pub place : ℕ
   pub at : number ≡ place + 1
   pub goal : Goal

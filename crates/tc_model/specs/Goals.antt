@@ -79,9 +79,11 @@ module _ (choice : Choice) (scene : Scene) where
   abbrev pub Does : Goal → Moment → Move → Type 0
   Does (OutR t) m move = (v : Tree) × IsValue scene m (tree_of t) v × (move ≡ Puts v)
   Does (InR t) m move =
-      (u : Tree) × IsChosen choice (IsMatchAt scene m (tree_of t)) m.tuples u × (move ≡ Takes (tree_of t) u)
+      (u : Tree) × IsChosen choice (IsMatchAt scene m (tree_of t)) m.tuples u
+      × (move ≡ Takes (tree_of t) u)
   Does (RdR t) m move =
-      (u : Tree) × IsChosen choice (IsMatchAt scene m (tree_of t)) m.tuples u × (move ≡ Reads (tree_of t) u)
+      (u : Tree) × IsChosen choice (IsMatchAt scene m (tree_of t)) m.tuples u
+      × (move ≡ Reads (tree_of t) u)
   Does (NoR t) m move = NoneOf (IsMatchAt scene m (tree_of t)) m.tuples × (move ≡ Nothing)
   Does Pre m move = (scene.event.phase ≡ phase.Pre) × (move ≡ Nothing)
   Does Post m move = (scene.event.phase ≡ phase.Post) × (move ≡ Nothing)

@@ -30,7 +30,9 @@ abbrev pub earlier : CallId → ℕ → CallId
 earlier id asked = record { agent = id.agent; number = asked }
 
 -- a request that may be chosen is answered
-pub record IsAnswered (choice : Choice) (origin : Origin) (s : State) (id : CallId) (result : Outcome) (items : List Item) : Type 0 where
+pub record IsAnswered
+    (choice : Choice) (origin : Origin) (s : State) (id : CallId) (result : Outcome) (items : List Item)
+    : Type 0 where
   pub request : Request
   pub chosen : IsChosen choice (IsAnswerable s.tuples) s.pending request
   pub asked : request.id ≡ id

@@ -22,7 +22,7 @@ use Rattle.tc_read.specs.Budget.{numbered, paid, spent, spent_all, then_in}
 use Rattle.tc_read.specs.Canonical.{EndsTerm}
 use Rattle.tc_read.specs.Front.{argument, arguments, atom, barred, before, called, cell, cell_of, compound, element, is_barred, is_cell, leaf, list, name_at, named, named_or_number, nil, node, number, quoted_at, reads, tail, unplain, variable, word_at}
 use Rattle.tc_read.specs.declared.budget.Budget.{Budget}
-use Rattle.std.proofs.lemmas.Bool.{eqb-true, ne_eqb}
+use Rattle.std.proofs.lemmas.Bool.{eqb-true, lt-ltb, ne_eqb}
 use Rattle.tc_lists.proofs.Bools.{and_parts}
 
 -- no word byte stands here
@@ -138,9 +138,6 @@ all_words (b ∷ name) rest all apart =
 pub lower_no_quote : (b : ℕ) → is_ascii_lowercase b ≡ true → (b == 39) ≡ false
 lower_no_quote b e = grind (arith, nat_tests)
 
-pub some_test : (n : ℕ) → 0 < n → nat_lt 0 n ≡ true
-some_test n e = grind (arith, nat_tests)
-
 word_at-again : (limit : ℕ) (name rest : List ℕ) → length name ≤ limit → prefix_len is_word (name ++ rest) ≡ length name →
     Some (word_at limit (name ++ rest)) ≡ Some (name, rest)
 word_at-again limit name rest enough long =
@@ -158,7 +155,7 @@ name_at-plain limit (b ∷ s) rest plain enough apart =
     let from = b ∷ (s ++ rest) in
     ap (λ p. if p then unplain (quoted_at (s ++ rest)) else (if is_name_start b && nat_lt 0 limit then Some (word_at limit from) else None)) (lower_no_quote b both.0)
     ∙ ap (λ p. if p && nat_lt 0 limit then Some (word_at limit from) else None) both.0
-    ∙ ap (λ p. if true && p then Some (word_at limit from) else None) (some_test limit (omega (arith, enough)))
+    ∙ ap (λ p. if true && p then Some (word_at limit from) else None) (lt-ltb 0 limit (omega (arith, enough)))
     ∙ word_at-again limit (b ∷ s) rest enough long
   where
     lower_word : (b : ℕ) → is_ascii_lowercase b ≡ true → is_word b ≡ true

@@ -4,7 +4,7 @@ use Rattle.tc_term.specs.Bytes.{is_word, is_name_start}
 use Rattle.tc_term.specs.Tree.{HasIntegers}
 use Rattle.std.proofs.lemmas.Fmt.{decimal_digit}
 use Rattle.std.proofs.lemmas.Bool.Decides.{nat_tests}
-use Rattle.std.proofs.lemmas.Bool.{false_from_ne_true}
+use Rattle.std.proofs.lemmas.Bool.{cond_both, false_from_ne_true}
 use Rattle.std.proofs.lemmas.Slice.Eq.{bytes_eq-Decides}
 use Rattle.std.specs.Char.{is_ascii_lowercase}
 use Rattle.std.specs.Fmt.{decimal, signed_decimal}
@@ -22,7 +22,7 @@ use Rattle.tc_term.proofs.Numbered.{renumbered-pattern}
 use Rattle.tc_read.proofs.Again.{Ends-stops, again, atom-again, lower_no_quote, name_at-quoted, node-integer, node-named, reads-alone-again, variable-again}
 use Rattle.tc_read.proofs.Words.{is_name-word_at}
 use Rattle.tc_read.proofs.Spent.{first-variable, pattern-spent, some-paid, spent-pattern}
-use Rattle.tc_read.proofs.Taken.{IsTook, IsTookAll, arguments-took, head-took, if_by, name_at-took, plain_text, quoted_text, reads-took}
+use Rattle.tc_read.proofs.Taken.{IsTook, IsTookAll, arguments-took, head-took, name_at-took, plain_text, quoted_text, reads-took}
 use Rattle.tc_read.proofs.Texts.{text_in-Atomic, text_in-Number, text_in-nil}
 use Rattle.tc_read.specs.Budget.{paid, then_in, whole}
 use Rattle.tc_read.specs.Canonical.{EndsTerm, IsCanonicalAt, IsLongestCanonicalAt}
@@ -66,7 +66,7 @@ Shorter s (Some (t, left, rest)) = length rest ≤ length s
 compound-shorter : (d : ℕ) (budget : Budget) (name s : List ℕ) (found : Read Trees) → IsTookAll d budget s found → Shorter s (compound name found)
 compound-shorter d budget name s None took = tt
 compound-shorter d budget name s (Some (args, left, rest)) took =
-    if_by (Shorter s) (is_cell name args) None (Some (Compound name args, left, rest)) (λ cell. tt)
+    cond_both (is_cell name args) None (Some (Compound name args, left, rest)) (Shorter s) (λ cell. tt)
     (λ other. omega (arith, ap length took.text, length-append (texts_of args) (41 ∷ rest)))
 
 called-shorter : (d : ℕ) (budget : Budget) (name s : List ℕ) → Shorter s (called (reads d) name budget s)
@@ -78,7 +78,7 @@ called-shorter d budget name s = by (paid (length name) budget)
 
 atom-shorter : (budget : Budget) (name rest : List ℕ) → Shorter rest (atom name budget rest)
 atom-shorter budget name rest =
-    if_by (Shorter rest) (is_nil name) None (leaf (paid (length name) budget) (Atomic name) rest) (λ nil. tt) (λ other. by (paid (length name) budget))
+    cond_both (is_nil name) None (leaf (paid (length name) budget) (Atomic name) rest) (Shorter rest) (λ nil. tt) (λ other. by (paid (length name) budget))
   where
     by : (o : Option Budget) → Shorter rest (leaf o (Atomic name) rest)
     by None = tt
@@ -91,7 +91,7 @@ longer-shorter b s (Some (t, left, rest)) short = omega (arith, short)
 named-shorter : (d : ℕ) (budget : Budget) (name rest : List ℕ) → Shorter rest (named (reads d) budget name rest)
 named-shorter d budget name [] = atom-shorter budget name []
 named-shorter d budget name (b ∷ s) =
-    if_by (Shorter (b ∷ s)) (b == 40) (called (reads d) name budget s) (atom name budget (b ∷ s))
+    cond_both (b == 40) (called (reads d) name budget s) (atom name budget (b ∷ s)) (Shorter (b ∷ s))
     (λ bracket. longer-shorter b s (called (reads d) name budget s) (called-shorter d budget name s))
     (λ other. atom-shorter budget name (b ∷ s))
 

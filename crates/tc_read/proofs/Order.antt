@@ -1,6 +1,7 @@
 use Rattle.std.proofs.Common.{◌≡◌, ℕ, zero, suc, ◌+◌, ◌<◌, ◌≤◌, Bool, true, false, ◌==◌, if◌then◌else◌, nat_le, List, [], ◌∷◌, ◌++◌, length, Option, Some, None, refl, sym, ◌∙◌, ap, arith}
 use Rattle.std.specs.List.{range_with_len, position}
 use Rattle.std.specs.Str.{bytes_eq}
+use Rattle.std.proofs.lemmas.Bool.{eq-eqb, ne_eqb}
 use Rattle.std.proofs.lemmas.Bool.Decides.{nat_tests}
 use Rattle.std.proofs.lemmas.List.{length-append}
 use Rattle.std.proofs.lemmas.List.FromFn.{length-range_with_len}
@@ -95,24 +96,20 @@ place_beyond a (suc k) (suc n) h = by (a == a + suc n) refl (place_beyond (a + 1
     by true e ih = absurd (grind (arith, nat_tests))
     by false e ih = let same : a + suc n ≡ a + 1 + n = omega arith in omega (arith, ih, ap (place_in (range_with_len (a + 1) k)) same)
 
-test_other : (m n k l : ℕ) → m ≡ n → l ≡ k → n < k → (m == l) ≡ false
-test_other m n k l e f h = grind (arith, nat_tests)
-
-test_same : (m k l : ℕ) → m ≡ k → l ≡ k → (m == l) ≡ true
-test_same m k l e f = grind (arith, nat_tests)
-
 place_of : (k n m : ℕ) → place_in (range_with_len 0 k) (0 + n) ≡ m → place_in (range_with_len 0 k) n ≡ m
 place_of k n m e = let z : n ≡ 0 + n = omega arith in ap (place_in (range_with_len 0 k)) z ∙ e
 
 with_known : (k n : ℕ) → n < k → with_number (range_with_len 0 k) n ≡ range_with_len 0 k
 with_known k n h =
     ap (λ b. if b then range_with_len 0 k ++ n ∷ [] else range_with_len 0 k)
-    (test_other (place_in (range_with_len 0 k) n) n k (length (range_with_len 0 k)) (place_of k n n (place_below 0 k n h)) (length-range_with_len 0 k) h)
+    (ne_eqb (place_in (range_with_len 0 k) n) (length (range_with_len 0 k))
+    (λ same. absurd (omega (arith, same, place_of k n n (place_below 0 k n h), length-range_with_len 0 k, h))))
 
 with_new : (k : ℕ) → with_number (range_with_len 0 k) k ≡ range_with_len 0 (suc k)
 with_new k =
     ap (λ b. if b then range_with_len 0 k ++ k ∷ [] else range_with_len 0 k)
-    (test_same (place_in (range_with_len 0 k) k) k (length (range_with_len 0 k)) (place_of k k k (place_beyond 0 k k (omega arith))) (length-range_with_len 0 k))
+    (eq-eqb (place_in (range_with_len 0 k) k) (length (range_with_len 0 k))
+    (place_of k k k (place_beyond 0 k k (omega arith)) ∙ sym (length-range_with_len 0 k)))
     ∙ ap (λ n. range_with_len 0 k ++ n ∷ []) (let z : k ≡ 0 + k = omega arith in z)
     ∙ sym (range_with_len_suc 0 k)
 

@@ -2,6 +2,7 @@
 use Rattle.std.proofs.Common.{◌≡◌, ◌∙◌, ◌<◌, ◌≤◌, ◌+◌, ◌-◌, ◌^◌, ◌&&◌, ℕ, zero, suc, ℤ, pos, negsuc, Bool, true, false, max, nat_lt, if◌then◌else◌, List, [], ◌∷◌, ◌++◌, codes, length, FitsSigned, Some, None, refl, sym, ap, ap₂, subst, append_assoc, eq-eqb, arith}
 use Rattle.tc_term.specs.Bytes.{is_word, is_name_byte}
 use Rattle.tc_term.specs.Tree.{HasIntegers, HaveIntegers}
+use Rattle.std.proofs.Math.Nat.{add-sub_cancel}
 use Rattle.std.proofs.lemmas.Bool.Decides.{nat_tests}
 use Rattle.std.proofs.lemmas.Slice.Eq.{bytes_eq-Decides}
 use Rattle.std.specs.Char.{is_ascii_digit, is_ascii_lowercase}
@@ -130,9 +131,6 @@ stays n = n
 
 abbrev pub falls : ℕ → ℕ
 falls n = n - 1
-
-back : (n : ℕ) → n + 1 - 1 ≡ n
-back n = omega arith
 
 -- A text of this size that has this end.
 module _ (clauses : Bool) (size : ℕ) (stop : Stop) where
@@ -421,7 +419,7 @@ module _ (clauses : Bool) (size : ℕ) (stop : Stop) where
               arith,
               ap (λ m. most_open m (open_bracket ∷ last.tokens)) (spelt.most n),
               last.most (n + 1),
-              ap (λ m. most_open m us) (back n),
+              ap (λ m. most_open m us) (add-sub_cancel n 1),
               opened-Compound name ts other,
             );
         names = spelt.names known ∙ ap (λ k. all_known k last.tokens) (sym from_mid) ∙ last.names;
@@ -442,7 +440,7 @@ module _ (clauses : Bool) (size : ℕ) (stop : Stop) where
           tokens = at (size - length (91 ∷ 93 ∷ rest)) (Punctuation OpenList) ∷ close ∷ ts;
           scan = add_open_list (93 ∷ rest) (close ∷ ts) (add_close_list rest ts scan);
           wide = refl;
-          most = λ n. omega (arith, ap (λ m. most_open m ts) (back n));
+          most = λ n. omega (arith, ap (λ m. most_open m ts) (add-sub_cancel n 1));
           names = ap (λ k. all_known (variable_names k) ts) same;
           means = subst (λ k. Operand reading (grammar.OpenList ∷ grammar.CloseList ∷ numbered (variable_names budget.variables) ts) (plain (Atomic (codes "[]"))) (numbered (variable_names k) ts)) same no_items;
         });
@@ -507,7 +505,7 @@ module _ (clauses : Bool) (size : ℕ) (stop : Stop) where
           tokens = at (size - length (91 ∷ inside)) (Punctuation OpenList) ∷ cell.tokens;
           scan = add_open_list inside cell.tokens cell.scan;
           wide = cell.wide;
-          most = λ n. omega (arith, cell.most (n + 1), ap (λ m. most_open m ts) (back n));
+          most = λ n. omega (arith, cell.most (n + 1), ap (λ m. most_open m ts) (add-sub_cancel n 1));
           names = cell.names;
           means = items cell.means;
         });

@@ -15,13 +15,8 @@ use Rattle.tc_read.proofs.Texts.{text_in-Variable, text_in-Number, text_in-nil, 
 use Rattle.tc_read.specs.Budget.{numbered, paid, spent, spent_all, then_in, whole}
 use Rattle.tc_read.specs.Front.{Read, argument, arguments, atom, barred, before, called, cell, cell_of, compound, element, head, is_barred, is_cell, leaf, list, name_at, named, named_or_number, nil, node, number, quoted_at, reads, tail, unplain, variable, word_at}
 use Rattle.tc_read.specs.declared.budget.Budget.{Budget}
-use Rattle.std.proofs.lemmas.Bool.{eqb-true}
+use Rattle.std.proofs.lemmas.Bool.{cond_both, eqb-true}
 use Rattle.tc_lists.proofs.Bools.{and_parts}
-
--- both outcomes of a test
-pub if_by : {X : Type 0} (P : X → Type 0) (p : Bool) (x y : X) → (p ≡ true → P x) → (p ≡ false → P y) → P (if p then x else y)
-if_by P true x y f g = f refl
-if_by P false x y f g = g refl
 
 pub record Took (d : ℕ) (place : Place) (budget : Budget) (bytes : List ℕ) (t : Tree) (left : Budget) (rest : List ℕ) : Type 0 where
   pub text : bytes ≡ text_in place t ++ rest
@@ -69,7 +64,7 @@ nil-took d place budget bytes rest e =
 atom-took : (d : ℕ) (budget : Budget) (bytes name rest : List ℕ) → bytes ≡ name_text name ++ rest →
     IsTook (suc d) Alone budget bytes (atom name budget rest)
 atom-took d budget bytes name rest e =
-    if_by (IsTook (suc d) Alone budget bytes) (is_nil name) None (leaf (paid (length name) budget) (Atomic name) rest)
+    cond_both (is_nil name) None (leaf (paid (length name) budget) (Atomic name) rest) (IsTook (suc d) Alone budget bytes)
     (λ nil. tt)
     (λ some.
     leaf-took (suc d) Alone budget bytes (paid (length name) budget) (Atomic name) rest
@@ -89,7 +84,7 @@ quoted_text name e = ap (λ b. if b then name else quoted name) e
 unplain-took : (s : List ℕ) (found : Option (List ℕ × List ℕ)) → quoted_at s ≡ found → IsNameAt (39 ∷ s) (unplain found)
 unplain-took s None e = tt
 unplain-took s (Some (name, rest)) e =
-    if_by (IsNameAt (39 ∷ s)) (is_name name) None (Some (name, rest))
+    cond_both (is_name name) None (Some (name, rest)) (IsNameAt (39 ∷ s))
     (λ plain. tt)
     (λ other.
     ap (λ x. 39 ∷ x) (quoted_at-takes s name rest e) ∙ sym (quoted_split name rest) ∙ ap (λ x. x ++ rest) (sym (quoted_text name other)))
@@ -103,10 +98,10 @@ word-took limit b s lower some =
 pub name_at-took : (limit : ℕ) (bytes : List ℕ) → IsNameAt bytes (name_at limit bytes)
 name_at-took limit [] = tt
 name_at-took limit (b ∷ s) =
-    if_by (IsNameAt (b ∷ s)) (b == 39) (unplain (quoted_at s)) (if is_name_start b && nat_lt 0 limit then Some (word_at limit (b ∷ s)) else None)
+    cond_both (b == 39) (unplain (quoted_at s)) (if is_name_start b && nat_lt 0 limit then Some (word_at limit (b ∷ s)) else None) (IsNameAt (b ∷ s))
     (λ quote. at_quote (eqb-true b 39 quote))
     (λ other.
-    if_by (IsNameAt (b ∷ s)) (is_name_start b && nat_lt 0 limit) (Some (word_at limit (b ∷ s))) None
+    cond_both (is_name_start b && nat_lt 0 limit) (Some (word_at limit (b ∷ s))) None (IsNameAt (b ∷ s))
     (λ both. let tests = and_parts (is_name_start b) (nat_lt 0 limit) both in word-took limit b s tests.0 tests.1)
     (λ none. tt))
   where
@@ -132,14 +127,14 @@ argument-took : (d : ℕ) (budget : Budget) (bytes : List ℕ) (more : Budget �
 argument-took d budget bytes more sound None took = tt
 argument-took d budget bytes more sound (Some (t, next, [])) took = tt
 argument-took d budget bytes more sound (Some (t, next, b ∷ s)) took =
-    if_by (IsTookAll d budget bytes) (b == 41) (Some (Last t, next, s)) (if b == 44 then before t (more next s) else None)
+    cond_both (b == 41) (Some (Last t, next, s)) (if b == 44 then before t (more next s) else None) (IsTookAll d budget bytes)
     (λ last. record {
       text = took.text ∙ ap (λ c. text_in Alone t ++ c ∷ s) (eqb-true b 41 last) ∙ ap (λ x. x ++ 41 ∷ s) (sym (texts_of-Last t));
       spent = took.spent;
       integers = took.integers;
     })
     (λ other.
-    if_by (IsTookAll d budget bytes) (b == 44) (before t (more next s)) None
+    cond_both (b == 44) (before t (more next s)) None (IsTookAll d budget bytes)
     (λ comma.
     before-took d budget bytes s t next (more next s)
     (record { text = took.text ∙ ap (λ c. text_in Alone t ++ c ∷ s) (eqb-true b 44 comma); spent = took.spent; integers = took.integers })
@@ -157,7 +152,7 @@ compound-took : (d : ℕ) (budget : Budget) (bytes name s : List ℕ) (next : Bu
     paid (length name) budget ≡ Some next → IsTookAll d next s found → IsTook (suc d) Alone budget bytes (compound name found)
 compound-took d budget bytes name s next None text enough took = tt
 compound-took d budget bytes name s next (Some (args, left, rest)) text enough took =
-    if_by (IsTook (suc d) Alone budget bytes) (is_cell name args) None (Some (Compound name args, left, rest))
+    cond_both (is_cell name args) None (Some (Compound name args, left, rest)) (IsTook (suc d) Alone budget bytes)
     (λ cell. tt)
     (λ other. record {
       text = text ∙ ap (λ x. name_text name ++ 40 ∷ x) took.text
@@ -186,7 +181,7 @@ module _ (d : ℕ) (sound : (place : Place) (budget : Budget) (bytes : List ℕ)
       IsTook (suc d) Alone budget bytes (named (reads d) budget name rest)
   named-took budget bytes name [] text = atom-took d budget bytes name [] text
   named-took budget bytes name (b ∷ s) text =
-      if_by (IsTook (suc d) Alone budget bytes) (b == 40) (called (reads d) name budget s) (atom name budget (b ∷ s))
+      cond_both (b == 40) (called (reads d) name budget s) (atom name budget (b ∷ s)) (IsTook (suc d) Alone budget bytes)
       (λ open_bracket. called-took budget bytes name s (text ∙ ap (λ c. name_text name ++ c ∷ s) (eqb-true b 40 open_bracket)))
       (λ other. atom-took d budget bytes name (b ∷ s) text)
 
@@ -223,7 +218,7 @@ module _ (d : ℕ) (sound : (place : Place) (budget : Budget) (bytes : List ℕ)
   list-took : (budget : Budget) (s : List ℕ) → IsTook (suc d) Alone budget (91 ∷ s) (list (reads d) budget s)
   list-took budget [] = tt
   list-took budget (b ∷ s) =
-      if_by (IsTook (suc d) Alone budget (91 ∷ b ∷ s)) (b == 93) (nil budget s) (element (reads d) budget (b ∷ s))
+      cond_both (b == 93) (nil budget s) (element (reads d) budget (b ∷ s)) (IsTook (suc d) Alone budget (91 ∷ b ∷ s))
       (λ end. nil-took d Alone budget (91 ∷ b ∷ s) s (ap (λ c. 91 ∷ c ∷ s) (eqb-true b 93 end)))
       (λ other. element-took Alone budget (91 ∷ b ∷ s) (b ∷ s) refl)
 
@@ -235,13 +230,13 @@ module _ (d : ℕ) (sound : (place : Place) (budget : Budget) (bytes : List ℕ)
   node-took : (budget : Budget) (bytes : List ℕ) → IsTook (suc d) Alone budget bytes (node (reads d) budget bytes)
   node-took budget [] = tt
   node-took budget (b ∷ s) =
-      if_by (IsTook (suc d) Alone budget (b ∷ s)) (b == 95) (variable budget (number_at 255 s))
-      (if b == 91 then list (reads d) budget s else named_or_number (reads d) budget (b ∷ s) (name_at budget.room.name_bytes (b ∷ s)))
+      cond_both (b == 95) (variable budget (number_at 255 s))
+      (if b == 91 then list (reads d) budget s else named_or_number (reads d) budget (b ∷ s) (name_at budget.room.name_bytes (b ∷ s))) (IsTook (suc d) Alone budget (b ∷ s))
       (λ underscore.
       subst (λ c. IsTook (suc d) Alone budget (c ∷ s) (variable budget (number_at 255 s))) (sym (eqb-true b 95 underscore))
       (variable-took d budget s (number_at 255 s) (number_at-read 255 s (omega arith) (omega arith))))
       (λ other.
-      if_by (IsTook (suc d) Alone budget (b ∷ s)) (b == 91) (list (reads d) budget s) (named_or_number (reads d) budget (b ∷ s) (name_at budget.room.name_bytes (b ∷ s)))
+      cond_both (b == 91) (list (reads d) budget s) (named_or_number (reads d) budget (b ∷ s) (name_at budget.room.name_bytes (b ∷ s))) (IsTook (suc d) Alone budget (b ∷ s))
       (λ bracket. subst (λ c. IsTook (suc d) Alone budget (c ∷ s) (list (reads d) budget s)) (sym (eqb-true b 91 bracket)) (list-took budget s))
       (λ neither. named_or_number-took budget (b ∷ s) (name_at budget.room.name_bytes (b ∷ s)) (name_at-took budget.room.name_bytes (b ∷ s))))
 
@@ -250,7 +245,7 @@ module _ (d : ℕ) (sound : (place : Place) (budget : Budget) (bytes : List ℕ)
   barred-took budget s None took = tt
   barred-took budget s (Some (t, left, [])) took = tt
   barred-took budget s (Some (t, left, b ∷ rest)) took =
-      if_by (IsTook (suc d) Behind budget (124 ∷ s)) (b == 93 && is_barred t) (Some (t, left, rest)) None
+      cond_both (b == 93 && is_barred t) (Some (t, left, rest)) None (IsTook (suc d) Behind budget (124 ∷ s))
       (λ both. let tests = and_parts (b == 93) (is_barred t) both in record {
         text = ap (λ x. 124 ∷ x) (took.text ∙ ap (λ c. text_in Alone t ++ c ∷ rest) (eqb-true b 93 tests.0))
             ∙ ap (λ x. 124 ∷ x) (sym (append_assoc (text_in Alone t) (codes "]") rest)) ∙ ap (λ x. x ++ rest) (sym (text_in-barred t tests.1));
@@ -262,14 +257,14 @@ module _ (d : ℕ) (sound : (place : Place) (budget : Budget) (bytes : List ℕ)
   tail-took : (budget : Budget) (bytes : List ℕ) → IsTook (suc d) Behind budget bytes (tail (reads d) budget bytes)
   tail-took budget [] = tt
   tail-took budget (b ∷ s) =
-      if_by (IsTook (suc d) Behind budget (b ∷ s)) (b == 93) (nil budget s)
-      (if b == 44 then element (reads d) budget s else (if b == 124 then barred (node (reads d) budget s) else None))
+      cond_both (b == 93) (nil budget s)
+      (if b == 44 then element (reads d) budget s else (if b == 124 then barred (node (reads d) budget s) else None)) (IsTook (suc d) Behind budget (b ∷ s))
       (λ end. nil-took d Behind budget (b ∷ s) s (ap (λ c. c ∷ s) (eqb-true b 93 end)))
       (λ no_end.
-      if_by (IsTook (suc d) Behind budget (b ∷ s)) (b == 44) (element (reads d) budget s) (if b == 124 then barred (node (reads d) budget s) else None)
+      cond_both (b == 44) (element (reads d) budget s) (if b == 124 then barred (node (reads d) budget s) else None) (IsTook (suc d) Behind budget (b ∷ s))
       (λ comma. element-took Behind budget (b ∷ s) s (ap (λ c. c ∷ s) (eqb-true b 44 comma)))
       (λ no_comma.
-      if_by (IsTook (suc d) Behind budget (b ∷ s)) (b == 124) (barred (node (reads d) budget s)) None
+      cond_both (b == 124) (barred (node (reads d) budget s)) None (IsTook (suc d) Behind budget (b ∷ s))
       (λ bar. subst (λ c. IsTook (suc d) Behind budget (c ∷ s) (barred (node (reads d) budget s))) (sym (eqb-true b 124 bar))
       (barred-took budget s (node (reads d) budget s) (node-took budget s)))
       (λ none. tt)))

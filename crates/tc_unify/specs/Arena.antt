@@ -17,11 +17,13 @@ node_shape text (Apply head argument) = ApplyNode head argument
 
 -- what a node number is that stands for no term of the arena: an atom with a short name, or a variable
 unfoldable pub outer_shape : ℕ → Shape
-outer_shape k = if nat_lt k FIRST_VARIABLE then AtomNode (name_at (k - FIRST_NAME)) else VariableNode (k - FIRST_VARIABLE)
+outer_shape k =
+    if nat_lt k FIRST_VARIABLE then AtomNode (name_at (k - FIRST_NAME)) else VariableNode (k - FIRST_VARIABLE)
 
 -- what a node number is; past the terms, the atom without a name
 unfoldable pub shape_in : List Node → List ℕ → ℕ → Shape
-shape_in nodes text k = if nat_lt k FIRST_NAME then node_shape text (get_or nodes k (Atom 0 0)) else outer_shape k
+shape_in nodes text k =
+    if nat_lt k FIRST_NAME then node_shape text (get_or nodes k (Atom 0 0)) else outer_shape k
 
 -- the node of a term, of a short name, or of one of so many variables
 abbrev pub IsInside : List Node → ℕ → ℕ → Type 0
@@ -35,7 +37,8 @@ HasLink nodes count k = (k < length nodes) ⊎ ((FIRST_VARIABLE ≤ k) × (k < F
 abbrev pub IsNodeWithin : List Node → List ℕ → ℕ → Node → Type 0
 IsNodeWithin nodes text count (Atom from len) = (from + len ≤ length text) × (SHORT < len)
 IsNodeWithin nodes text count (Int n) = Unit {0}
-IsNodeWithin nodes text count (Apply head argument) = IsInside nodes count head × IsInside nodes count argument
+IsNodeWithin nodes text count (Apply head argument) =
+    IsInside nodes count head × IsInside nodes count argument
 
 -- the nodes that a node names are inside, and earlier or with no further nodes
 pub record IsArenaOf (nodes : List Node) (text : List ℕ) (count : ℕ) : Type 0 where

@@ -27,7 +27,8 @@ Respects F link = (k : ℕ) → F k ≡ F (link k)
 -- the shapes of linked nodes give the same tree
 abbrev pub LinkedAlike : (ℕ → Shape) → (ℕ → ℕ) → (ℕ → Tree) → Type 0
 LinkedAlike shape link F =
-    (v : ℕ → Tree) (k : ℕ) → IsTerm (shape k) → tree_of_node v F (shape k) ≡ tree_of_node v F (shape (link k))
+    (v : ℕ → Tree) (k : ℕ) → IsTerm (shape k)
+    → tree_of_node v F (shape k) ≡ tree_of_node v F (shape (link k))
 
 -- the two nodes of each pair have the same tree
 abbrev pub Holds : (ℕ → Tree) → List (ℕ × ℕ) → Type 0

@@ -68,7 +68,8 @@ pub record Keeps (a : Arena) (l : Links) (old new : List Step) : Type 0 where
 -- no trees respect the links, once the steps are what is to be done
 abbrev pub IsEndless : Arena → Links → List Step → Type 0
 IsEndless a l steps =
-    (v : ℕ → Tree) → Respects (label (shape_of a) v) (link_of l) → Descends (label (shape_of a) v) steps → ⊥
+    (v : ℕ → Tree) → Respects (label (shape_of a) v) (link_of l)
+    → Descends (label (shape_of a) v) steps → ⊥
 
 -- how many marks are not set
 abbrev pub unseen : List Mark → ℕ

@@ -68,7 +68,8 @@ IsPlain (ApplyNode head argument) = ⊥
 -- the nodes that a node names stand before it or name no other
 abbrev pub IsInOrder : (ℕ → Shape) → ℕ → Shape → Type 0
 IsInOrder shape k (ApplyNode head argument) =
-    IsHead (shape head) × (IsPlain (shape head) ⊎ (head < k)) × (IsPlain (shape argument) ⊎ (argument < k))
+    IsHead (shape head) × (IsPlain (shape head) ⊎ (head < k))
+    × (IsPlain (shape argument) ⊎ (argument < k))
 IsInOrder shape k _ = Unit {0}
 
 abbrev pub InOrder : (ℕ → Shape) → Type 0

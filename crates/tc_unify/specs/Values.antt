@@ -37,7 +37,9 @@ abbrev pub of_term : ℕ → Term → List Tree → Tree
 of_term shift t v = under v (raised shift (tree_of t))
 
 -- the value is the term that was found, which has spent room, or there is none within the room
-pub record IsValue (a : Arena) (l : Links) (V : List Tree → Tree) (limit : ℕ) (room left : Room) (found : Option Term) : Type 0 where
+pub record IsValue
+    (a : Arena) (l : Links) (V : List Tree → Tree) (limit : ℕ) (room left : Room) (found : Option Term)
+    : Type 0 where
   pub value : IfSome found (λ t. IsFixed a l V (tree_of t) × IsSpent (tree_of t) limit room left)
   pub none : IfNone found ((t : Tree) → IsFixed a l V t → IsWithin t limit room → ⊥)
 
@@ -47,4 +49,5 @@ pub record IsSpineOf (a : Arena) (k : ℕ) (spine : Spine) : Type 0 where
   pub plain : IsAtom (shape_of a spine.atom)
   pub arguments : All (IsNodeOf a) spine.arguments.items
   pub tree : (v : ℕ → Tree) → label (shape_of a) v k
-      ≡ applied_over (label (shape_of a) v) (label (shape_of a) v spine.atom) (reverse spine.arguments.items)
+      ≡ applied_over (label (shape_of a) v) (label (shape_of a) v spine.atom)
+      (reverse spine.arguments.items)

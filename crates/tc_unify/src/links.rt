@@ -47,7 +47,8 @@ impl Links {
     fn set(&mut self, from: usize, to: usize)
         requires { HasNode self.old from }
         ensures link { (k : ℕ) → link_of self.new k ≡ linked (link_of self.old) from to k }
-        ensures unlinked { link_of self.old from ≡ from → to ≢ from → unlinked self.new + 1 ≡ unlinked self.old }
+        ensures unlinked { link_of self.old from ≡ from → to ≢ from
+            → unlinked self.new + 1 ≡ unlinked self.old }
         ensures terms { length self.new.terms.items ≡ length self.old.terms.items }
         ensures variables { length self.new.variables.items ≡ length self.old.variables.items }
         ensures trail { self.new.trail.items ≡ self.old.trail.items }
@@ -80,7 +81,8 @@ impl Links {
         requires place { HasNode self.old from }
         requires free { link_of self.old from ≡ from }
         requires other { to ≢ from }
-        ensures link { OnOk result ((k : ℕ) → link_of self.new k ≡ linked (link_of self.old) from to k) }
+        ensures link { OnOk result
+            ((k : ℕ) → link_of self.new k ≡ linked (link_of self.old) from to k) }
         ensures unlinked { OnOk result (unlinked self.new + 1 ≡ unlinked self.old) }
         ensures trail { OnOk result (self.new.trail.items ≡ self.old.trail.items ++ from ∷ []) }
         ensures extends { Extends self.old self.new }
@@ -101,7 +103,8 @@ pub(crate) fn push_own(table: &mut Vec<usize>, first: usize, len: usize) -> Resu
     requires room { first + len < 2 ^ 64 }
     ensures full { OnOk result (length table.new.items ≡ len) }
     ensures begins { Begins table.old.items table.new.items }
-    ensures own { (k : ℕ) → get_or table.new.items k (first + k) ≡ get_or table.old.items k (first + k) }
+    ensures own { (k : ℕ)
+        → get_or table.new.items k (first + k) ≡ get_or table.old.items k (first + k) }
 {
     while table.len() < len {
         let node = first + table.len();

@@ -95,7 +95,8 @@ impl Arena {
         requires inside { IsNodeOf self.old head }
         requires argument { IsNodeOf self.old argument }
         ensures pushed { IfOk result
-            (λ node. IsHeadFor self.new node (applied (node_tree self.old head) (node_tree self.old argument))) }
+            (λ node. IsHeadFor self.new node
+            (applied (node_tree self.old head) (node_tree self.old argument))) }
         ensures arena { IsArena self.new }
         ensures grows { Grows self.old self.new }
     {
@@ -144,7 +145,8 @@ impl Arena {
         requires arena { IsArena self.now }
         requires node { IsNodeOf self.now atom }
         requires atom { IsAtom (shape_of self.now atom) }
-        ensures name { IfOk result (λ found. IfSome found (λ name. shape_of self.now atom ≡ AtomNode name)) }
+        ensures name { IfOk result
+            (λ found. IfSome found (λ name. shape_of self.now atom ≡ AtomNode name)) }
         ensures longer { IfOk result (λ found. IfNone found
             ((name : List ℕ) × (shape_of self.now atom ≡ AtomNode name) × (most < length name))) }
     {

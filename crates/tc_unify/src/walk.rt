@@ -48,8 +48,10 @@ pub(crate) fn are_finite(
     requires place { from ≤ length links.now.trail.items }
     ensures finite { IfOk result
         (λ finite. IsTrue finite
-        → All (IsFiniteVariable (shape_of arena.now) (link_of links.now)) (drop from links.now.trail.items)) }
-    ensures endless { IfOk result (λ finite. finite ≡ false → HasNoTrees (shape_of arena.now) (link_of links.now)) }
+        → All (IsFiniteVariable (shape_of arena.now) (link_of links.now))
+        (drop from links.now.trail.items)) }
+    ensures endless { IfOk result
+        (λ finite. finite ≡ false → HasNoTrees (shape_of arena.now) (link_of links.now)) }
     ensures unmarked { IsUnmarked walk.new }
 {
     let finite = walk_below(arena, links, walk, &links.trail[from..]);
@@ -69,7 +71,8 @@ fn unmark(walk: &mut Walk)
 
 // Takes back the marks of these nodes.
 fn take_back(marks: &mut Vec<Mark>, seen: &[usize])
-    requires listed { (k : ℕ) → (get_or marks.old.items k Mark.Unseen ≡ Mark.Unseen) ⊎ IsListed seen.now k }
+    requires listed { (k : ℕ)
+        → (get_or marks.old.items k Mark.Unseen ≡ Mark.Unseen) ⊎ IsListed seen.now k }
     requires within { All (λ k. k < length marks.old.items) seen.now }
     ensures unseen { All (λ m. m ≡ Mark.Unseen) marks.new.items }
     ensures size { length marks.new.items ≡ length marks.old.items }
@@ -92,8 +95,10 @@ fn walk_below(
     requires unmarked { IsUnmarked walk.old }
     requires nodes { All (IsNodeOf arena.now) nodes.now }
     ensures finite { IfOk result
-        (λ finite. IsTrue finite → All (IsFiniteVariable (shape_of arena.now) (link_of links.now)) nodes.now) }
-    ensures endless { IfOk result (λ finite. finite ≡ false → HasNoTrees (shape_of arena.now) (link_of links.now)) }
+        (λ finite. IsTrue finite
+        → All (IsFiniteVariable (shape_of arena.now) (link_of links.now)) nodes.now) }
+    ensures endless { IfOk result
+        (λ finite. finite ≡ false → HasNoTrees (shape_of arena.now) (link_of links.now)) }
     ensures marked { IsMarked walk.new }
 {
     push_bound(arena, links, &mut walk.steps, nodes)?;

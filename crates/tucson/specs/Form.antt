@@ -34,7 +34,8 @@ name_at bytes =
     if is_name (take n bytes) then Some (take n bytes, drop n bytes) else None
 
 -- a name and its arguments, where a bracket stands behind it; or the name alone
-abbrev pub compound_with : Reader Tree → List ℕ → List ℕ → Option (List ℕ) → Option (Tree × List ℕ)
+abbrev pub compound_with :
+    Reader Tree → List ℕ → List ℕ → Option (List ℕ) → Option (Tree × List ℕ)
 compound_with read name rest (Some args) =
     option_map (λ r. (Compound name (gathered r.0), r.1)) (items_at 44 41 read (length args) args)
 compound_with read name rest None = Some (Atomic name, rest)

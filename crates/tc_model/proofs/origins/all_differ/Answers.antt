@@ -1,6 +1,5 @@
 use Rattle.std.proofs.Common.{◌≢◌}
-use Rattle.tc_lists.proofs.Pairs.{AllPairs-take_read, AllPairs-from_take}
-use Rattle.tc_model.proofs.Names.{AllPairs-before}
+use Rattle.tc_lists.proofs.Pairs.{AllPairs-before, AllPairs-take_read, AllPairs-from_take}
 use Rattle.tc_model.proofs.origins.all_differ.Goals as goal
 
 pub returns-then-not-is_new-clause-no : goal.returns-then-not-is_new-clause-no

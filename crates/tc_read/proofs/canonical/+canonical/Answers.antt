@@ -1,4 +1,5 @@
 use Rattle.std.proofs.Common.{◌≡◌, ◌≤◌, ℕ, ◌∙◌, ◌-◌, ◌+◌, sym, ap, subst, IfOk, arith, ◌∷◌, Some}
+use Rattle.std.proofs.Math.Nat.{sub-eq-zero_of_le}
 use Rattle.tc_term.specs.Text.{Alone}
 use Rattle.tc_read.proofs.ArgumentLoop.{none_next, end_next, other_next, last_next, more_next}
 use Rattle.tc_read.proofs.Cells.{prepended, prepended-none, reads-alone, reads-behind}
@@ -6,9 +7,6 @@ use Rattle.tc_read.specs.Front.{arguments, reads}
 use Rattle.tc_lists.proofs.Options.{none_from_never}
 use Rattle.tc_read.specs.Seen.{term_seen}
 use Rattle.tc_read.proofs.canonical.+canonical.Goals as goal
-
-none_left : (n k : ℕ) → n ≤ k → n - k ≡ 0
-none_left n k h = omega (arith, h)
 
 pub alone-returns : goal.alone-returns
 alone-returns t c =
@@ -57,4 +55,4 @@ pub arguments-returns : goal.arguments-returns
 arguments-returns t c =
     sym (prepended-none c.loop.terms.items)
     ∙ ap (λ k. prepended c.loop.terms.items (arguments (reads c.args.depth Alone) k c.loop.left c.loop.rest.now))
-    (sym (none_left c.args.budget.room.nodes c.loop.counter (omega (arith, c.loop-test.false)))) ∙ c.loop.invariant
+    (sym (sub-eq-zero_of_le c.loop-test.false)) ∙ c.loop.invariant
