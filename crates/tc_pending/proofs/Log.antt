@@ -1,7 +1,7 @@
 -- A list of requests with its log, after each change.
 use Rattle.std.proofs.Common.{◌≡◌, ◌<◌, ◌≤◌, ◌+◌, ◌-◌, ◌==◌, if◌then◌else◌, ℕ, zero, suc, Bool, true, false, not, List, [], ◌∷◌, ◌++◌, length, get_or, take, drop, refl, ap, sym, subst, ◌∙◌, length-append, arith}
-use Rattle.std.specs.List.{All, remove}
-use Rattle.std.proofs.lemmas.Bool.{ne_eqb}
+use Rattle.std.specs.List.{All, remove, insert}
+use Rattle.std.proofs.lemmas.Bool.{ne_eqb, true≢false}
 use Rattle.std.proofs.lemmas.List.{take-append-drop, length-take, length-take-le, take_at, drop_at, drop_all, drop_more, drop-append-le, take-append-le, nil_from_length, same_from_push, map_push}
 use Rattle.std.proofs.lemmas.List.Edits.{length-insert}
 use Rattle.std.proofs.lemmas.List.Elements.{All-head, All-tail}
@@ -22,39 +22,38 @@ pub same_waiting : (now new : List Request) (saved kept : List (List Request)) �
     → waiting now saved ≡ waiting new kept
 same_waiting now new saved kept p q = cc
 
--- a request that was added, or removed, is taken back
-pub earlier-added : (requests : List Request) (r : Request) → earlier Added (requests ++ r ∷ []) ≡ requests
-earlier-added requests r =
-    take_at requests (r ∷ []) (length (requests ++ r ∷ []) - 1) (omega (arith, length-append requests (r ∷ [])))
+-- an element that was added, or removed, is taken back
+pub take-pushed : {X : Type 0} (xs : List X) (x : X) → take (length (xs ++ x ∷ []) - 1) (xs ++ x ∷ []) ≡ xs
+take-pushed xs x =
+    take_at xs (x ∷ []) (length (xs ++ x ∷ []) - 1) (omega (arith, length-append xs (x ∷ [])))
 
-pub earlier-removed : (requests : List Request) (place : ℕ) (r : Request) → place < length requests
-    → r ≡ get_or requests place r → earlier (Removed place r) (remove requests place) ≡ requests
-earlier-removed requests place r inside is =
-    let front : length (take place requests) ≡ place = length-take-le place requests (omega arith) in
-    let before : take place (remove requests place) ≡ take place requests =
-    take_at (take place requests) (drop (suc place) requests) place front in
-    let behind : drop place (remove requests place) ≡ drop (suc place) requests =
-    drop_at (take place requests) (drop (suc place) requests) place front in
-    let rest : drop place requests ≡ get_or requests place r ∷ drop (place + 1) requests =
-    drop_more requests place r inside in
+pub insert-removed : {X : Type 0} (xs : List X) (place : ℕ) (x : X) → place < length xs
+    → x ≡ get_or xs place x → insert (remove xs place) place x ≡ xs
+insert-removed xs place x inside is =
+    let front : length (take place xs) ≡ place = length-take-le place xs (omega arith) in
+    let before : take place (remove xs place) ≡ take place xs =
+    take_at (take place xs) (drop (suc place) xs) place front in
+    let behind : drop place (remove xs place) ≡ drop (suc place) xs =
+    drop_at (take place xs) (drop (suc place) xs) place front in
+    let rest : drop place xs ≡ get_or xs place x ∷ drop (place + 1) xs = drop_more xs place x inside in
     let one : place + 1 ≡ suc place = omega arith in
-    ap (λ xs. xs ++ r ∷ drop place (remove requests place)) before
-    ∙ ap (λ ys. take place requests ++ r ∷ ys) behind
-    ∙ ap (λ x. take place requests ++ x ∷ drop (suc place) requests) is
-    ∙ ap (λ n. take place requests ++ get_or requests place r ∷ drop n requests) (sym one)
-    ∙ ap (λ ys. take place requests ++ ys) (sym rest)
-    ∙ take-append-drop place requests
+    ap (λ ys. ys ++ x ∷ drop place (remove xs place)) before
+    ∙ ap (λ ys. take place xs ++ x ∷ ys) behind
+    ∙ ap (λ y. take place xs ++ y ∷ drop (suc place) xs) is
+    ∙ ap (λ n. take place xs ++ get_or xs place x ∷ drop n xs) (sym one)
+    ∙ ap (λ ys. take place xs ++ ys) (sym rest)
+    ∙ take-append-drop place xs
 
-pub Fits-removed : (requests : List Request) (place : ℕ) (r : Request) → place < length requests
-    → Fits (Removed place r) (remove requests place)
-Fits-removed requests place r inside =
+pub Fits-removed : (requests : List Request) (place : ℕ) (r : Request) (serial : ℕ) → place < length requests
+    → Fits (Removed place r serial) (remove requests place)
+Fits-removed requests place r serial inside =
     omega (arith, length-append (take place requests) (drop (suc place) requests), length-take-le place requests (omega arith))
 
 -- no change leaves more than one request more before it
 pub length-earlier : (c : Change) (requests : List Request) → Fits c requests
     → length (earlier c requests) ≤ length requests + 1
 length-earlier Added requests fits = omega (arith, length-take (length requests - 1) requests)
-length-earlier (Removed place r) requests fits = omega (arith, length-insert requests place r fits)
+length-earlier (Removed place r serial) requests fits = omega (arith, length-insert requests place r fits)
 
 -- changes before others, which are taken back first
 pub rewound-append : (xs ys : List Change) (requests : List Request)
@@ -103,7 +102,7 @@ AllFit-last changes front c requests last fit =
 pub IsLog-none : (requests : List Request) → IsLog requests [] []
 IsLog-none requests = record { fit = tt; climbs = tt; oldest = refl }
 
-unnoted : (changes noted : List Change) (c : Change) (empty : Bool) → length changes ≡ 0 → empty ≡ true
+pub unnoted : (changes noted : List Change) (c : Change) (empty : Bool) → length changes ≡ 0 → empty ≡ true
     → noted ≡ (if not empty then changes ++ c ∷ [] else changes) → noted ≡ []
 unnoted changes noted c empty none told is =
     is ∙ ap (λ b. if not b then changes ++ c ∷ [] else changes) told ∙ nil_from_length changes none
@@ -134,12 +133,17 @@ length-noted changes noted c true is = omega (arith, ap length is)
 length-noted changes noted c false is = omega (arith, ap length is, length-append changes (c ∷ []))
 
 -- the test for no mark, at a mark, and what it says where it fails
-not_none : (m : ℕ) (ms : List ℕ) → (length (m ∷ ms) == 0) ≡ false
+pub not_none : (m : ℕ) (ms : List ℕ) → (length (m ∷ ms) == 0) ≡ false
 not_none m ms = ne_eqb (length (m ∷ ms)) 0 (λ none. absurd (omega (arith, none)))
 
 pub some_from_test : (n : ℕ) (none : Bool) → none ≡ (n == 0) → none ≡ false → 0 < n
 some_from_test zero none is not = absurd (cc)
 some_from_test (suc n) none is not = omega arith
+
+pub none_from_test : (n : ℕ) (none : Bool) → none ≡ (n == 0) → none ≡ true → n ≡ 0
+none_from_test zero none is holds = refl
+none_from_test (suc n) none is holds =
+    absurd (true≢false (sym holds ∙ is ∙ ne_eqb (suc n) 0 (λ same. absurd (omega (arith, same)))))
 
 -- a change that is noted where there is a mark
 pub IsLog-noted : (requests new : List Request) (changes noted : List Change) (marks : List ℕ) (c : Change) (empty : Bool)
@@ -157,6 +161,12 @@ IsLog-noted requests new changes noted (m ∷ ms) c empty log told is fits back 
       climbs = Climbs-more (m ∷ ms) (length changes) (length noted) longer log.climbs;
       oldest = log.oldest;
     }
+
+pub none-noted : (requests : List Request) (changes noted : List Change) (marks : List ℕ) (c : Change) (empty : Bool)
+    → IsLog requests changes marks → empty ≡ (length marks == 0) → empty ≡ true
+    → noted ≡ (if not empty then changes ++ c ∷ [] else changes) → noted ≡ []
+none-noted requests changes noted [] c empty log told none is = unnoted changes noted c empty log.oldest told is
+none-noted requests changes noted (m ∷ ms) c empty log told none is = absurd (true≢false (sym none ∙ told ∙ not_none m ms))
 
 pub saved-logged : (requests new : List Request) (changes noted : List Change) (marks : List ℕ) (c : Change) (empty : Bool)
     → IsLog requests changes marks → empty ≡ (length marks == 0)
@@ -205,7 +215,7 @@ saved-undone requests changes top (m ∷ ms) there below =
 module _ (requests : List Request) (changes : List Change) (marks before : List ℕ) (top : ℕ)
     (log : IsLog requests changes marks) (last : marks ≡ before ++ top ∷ []) where
   -- what the latest mark is
-  climbs_last : (top ≤ length changes) × Climbs before top × Climbs before (length changes)
+  pub climbs_last : (top ≤ length changes) × Climbs before top × Climbs before (length changes)
   climbs_last = Climbs-pop before top (length changes) (subst (λ ms. Climbs ms (length changes)) last log.climbs)
 
   saved_last : saved_at marks changes requests

@@ -5,23 +5,35 @@ use Rattle.std.specs.Vec.{vec_capacity}
 use Rattle.tc_lists.specs.Marks.{Climbs}
 use Rattle.tc_model.specs.declared.calls.Request.{Request}
 use Rattle.tc_pending.specs.Codes.{codes_of}
+use Rattle.tc_pending.specs.Filed.{IsFiled}
+use Rattle.tc_pending.specs.declared.index.Index.{Index}
 use Rattle.tc_pending.specs.declared.changes.Change.{Change}
 use Rattle.tc_pending.specs.declared.changes.Change.TheVariants.{Added, Removed}
 
 -- the requests before a change
 abbrev pub earlier : Change → List Request → List Request
 earlier Added requests = take (length requests - 1) requests
-earlier (Removed place request) requests = insert requests place request
+earlier (Removed place request serial) requests = insert requests place request
 
 -- the requests before these changes, the latest last
 abbrev pub rewound : List Change → List Request → List Request
 rewound [] requests = requests
 rewound (c ∷ cs) requests = earlier c (rewound cs requests)
 
+-- the serial numbers before a change
+abbrev pub earlier_serials : Change → List ℕ → List ℕ
+earlier_serials Added serials = take (length serials - 1) serials
+earlier_serials (Removed place request serial) serials = insert serials place serial
+
+-- the serial numbers before these changes, the latest last
+abbrev pub rewound_serials : List Change → List ℕ → List ℕ
+rewound_serials [] serials = serials
+rewound_serials (c ∷ cs) serials = earlier_serials c (rewound_serials cs serials)
+
 -- the change can be taken back: a request that was removed has its place
 abbrev pub Fits : Change → List Request → Type 0
 Fits Added requests = Unit {0}
-Fits (Removed place request) requests = place ≤ length requests
+Fits (Removed place request serial) requests = place ≤ length requests
 
 -- the changes can be taken back, the latest first
 abbrev pub AllFit : List Change → List Request → Type 0
@@ -38,11 +50,19 @@ pub record IsLog (requests : List Request) (changes : List Change) (marks : List
   pub climbs : Climbs marks (length changes)
   pub oldest : slice_index_or marks 0 (length changes) ≡ 0
 
--- a log with room for each request to be removed, and for each change to be taken back; and the codes
--- are those of the requests
-pub record IsSound {X Y Z : Type 0} (requests : Vec Request X) (codes : Vec ℕ Z) (changes : Vec Change Y) (marks : List ℕ) : Type 0 where
+-- the requests now, and those before each of the changes, are filed
+abbrev pub AreFiled : Index → ℕ → List Request → List ℕ → List Change → Type 0
+AreFiled index filed requests serials changes =
+    (n : ℕ) → IsFiled index filed (codes_of (rewound (drop n changes) requests)) (rewound_serials (drop n changes) serials)
+
+-- a log with room for each request to be removed, and for each change to be taken back; the codes are
+-- those of the requests; and the requests that there are and may come back are filed
+pub record IsSound {W X Y Z : Type 0} (requests : Vec Request X) (codes : Vec ℕ Z) (serials : Vec ℕ W) (index : Index) (below : ℕ)
+    (changes : Vec Change Y) (marks : List ℕ) : Type 0 where
   pub coded : codes.items ≡ codes_of requests.items
+  pub filed : AreFiled index below requests.items serials.items changes.items
   pub log : IsLog requests.items changes.items marks
   pub list_room : length requests.items + length changes.items ≤ vec_capacity requests
   pub codes_room : length codes.items + length changes.items ≤ vec_capacity codes
+  pub serials_room : length serials.items + length changes.items ≤ vec_capacity serials
   pub log_room : length requests.items + length changes.items ≤ vec_capacity changes

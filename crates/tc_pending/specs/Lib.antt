@@ -1,4 +1,6 @@
 pub mod Waiting
 pub mod Answers
-pub mod Changes
 pub mod Codes
+pub mod Rising
+pub mod Filed
+pub mod Changes

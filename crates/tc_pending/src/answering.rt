@@ -1,19 +1,19 @@
 //! Which of the requests that wait is answered next.
-ghost use Rattle.std.specs.Prelude.{◌≡◌, ◌↔◌, ◌<◌, ◌≤◌, length, take, IsTrue, IfOk, IfSome, IfNone};
+ghost use Rattle.std.specs.Prelude.{◌≡◌, ◌≤◌, length, take, IfOk, IfSome, IfNone};
 ghost use Rattle.tc_lists.specs.Firsts.{NoneOf};
-ghost use Rattle.tc_term.specs.Tree.{IsTuple};
 ghost use Rattle.tc_bag.specs.Stock.{tuples_of};
 ghost use Rattle.tc_model.specs.State.{IsAnswerable};
-ghost use Rattle.tc_pending.specs.Answers.{IsNextAnswer, IsKnown, AsksFor, IsOldestAsking};
-ghost use Rattle.tc_pending.specs.Codes.{top_code, code_of, codes_of};
+ghost use Rattle.tc_pending.specs.Answers.{IsNextAnswer, IsKnown};
+ghost use Rattle.tc_pending.specs.Codes.{codes_of};
+ghost use Rattle.tc_pending.specs.Filed.{IsFiled};
 
-use crate::codes::{code_of, top_code};
+use crate::asking::oldest_asking;
+use crate::index::Index;
 use std::alloc::Global;
 use tc_bag::{Bag, Key};
 use tc_lists::NoMemory;
 use tc_model::Request;
-use tc_search::{does_match, oldest_match_of};
-use tc_term::Ground;
+use tc_search::oldest_match_of;
 
 /// What is known of requests and tuples: none of the first `requests` can be answered by a tuple of
 /// an age below `age`.
@@ -57,21 +57,31 @@ impl Known {
 pub fn newly_answerable(
     requests: &[Request],
     codes: &[u64],
+    serials: &[u64],
+    index: &Index,
+    filed: u64,
     bag: &Bag,
     known: Known,
 ) -> Option<(usize, u64)>
     requires codes { codes.now ≡ codes_of requests.now }
+    requires filed { IsFiled index.now filed codes.now serials.now }
     requires known { IsKnown known bag.now.now requests.now }
     requires inside { known.requests ≤ length requests.now }
     ensures found { IfSome result (λ r. IsNextAnswer bag.now.now requests.now r.0 r.1) }
     ensures none { IfNone result
         (NoneOf (IsAnswerable (tuples_of bag.now.now)) (take known.requests requests.now)) }
 {
+    if known.requests == 0 {
+        return None;
+    }
     let mut next = None;
     let mut count = known.requests;
     let mut from = known.age;
     while let Some((age, tuple)) = bag.candidate(&Key::Any, from) {
-        if let Some(place) = oldest_asking(requests, codes, count, tuple) {
+        if count == 0 {
+            return next;
+        }
+        if let Some(place) = oldest_asking(requests, codes, serials, index, filed, count, tuple) {
             next = Some((place, age));
             count = place;
         }
@@ -101,36 +111,4 @@ pub fn answerable_from(
         }
     }
     Ok(None)
-}
-
-// The place of the oldest of the first `count` requests that asks for a tuple.
-fn oldest_asking(requests: &[Request], codes: &[u64], count: usize, tuple: &Ground) -> Option<usize>
-    requires codes { codes.now ≡ codes_of requests.now }
-    requires inside { count ≤ length requests.now }
-    ensures found { IfSome result (IsOldestAsking tuple.now requests.now) }
-    ensures inside { IfSome result (λ place. place < count) }
-    ensures none { IfNone result (NoneOf (AsksFor tuple.now) (take count requests.now)) }
-{
-    let top = top_code(tuple.term());
-    let whole = code_of(tuple.term());
-    for place in 0..count {
-        if asks(&requests[place], codes[place], top, whole, tuple) {
-            return Some(place);
-        }
-    }
-    None
-}
-
-// Whether a request asks for a tuple, by their codes and then by matching.
-fn asks(request: &Request, code: u64, top: u64, whole: u64, tuple: &Ground) -> bool
-    requires code { code ≡ code_of request.now.template }
-    requires top { top ≡ top_code tuple.now }
-    requires whole { whole ≡ code_of tuple.now }
-    requires tuple { IsTuple tuple.now }
-    ensures { IsTrue result ↔ AsksFor tuple.now request.now }
-{
-    if code != 0 && code != top && code != whole {
-        return false;
-    }
-    does_match(&request.template, tuple)
 }

@@ -1,5 +1,5 @@
 //! Codes of terms, by which most requests that don't ask for a tuple are passed over.
-ghost use Rattle.std.specs.Prelude.{◌≡◌, ◌<◌, ◌≤◌, [], ◌∷◌, ◌++◌, insert, vec_len, vec_capacity};
+ghost use Rattle.std.specs.Prelude.{◌≡◌, ◌≤◌};
 ghost use Rattle.tc_term.specs.TreeView.{tree_of};
 ghost use Rattle.tc_pending.specs.Codes.{joined, joined_all, top_code, with_first, code_of};
 
@@ -63,23 +63,4 @@ fn joined(code: u64, other: u64) -> u64
     ensures bound { result ≤ 2147483647 }
 {
     (code * 31 + other % CODES) % CODES + 1
-}
-
-/// Puts a code behind the others. No memory is taken.
-pub(crate) fn append(codes: &mut Vec<u64>, code: u64)
-    requires { vec_len codes.old < vec_capacity codes.old }
-    ensures items { codes.new.items ≡ codes.old.items ++ code ∷ [] }
-    ensures capacity { vec_capacity codes.old ≤ vec_capacity codes.new }
-{
-    let _ = codes.push(code);
-}
-
-/// Puts a code at a place. No memory is taken.
-pub(crate) fn put_back(codes: &mut Vec<u64>, place: usize, code: u64)
-    requires inside { place ≤ vec_len codes.old }
-    requires room { vec_len codes.old < vec_capacity codes.old }
-    ensures items { codes.new.items ≡ insert codes.old.items place code }
-    ensures capacity { vec_capacity codes.old ≤ vec_capacity codes.new }
-{
-    let _ = codes.insert(place, code);
 }

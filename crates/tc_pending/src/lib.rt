@@ -12,8 +12,11 @@
 #![tactic(auto)]
 
 mod answering;
+mod asking;
 mod changes;
 mod codes;
+mod index;
+mod numbers;
 mod pending;
 #[cfg(test)]
 mod tests;

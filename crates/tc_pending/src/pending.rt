@@ -1,7 +1,9 @@
 //! The list of requests that wait.
 use crate::answering::{Known, answerable_from, newly_answerable};
-use crate::changes::{Change, go_back, make_room, note};
-use crate::codes::{append, code_of};
+use crate::changes::{Change, forget_removed, go_back, make_room, note};
+use crate::codes::code_of;
+use crate::index::{Index, file};
+use crate::numbers::{append, number_behind};
 use std::alloc::Global;
 use std::marker::Model;
 use tc_bag::Bag;
@@ -10,7 +12,9 @@ use tc_model::Request;
 
 /// Requests that wait, oldest first; and marks to which the list goes back.
 ///
-/// Beside each request stands its code, so that those that don't ask for a tuple are passed over.
+/// Beside each request stand its code, so that those that don't ask for a tuple are passed over, and
+/// its serial number, by which an index names the requests of a code. The index has the requests of
+/// serial numbers below `filed`; the newer ones are few. It changes only where there is no mark.
 /// A mark copies nothing: each change after it is noted, and can be taken back. A mark is the number
 /// of changes before it, and where there is no mark none is noted.
 #[derive(Drop)]
@@ -18,6 +22,9 @@ pub struct Pending {
     alloc: Global,
     requests: Vec<Request>,
     request_codes: Vec<u64>,
+    serials: Vec<u64>,
+    index: Index,
+    filed: u64,
     changes: Vec<Change>,
     marks: Vec<usize>,
 }
@@ -38,7 +45,8 @@ impl Model for Pending {
       saved = saved_at p.marks.items p.changes.items p.requests.items;
     } };
 
-    ghost invariant = { λ p. IsSound p.requests p.request_codes p.changes p.marks.items };
+    ghost invariant = { λ p.
+        IsSound p.requests p.request_codes p.serials p.index p.filed p.changes p.marks.items };
 }
 
 impl Pending {
@@ -58,6 +66,9 @@ impl Pending {
             alloc,
             requests: Vec::new(alloc),
             request_codes: Vec::new(alloc),
+            serials: Vec::new(alloc),
+            index: Index::new(alloc),
+            filed: 0,
             changes: Vec::new(alloc),
             marks: Vec::new(alloc),
         }
@@ -86,9 +97,9 @@ impl Pending {
     /// The same as `oldest_answerable`, where it is known what no longer has to be looked at.
     ///
     /// Tuples of an age from `known.age` on are new to all requests, and requests from the place
-    /// `known.requests` on are new to all tuples. For each new tuple the codes of the known requests
-    /// are gone through, which takes some nanoseconds each; for each new request the bag is
-    /// searched once.
+    /// `known.requests` on are new to all tuples. For each new tuple the known requests are looked up
+    /// by its code, in O(log requests) for each that has it; for each new request the bag is searched
+    /// once.
     pub fn next_answerable(&self, bag: &Bag, known: Known) -> Result<Option<(usize, u64)>, NoMemory>
         requires known { IsKnown known bag.now.now self.now.now }
         requires inside { known.requests ≤ length self.now.now }
@@ -97,7 +108,15 @@ impl Pending {
         ensures none { IfOk result (λ found. IfNone found
             (NoneOf (IsAnswerable (tuples_of bag.now.now)) self.now.now)) }
     {
-        if let Some(next) = newly_answerable(&self.requests, &self.request_codes, bag, known) {
+        if let Some(next) = newly_answerable(
+            &self.requests,
+            &self.request_codes,
+            &self.serials,
+            &self.index,
+            self.filed,
+            bag,
+            known,
+        ) {
             return Ok(Some(next));
         }
         answerable_from(self.alloc, &self.requests, bag, known.requests)
@@ -111,11 +130,14 @@ impl Pending {
         make_room(
             &mut self.requests,
             &mut self.request_codes,
+            &mut self.serials,
             &mut self.changes,
         )?;
         let code = code_of(request.template.term());
+        let serial = number_behind(&self.serials, self.filed)?;
         self.requests.push(request)?;
         append(&mut self.request_codes, code);
+        append(&mut self.serials, serial);
         note(&mut self.changes, !self.marks.is_empty(), Change::Added);
         Ok(())
     }
@@ -126,16 +148,33 @@ impl Pending {
         ensures { self.new ≡ record self.old { now = remove self.old.now place } }
     {
         let request = self.requests.remove(place);
-        let _code = self.request_codes.remove(place);
-        let removed = Change::Removed { place, request };
+        let code = self.request_codes.remove(place);
+        let serial = self.serials.remove(place);
+        let removed = Change::Removed {
+            place,
+            request,
+            serial,
+        };
         note(&mut self.changes, !self.marks.is_empty(), removed);
+        if self.marks.is_empty() {
+            self.index.leave(&self.serials, code, serial);
+        }
     }
 
-    /// Sets a mark. It takes memory for a number, however many requests there are.
+    /// Sets a mark. It takes memory for a number, and where it is the only one, for the index of some
+    /// requests that are new since the last.
     pub fn mark(&mut self) -> Result<(), NoMemory>
         ensures marked { OnOk result (self.new ≡ marked self.old) }
         ensures same { OnErr result (self.new ≡ self.old) }
     {
+        let is_marked = !self.marks.is_empty();
+        file(
+            &mut self.index,
+            &mut self.filed,
+            &self.request_codes,
+            &self.serials,
+            is_marked,
+        )?;
         self.marks.push(self.changes.len())?;
         Ok(())
     }
@@ -151,6 +190,7 @@ impl Pending {
             go_back(
                 &mut self.requests,
                 &mut self.request_codes,
+                &mut self.serials,
                 &mut self.changes,
                 count,
             );
@@ -167,7 +207,12 @@ impl Pending {
     {
         let _count = self.marks.pop();
         if self.marks.is_empty() {
-            self.changes.clear();
+            forget_removed(
+                &mut self.index,
+                &mut self.changes,
+                &self.serials,
+                self.filed,
+            );
         }
     }
 }

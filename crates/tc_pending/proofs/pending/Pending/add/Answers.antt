@@ -1,17 +1,42 @@
 use Rattle.std.proofs.Common.{◌≡◌, ◌==◌, ◌∷◌, [], ◌++◌, length, ap, sym, subst, ◌∙◌, length-append, arith}
 use Rattle.tc_pending.specs.declared.changes.Change.TheVariants.{Added}
-use Rattle.tc_pending.specs.Changes.{earlier, saved_at, IsLog}
+use Rattle.tc_pending.specs.Changes.{earlier, earlier_serials, saved_at, AreFiled, IsLog}
 use Rattle.tc_pending.specs.Waiting.{Waiting}
-use Rattle.tc_pending.proofs.Log.{same_waiting, IsLog-noted, saved-logged, length-noted, earlier-added}
+use Rattle.tc_pending.proofs.Log.{same_waiting, IsLog-noted, saved-logged, length-noted, take-pushed}
 use Rattle.tc_pending.specs.Codes.{code_of, codes_of}
-use Rattle.tc_pending.proofs.Coded.{codes-push}
+use Rattle.tc_pending.proofs.Coded.{code, codes-push}
+use Rattle.tc_pending.specs.Filed.{IsFiled}
+use Rattle.tc_pending.specs.Rising.{Rises, IsAbove}
+use Rattle.tc_pending.proofs.Filed.{IsFiled-at, IsFiled-push, AreFiled-now, AreFiled-noted}
 use Rattle.tc_pending.proofs.pending.Pending.add.Goals as goal
+use Rattle.tc_pending.proofs.pending.Pending.add.Goals.{After-note}
 
-module _ (c : goal.After-note) where
+module _ (c : After-note) where
   back : earlier Added c.push.new.self.items ≡ c.self.inside.requests.items
   back =
       ap (earlier Added) c.in_ok-push.ensures.items
-      ∙ earlier-added c.make_room.new.requests.items c.args.request ∙ c.make_room.ensures.requests
+      ∙ take-pushed c.make_room.new.requests.items c.args.request ∙ c.make_room.ensures.requests
+
+  before : earlier_serials Added c.append-2.new.numbers.items ≡ c.self.inside.serials.items
+  before =
+      ap (earlier_serials Added) c.append-2.ensures.items
+      ∙ take-pushed c.make_room.new.serials.items c.in_ok-serial.serial ∙ c.make_room.ensures.serials
+
+  now : IsFiled c.self.inside.index c.self.inside.filed (codes_of c.push.new.self.items) c.append-2.new.numbers.items
+  now =
+      let p = c.self.inside in
+      let r = c.args.request in
+      let serial = c.in_ok-serial.serial in
+      let above : IsAbove p.serials.items serial =
+      subst (λ ns. IsAbove ns serial) (c.deref.ensures.value ∙ c.make_room.ensures.serials) c.in_ok-serial.ensures.above in
+      IsFiled-at p.index p.filed (codes_of p.requests.items ++ code r ∷ []) (codes_of c.push.new.self.items)
+      (p.serials.items ++ serial ∷ []) c.append-2.new.numbers.items
+      (ap codes_of (c.in_ok-push.ensures.items ∙ ap (λ rs. rs ++ r ∷ []) c.make_room.ensures.requests)
+      ∙ sym (codes-push p.requests.items r))
+      (c.append-2.ensures.items ∙ ap (λ ns. ns ++ serial ∷ []) c.make_room.ensures.serials)
+      (IsFiled-push p.index p.filed (codes_of p.requests.items) p.serials.items
+      (AreFiled-now p.index p.filed p.requests.items p.serials.items p.changes.items c.self.invariant.filed)
+      (code r) serial above c.in_ok-serial.ensures.least)
 
   log : IsLog c.self.inside.requests.items c.make_room.new.changes.items c.self.inside.marks.items
   log =
@@ -20,6 +45,20 @@ module _ (c : goal.After-note) where
 
   empty : c.is_empty.result ≡ (length c.self.inside.marks.items == 0)
   empty = c.is_empty.ensures ∙ ap (λ n. n == 0) c.self.inside.marks.ok.0
+
+  filed : AreFiled c.self.inside.index c.self.inside.filed c.push.new.self.items c.append-2.new.numbers.items c.note.new.changes.items
+  filed =
+      let p = c.self.inside in
+      AreFiled-noted p.index p.filed p.requests.items p.serials.items c.make_room.new.changes.items
+      (subst (AreFiled p.index p.filed p.requests.items p.serials.items) (sym c.make_room.ensures.changes) c.self.invariant.filed)
+      c.push.new.self.items c.append-2.new.numbers.items c.note.new.changes.items p.marks.items Added c.is_empty.result
+      log empty c.note.ensures.noted back before now
+
+pub number_behind-requires : goal.number_behind-requires
+number_behind-requires c =
+    let p = c.self.inside in
+    subst Rises (sym (c.deref.ensures.value ∙ c.make_room.ensures.serials))
+    (AreFiled-now p.index p.filed p.requests.items p.serials.items p.changes.items c.self.invariant.filed).rises
 
 pub invariant_of-self-2 : goal.invariant_of-self-2
 invariant_of-self-2 c =
@@ -34,6 +73,17 @@ invariant_of-self-2 c =
           ∙ ap (λ k. codes_of c.self.inside.requests.items ++ k ∷ []) (c.code_of-code.ensures ∙ ap code_of c.term.ensures.term)
           ∙ codes-push c.self.inside.requests.items c.args.request
           ∙ ap codes_of (sym (c.in_ok-push.ensures.items ∙ ap (λ rs. rs ++ c.args.request ∷ []) c.make_room.ensures.requests));
+      filed = filed c;
+      serials_room = omega (
+        arith,
+        longer,
+        ap length c.append-2.ensures.items,
+        length-append c.make_room.new.serials.items (c.in_ok-serial.serial ∷ []),
+        c.append-2.ensures.capacity,
+        c.in_ok-make_room.ensures.serials_room,
+        c.make_room.new.serials.ok.0,
+        changes.ok.0,
+      );
       codes_room = omega (
         arith,
         longer,

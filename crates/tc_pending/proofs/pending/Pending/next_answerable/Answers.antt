@@ -5,17 +5,26 @@ use Rattle.tc_lists.specs.Firsts.{NoneOf}
 use Rattle.tc_bag.specs.Stock.{tuples_of}
 use Rattle.tc_model.specs.State.{IsAnswerable}
 use Rattle.tc_pending.specs.Waiting.{Waiting}
+use Rattle.tc_pending.specs.Codes.{codes_of}
+use Rattle.tc_pending.proofs.Filed.{IsFiled-at, AreFiled-now}
 use Rattle.tc_pending.proofs.pending.Pending.next_answerable.Goals as goal
+
+pub newly_answerable-requires-clause-filed : goal.newly_answerable-requires-clause-filed
+newly_answerable-requires-clause-filed c =
+    let p = c.self.inside in
+    IsFiled-at p.index p.filed (codes_of p.requests.items) c.deref-2.result.now p.serials.items c.deref-3.result.now
+    (c.deref-2.ensures.value ∙ c.self.invariant.coded) c.deref-3.ensures.value
+    (AreFiled-now p.index p.filed p.requests.items p.serials.items p.changes.items c.self.invariant.filed)
 
 pub answerable_from-requires-clause-none : goal.answerable_from-requires-clause-none
 answerable_from-requires-clause-none c =
     subst (λ rs. NoneOf (IsAnswerable (tuples_of c.args.bag.now.now)) (take c.args.known.requests rs))
-    (c.deref.ensures.value ∙ sym c.deref-3.ensures.value)
+    (c.deref.ensures.value ∙ sym c.deref-4.ensures.value)
     c.in_default.ensures.none
 
 pub returns-clause-none : goal.returns-clause-none
 returns-clause-none c =
     let tuples = tuples_of c.args.bag.now.now in
     subst (λ (w : Waiting). IfOk c.answerable_from.result (λ found. IfNone found (NoneOf (IsAnswerable tuples) w.now))) c.self.view_is
-    (subst (λ rs. IfOk c.answerable_from.result (λ found. IfNone found (NoneOf (IsAnswerable tuples) rs))) c.deref-3.ensures.value
+    (subst (λ rs. IfOk c.answerable_from.result (λ found. IfNone found (NoneOf (IsAnswerable tuples) rs))) c.deref-4.ensures.value
     c.answerable_from.ensures.none)

@@ -1,7 +1,7 @@
 use Rattle.std.proofs.Common.{sym}
 use Rattle.std.proofs.lemmas.Bool.{true≢false}
 use Rattle.tc_pending.proofs.Coded.{not-match}
-use Rattle.tc_pending.proofs.answering.asks.Goals as goal
+use Rattle.tc_pending.proofs.asking.asks.Goals as goal
 
 pub returns-then-code-whole : goal.returns-then-code-whole
 returns-then-code-whole c = (

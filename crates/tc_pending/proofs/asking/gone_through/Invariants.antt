@@ -1,7 +1,7 @@
 use Rattle.std.proofs.Common.{take}
 use Rattle.tc_lists.specs.Firsts.{NoneOf}
 use Rattle.tc_pending.specs.Answers.{AsksFor}
-use Rattle.tc_pending.proofs.answering.oldest_asking.Given as goal
+use Rattle.tc_pending.proofs.asking.gone_through.Given as goal
 
 abbrev pub invariant-loop-place : goal.invariant-loop-place
 invariant-loop-place l = NoneOf (AsksFor l.tuple) (take l.place l.requests)

@@ -4,7 +4,7 @@ use Rattle.std.proofs.lemmas.List.{take_more}
 use Rattle.tc_lists.specs.Firsts.{NoneOf}
 use Rattle.tc_lists.proofs.Firsts.{NoneOf-push}
 use Rattle.tc_pending.specs.Answers.{AsksFor}
-use Rattle.tc_pending.proofs.answering.oldest_asking.Goals as goal
+use Rattle.tc_pending.proofs.asking.gone_through.Goals as goal
 
 pub loop-place-preserved : goal.loop-place-preserved
 loop-place-preserved c =

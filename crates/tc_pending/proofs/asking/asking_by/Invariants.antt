@@ -1,0 +1,12 @@
+use Rattle.std.proofs.Common.{◌≤◌, ◌-◌}
+use Rattle.tc_pending.specs.Filed.{NoneAsks}
+use Rattle.tc_pending.proofs.asking.asking_by.Given as goal
+
+abbrev pub invariant-loop-place : goal.invariant-loop-place
+invariant-loop-place l = record {
+  inside : l.at ≤ l.count;
+  none : NoneAsks l.tuple l.requests l.code l.at;
+}
+
+abbrev pub decreases-loop-place : goal.decreases-loop-place
+decreases-loop-place l = l.count - l.at

@@ -1,0 +1,47 @@
+-- Serial numbers of requests, and an index of them by codes.
+use Rattle.std.specs.Prelude.{ℕ, ◌≡◌, ◌<◌, ◌≤◌, List, length, slice_index_or, slice_get, Some, IsTrue}
+use Rattle.std.specs.BTreeSet.{contains}
+use Rattle.tc_term.specs.Tree.{Tree}
+use Rattle.tc_bag.specs.Ages.{pair_cmp}
+use Rattle.tc_model.specs.declared.calls.Request.{Request}
+use Rattle.tc_pending.specs.declared.index.Index.{Index}
+use Rattle.tc_pending.specs.Answers.{AsksFor}
+use Rattle.tc_pending.specs.Codes.{code_of}
+use Rattle.tc_pending.specs.Rising.{Rises}
+
+-- the index has the pair of a code and a serial number
+abbrev pub Has : Index → ℕ → ℕ → Type 0
+Has index code serial = IsTrue (contains pair_cmp index.pairs (code, serial))
+
+-- the index has the first so many pairs of these codes and serial numbers
+abbrev pub HasFirst : Index → List ℕ → List ℕ → ℕ → Type 0
+HasFirst index codes serials count =
+    (k : ℕ) → k < count → Has index (slice_index_or codes k 0) (slice_index_or serials k 0)
+
+-- the serial numbers beside these codes rise, and the index has those that are below `filed`
+pub record IsFiled (index : Index) (filed : ℕ) (codes serials : List ℕ) : Type 0 where
+  pub each : length serials ≡ length codes
+  pub rises : Rises serials
+  pub has : (k : ℕ) → k < length serials → slice_index_or serials k 0 < filed
+      → Has index (slice_index_or codes k 0) (slice_index_or serials k 0)
+
+-- the index has each pair of one of these serial numbers still
+abbrev pub KeepsAll : Index → Index → List ℕ → Type 0
+KeepsAll old new serials =
+    (c k : ℕ) → k < length serials → Has old c (slice_index_or serials k 0) → Has new c (slice_index_or serials k 0)
+
+-- from a place up to another no code is this one
+abbrev pub HasNone : List ℕ → ℕ → ℕ → ℕ → Type 0
+HasNone codes code from to = (k : ℕ) → from ≤ k → k < to → slice_index_or codes k 0 ≡ code → ⊥
+
+-- the request at this place asks for the tuple
+pub record IsAsking (tuple : Tree) (requests : List Request) (place : ℕ) : Type 0 where
+  pub request : Request
+  pub stands : slice_get requests place ≡ Some request
+  pub asks : AsksFor tuple request
+
+-- none of the first so many requests that has this code asks for the tuple
+abbrev pub NoneAsks : Tree → List Request → ℕ → ℕ → Type 0
+NoneAsks tuple requests code count =
+    (k : ℕ) (r : Request) → k < count → slice_get requests k ≡ Some r → code_of r.template ≡ code
+    → AsksFor tuple r → ⊥

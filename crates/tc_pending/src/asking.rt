@@ -1,0 +1,180 @@
+//! The oldest of the requests that wait that asks for a tuple.
+ghost use Rattle.std.specs.Prelude.{◌≡◌, ◌↔◌, ◌<◌, ◌≤◌, length, take, IsTrue, IfSome, IfNone};
+ghost use Rattle.tc_lists.specs.Firsts.{NoneOf};
+ghost use Rattle.tc_term.specs.Tree.{IsTuple};
+ghost use Rattle.tc_pending.specs.Answers.{AsksFor, IsOldestAsking};
+ghost use Rattle.tc_pending.specs.Codes.{top_code, code_of, codes_of};
+ghost use Rattle.tc_pending.specs.Rising.{Rises};
+ghost use Rattle.tc_pending.specs.Filed.{IsFiled, HasFirst, HasNone, IsAsking, NoneAsks};
+
+use crate::codes::{code_of, top_code};
+use crate::index::Index;
+use crate::numbers::{count_below, place_of};
+use tc_model::Request;
+use tc_search::does_match;
+use tc_term::Ground;
+
+/// The place of the oldest of the first `count` requests that asks for a tuple.
+pub(crate) fn oldest_asking(
+    requests: &[Request],
+    codes: &[u64],
+    serials: &[u64],
+    index: &Index,
+    filed: u64,
+    count: usize,
+    tuple: &Ground,
+) -> Option<usize>
+    requires codes { codes.now ≡ codes_of requests.now }
+    requires filed { IsFiled index.now filed codes.now serials.now }
+    requires inside { count ≤ length requests.now }
+    ensures found { IfSome result (IsOldestAsking tuple.now requests.now) }
+    ensures inside { IfSome result (λ place. place < count) }
+    ensures none { IfNone result (NoneOf (AsksFor tuple.now) (take count requests.now)) }
+{
+    let top = top_code(tuple.term());
+    let whole = code_of(tuple.term());
+    let start = count_below(serials, filed).min(count);
+    let place = looked_up(requests, codes, serials, index, start, top, whole, tuple);
+    if place < start {
+        return Some(place);
+    }
+    gone_through(requests, codes, start, count, top, whole, tuple)
+}
+
+// The place of the oldest of the first `count` requests that asks for a tuple, where the index has
+// them; `count` where there is none.
+fn looked_up(
+    requests: &[Request],
+    codes: &[u64],
+    serials: &[u64],
+    index: &Index,
+    count: usize,
+    top: u64,
+    whole: u64,
+    tuple: &Ground,
+) -> usize
+    requires codes { codes.now ≡ codes_of requests.now }
+    requires each { length serials.now ≡ length codes.now }
+    requires rises { Rises serials.now }
+    requires has { HasFirst index.now codes.now serials.now count }
+    requires inside { count ≤ length requests.now }
+    requires top { top ≡ top_code tuple.now }
+    requires whole { whole ≡ code_of tuple.now }
+    requires tuple { IsTuple tuple.now }
+    ensures inside { result ≤ count }
+    ensures asks { result < count → IsAsking tuple.now requests.now result }
+    ensures none { NoneOf (AsksFor tuple.now) (take result requests.now) }
+{
+    if count == 0 {
+        return 0;
+    }
+    let any = asking_by(requests, codes, serials, index, 0, count, tuple);
+    let same = asking_by(requests, codes, serials, index, top, any, tuple);
+    asking_by(requests, codes, serials, index, whole, same, tuple)
+}
+
+// The place of the oldest of the first `count` requests that asks for a tuple, by their codes, where
+// none before `start` does.
+fn gone_through(
+    requests: &[Request],
+    codes: &[u64],
+    start: usize,
+    count: usize,
+    top: u64,
+    whole: u64,
+    tuple: &Ground,
+) -> Option<usize>
+    requires codes { codes.now ≡ codes_of requests.now }
+    requires inside { count ≤ length requests.now }
+    requires start { start ≤ count }
+    requires none { NoneOf (AsksFor tuple.now) (take start requests.now) }
+    requires top { top ≡ top_code tuple.now }
+    requires whole { whole ≡ code_of tuple.now }
+    requires tuple { IsTuple tuple.now }
+    ensures found { IfSome result (IsOldestAsking tuple.now requests.now) }
+    ensures inside { IfSome result (λ place. place < count) }
+    ensures none { IfNone result (NoneOf (AsksFor tuple.now) (take count requests.now)) }
+{
+    for place in start..count {
+        if asks(&requests[place], codes[place], top, whole, tuple) {
+            return Some(place);
+        }
+    }
+    None
+}
+
+// Whether a request asks for a tuple, by their codes and then by matching.
+fn asks(request: &Request, code: u64, top: u64, whole: u64, tuple: &Ground) -> bool
+    requires code { code ≡ code_of request.now.template }
+    requires top { top ≡ top_code tuple.now }
+    requires whole { whole ≡ code_of tuple.now }
+    requires tuple { IsTuple tuple.now }
+    ensures { IsTrue result ↔ AsksFor tuple.now request.now }
+{
+    if code != 0 && code != top && code != whole {
+        return false;
+    }
+    does_match(&request.template, tuple)
+}
+
+// The place of the oldest of the first `count` requests that has this code and asks for a tuple,
+// where the index has them; `count` where there is none.
+fn asking_by(
+    requests: &[Request],
+    codes: &[u64],
+    serials: &[u64],
+    index: &Index,
+    code: u64,
+    count: usize,
+    tuple: &Ground,
+) -> usize
+    requires codes { codes.now ≡ codes_of requests.now }
+    requires each { length serials.now ≡ length codes.now }
+    requires rises { Rises serials.now }
+    requires has { HasFirst index.now codes.now serials.now count }
+    requires inside { count ≤ length requests.now }
+    requires tuple { IsTuple tuple.now }
+    ensures inside { result ≤ count }
+    ensures asks { result < count → IsAsking tuple.now requests.now result }
+    ensures none { NoneAsks tuple.now requests.now code result }
+{
+    let mut at = 0;
+    while let Some(place) = next_by(codes, serials, index, code, at, count) {
+        if does_match(&requests[place].template, tuple) {
+            return place;
+        }
+        at = place + 1;
+    }
+    count
+}
+
+// The first place from `at` on of the first `count` requests that has this code, where the index has
+// them.
+fn next_by(
+    codes: &[u64],
+    serials: &[u64],
+    index: &Index,
+    code: u64,
+    at: usize,
+    count: usize,
+) -> Option<usize>
+    requires each { length serials.now ≡ length codes.now }
+    requires rises { Rises serials.now }
+    requires has { HasFirst index.now codes.now serials.now count }
+    requires inside { count ≤ length serials.now }
+    ensures inside { IfSome result (λ place. (at ≤ place) × (place < count)) }
+    ensures found { IfSome result (λ place. HasNone codes.now code at place) }
+    ensures none { IfNone result (HasNone codes.now code at count) }
+{
+    if at >= count {
+        return None;
+    }
+    let mut from = serials[at];
+    while let Some(serial) = index.next(code, from) {
+        if let Some(place) = place_of(serials, serial) {
+            return if place < count { Some(place) } else { None };
+        }
+        from = serial.checked_add(1)?;
+    }
+    None
+}

@@ -1,0 +1,100 @@
+//! Serial numbers of requests by the codes of their templates.
+ghost use Rattle.std.specs.Prelude.{ℕ, ◌≡◌, ◌<◌, ◌≤◌, true, length, slice_index_or, OnOk, IfSome, IfNone};
+ghost use Rattle.tc_pending.specs.Rising.{Rises};
+ghost use Rattle.tc_pending.specs.Filed.{Has, IsFiled, KeepsAll};
+
+use crate::numbers::{count_below, number_behind, place_of};
+use std::alloc::Global;
+use std::collections::BTreeSet;
+use tc_lists::NoMemory;
+
+// Up to so many requests their codes are gone through, which is then faster than look-ups.
+const FEW: usize = 32;
+
+/// Pairs of a code and a serial number, in order.
+#[derive(Drop)]
+pub(crate) struct Index {
+    pairs: BTreeSet<(u64, u64)>,
+}
+
+impl Index {
+    /// No pair.
+    pub(crate) fn new(alloc: Global) -> Index {
+        Index {
+            pairs: BTreeSet::new(alloc),
+        }
+    }
+
+    /// How many pairs there are.
+    pub(crate) fn len(&self) -> usize {
+        self.pairs.len()
+    }
+
+    /// The least serial number of this code that is at least `from`.
+    pub(crate) fn next(&self, code: u64, from: u64) -> Option<u64>
+        ensures found { IfSome result (λ serial. (from ≤ serial)
+            × ((s : ℕ) → from ≤ s → s < serial → Has self.now code s → ⊥)) }
+        ensures none { IfNone result ((s : ℕ) → from ≤ s → Has self.now code s → ⊥) }
+    {
+        let (found, serial) = self.pairs.range((code, from)..).next()?;
+        if *found == code { Some(*serial) } else { None }
+    }
+
+    /// Removes a pair, unless its serial number is one of these.
+    pub(crate) fn leave(&mut self, serials: &[u64], code: u64, serial: u64)
+        requires { Rises serials.now }
+        ensures { KeepsAll self.old self.new serials.now }
+    {
+        if place_of(serials, serial).is_none() {
+            self.pairs.remove(&(code, serial));
+        }
+    }
+
+    // Enters a pair.
+    fn enter(&mut self, code: u64, serial: u64) -> Result<(), NoMemory>
+        ensures entered { OnOk result (Has self.new code serial) }
+        ensures kept { (c s : ℕ) → Has self.old c s → Has self.new c s }
+    {
+        self.pairs.insert((code, serial))?;
+        Ok(())
+    }
+
+    // Enters the pairs from a place on.
+    fn enter_from(&mut self, codes: &[u64], serials: &[u64], start: usize) -> Result<(), NoMemory>
+        requires { length serials.now ≡ length codes.now }
+        ensures entered { OnOk result ((k : ℕ) → start ≤ k → k < length serials.now
+            → Has self.new (slice_index_or codes.now k 0) (slice_index_or serials.now k 0)) }
+        ensures kept { (c s : ℕ) → Has self.old c s → Has self.new c s }
+    {
+        for place in start..serials.len() {
+            self.enter(codes[place], serials[place])?;
+        }
+        Ok(())
+    }
+}
+
+/// Enters the requests that are not in the index, where they are more than a few and there is no
+/// mark.
+pub(crate) fn file(
+    index: &mut Index,
+    filed: &mut u64,
+    codes: &[u64],
+    serials: &[u64],
+    is_marked: bool,
+) -> Result<(), NoMemory>
+    requires filed { IsFiled index.old filed.old codes.now serials.now }
+    ensures filed { IsFiled index.new filed.new codes.now serials.now }
+    ensures marked { is_marked ≡ true → (index.new ≡ index.old) × (filed.new ≡ filed.old) }
+{
+    if is_marked || serials.len() <= FEW {
+        return Ok(());
+    }
+    let start = count_below(serials, *filed);
+    if serials.len() - start <= FEW {
+        return Ok(());
+    }
+    let behind = number_behind(serials, *filed)?;
+    index.enter_from(codes, serials, start)?;
+    *filed = behind;
+    Ok(())
+}
