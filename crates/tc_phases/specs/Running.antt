@@ -1,0 +1,24 @@
+-- What an operation does to the tuples, and the event that triggers the reactions to it.
+use Rattle.tc_bag.specs.Stock.{Stock, with_tuple, without_age}
+use Rattle.tc_model.specs.Events.{Occurrence, MayOccur, success_event, failure_event, request_event}
+use Rattle.tc_phases.specs.declared.running.Change.{Change}
+use Rattle.tc_phases.specs.declared.running.Change.TheVariants.{Put, Take, Nothing}
+use Rattle.tc_phases.specs.declared.running.Trigger.{Trigger}
+use Rattle.tc_phases.specs.declared.running.Trigger.TheVariants.{Success, Failure, Request}
+
+-- the bag after the change
+abbrev pub changed : Change → Stock → Stock
+changed (Put tuple) stock = with_tuple stock tuple.now
+changed (Take age) stock = record stock { now = without_age age stock.now }
+changed Nothing stock = stock
+
+-- the event
+abbrev pub event_in : Trigger → Occurrence
+event_in (Success op tuple) = success_event op tuple.now
+event_in (Failure op template) = failure_event op template.now
+event_in (Request op template) = request_event op template.now
+
+-- the table of events allows it
+abbrev pub IsAllowed : Trigger → Type 0
+IsAllowed trigger =
+    MayOccur (event_in trigger).op (event_in trigger).phase (event_in trigger).sign

@@ -1,0 +1,16 @@
+//! One phase of an operation at a tuple centre: what the operation does to the tuples, and then all
+//! reactions to its event.
+//!
+//! The reactions run within a budget. Where they go over it, and where memory ends, the tuples are
+//! as they were before the operation. Nothing here knows of requests that wait, nor of histories.
+#![tactic(auto)]
+
+mod phases;
+mod regime;
+mod running;
+#[cfg(test)]
+mod tests;
+
+pub use phases::{answer, put, request, search};
+pub use regime::Regime;
+pub use tc_lists::NoMemory;
