@@ -8,8 +8,6 @@
 mod phases;
 mod regime;
 mod running;
-#[cfg(test)]
-mod tests;
 
 pub use phases::{answer, put, request, search};
 pub use regime::Regime;
