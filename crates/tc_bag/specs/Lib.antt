@@ -1,4 +1,5 @@
 pub mod Keys
+pub mod Lent
 pub mod Codes
 pub mod Stock
 pub mod Ages

@@ -1,5 +1,5 @@
 //! The bag.
-use crate::key::Key;
+use crate::key::{Key, Lent};
 use crate::log::{discard, unwind};
 use crate::rows::Rows;
 use crate::slots::Mark;
@@ -48,8 +48,10 @@ impl Bag {
     ghost use Rattle.std.specs.Option.{option_copied, option_map};
     ghost use Rattle.tc_lists.specs.Firsts.{NoneOf, IsFirst};
     ghost use Rattle.tc_lists.specs.Marks.{IsBack, IsGivenUp};
-    ghost use Rattle.tc_term.specs.Tree.{IsTuple};
+    ghost use Rattle.tc_term.specs.Tree.{Fits, IsTuple};
     ghost use Rattle.tc_term.specs.TreeView.{tree_of};
+    ghost use Rattle.tc_bag.specs.Keys.{key_of};
+    ghost use Rattle.tc_bag.specs.Lent.{lent_key};
     ghost use Rattle.tc_bag.specs.Stock.{row, tuples_of, Rises, IsCandidate, IsCandidateLike, tuple_at, without_age, with_tuple, saved_of, marked};
 
     /// No tuple and no mark. The first tuple that is put has the age 0.
@@ -98,6 +100,49 @@ impl Bag {
             self.now.now) }
 
         // What a search needs that goes on from the age found.
+        ensures rises { Rises self.now.now self.now.next }
+        ensures limit { self.now.next < 2 ^ 64 }
+        ensures tuples { All (λ r. IsTuple r.tuple) self.now.now }
+    {
+        self.first_candidate(key.lend(), first, from)
+    }
+
+    /// As `candidate_like` with the template's key, which isn't copied.
+    pub fn candidate_for(
+        &self,
+        template: &Term,
+        first: Option<&Term>,
+        from: u64,
+    ) -> Option<(u64, &Ground)>
+        requires { Fits (tree_of template.now) }
+        ensures found { IfSome result (λ r. IsFirst (IsCandidateLike
+            (key_of (tree_of template.now)) (option_map (λ term. tree_of term.now) first.entry) from)
+            self.now.now (row r.0 r.1.now)) }
+        ensures none { IfNone result (NoneOf (IsCandidateLike
+            (key_of (tree_of template.now)) (option_map (λ term. tree_of term.now) first.entry) from)
+            self.now.now) }
+
+        // What a search needs that goes on from the age found.
+        ensures rises { Rises self.now.now self.now.next }
+        ensures limit { self.now.next < 2 ^ 64 }
+        ensures tuples { All (λ r. IsTuple r.tuple) self.now.now }
+    {
+        self.first_candidate(Lent::of(template), first, from)
+    }
+
+    // The same by a key that is lent.
+    fn first_candidate(
+        &self,
+        key: Lent,
+        first: Option<&Term>,
+        from: u64,
+    ) -> Option<(u64, &Ground)>
+        ensures found { IfSome result (λ r. IsFirst (IsCandidateLike
+            (lent_key key.entry) (option_map (λ term. tree_of term.now) first.entry) from)
+            self.now.now (row r.0 r.1.now)) }
+        ensures none { IfNone result (NoneOf (IsCandidateLike
+            (lent_key key.entry) (option_map (λ term. tree_of term.now) first.entry) from)
+            self.now.now) }
         ensures rises { Rises self.now.now self.now.next }
         ensures limit { self.now.next < 2 ^ 64 }
         ensures tuples { All (λ r. IsTuple r.tuple) self.now.now }

@@ -4,9 +4,10 @@ ghost use Rattle.std.specs.List.{fold};
 ghost use Rattle.std.specs.Option.{option_map};
 ghost use Rattle.tc_term.specs.TreeView.{tree_of};
 ghost use Rattle.tc_bag.specs.Keys.{key_of};
+ghost use Rattle.tc_bag.specs.Lent.{lent_key};
 ghost use Rattle.tc_bag.specs.Codes.{mixed, key_code, top_code, first_code, code_like};
 
-use crate::key::Key;
+use crate::key::Lent;
 use tc_term::{Ground, Term};
 
 /// The code of a tuple's key.
@@ -30,8 +31,8 @@ pub(crate) fn first_code(t: &Term) -> Option<u64>
 }
 
 /// The code of the tuples with a key and, where one is given, a first argument.
-pub(crate) fn code_like(key: &Key, first: Option<&Term>) -> u64
-    ensures { result ≡ code_like key.now (option_map (λ term. tree_of term.now) first.entry) }
+pub(crate) fn code_like(key: Lent, first: Option<&Term>) -> u64
+    ensures { result ≡ code_like (lent_key key.entry) (option_map (λ term. tree_of term.now) first.entry) }
 {
     let code = key_code(key);
     match first {
@@ -41,14 +42,14 @@ pub(crate) fn code_like(key: &Key, first: Option<&Term>) -> u64
 }
 
 // The code of a key.
-fn key_code(key: &Key) -> u64
-    ensures { result ≡ key_code key.now }
+fn key_code(key: Lent) -> u64
+    ensures { result ≡ key_code (lent_key key.entry) }
 {
     match key {
-        Key::Any => 0,
-        Key::Int => 1,
-        Key::Atom(name) => mix_all(2, name.bytes()),
-        Key::Comp(name, count) => mix_all(mix(3, u64::from(*count)), name.bytes()),
+        Lent::Any => 0,
+        Lent::Int => 1,
+        Lent::Atom(name) => mix_all(2, name.bytes()),
+        Lent::Comp(name, count) => mix_all(mix(3, u64::from(count)), name.bytes()),
     }
 }
 

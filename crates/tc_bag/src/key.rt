@@ -4,6 +4,7 @@ ghost use Rattle.std.specs.Option.{option_map};
 ghost use Rattle.tc_term.specs.Tree.{Fits};
 ghost use Rattle.tc_term.specs.TreeView.{tree_of};
 ghost use Rattle.tc_bag.specs.Keys.{known_first, HasFirst, IsLike};
+ghost use Rattle.tc_bag.specs.Lent.{lent_key};
 
 use std::alloc::Global;
 use tc_lists::NoMemory;
@@ -41,12 +42,57 @@ impl Key {
     pub fn agrees(&self, tuple: &Ground) -> bool
         ensures { IsTrue result ↔ Agrees self.now tuple.now }
     {
+        self.lend().agrees(tuple)
+    }
+
+    /// The key, lent.
+    pub(crate) fn lend(&self) -> Lent
+        ensures { lent_key result ≡ self.now }
+    {
+        match self {
+            Key::Any => Lent::Any,
+            Key::Int => Lent::Int,
+            Key::Atom(name) => Lent::Atom(name),
+            Key::Comp(name, count) => Lent::Comp(name, *count),
+        }
+    }
+}
+
+/// A key whose name is lent.
+#[derive(Clone, Copy)]
+pub(crate) enum Lent<'n> {
+    Any,
+    Int,
+    Atom(&'n Name),
+    Comp(&'n Name, u32),
+}
+
+impl<'n> Lent<'n> {
+    ghost use Rattle.tc_bag.specs.Keys.{key_of, Agrees};
+
+    /// The key of a term.
+    pub(crate) fn of(t: &'n Term) -> Lent<'n>
+        requires { Fits (tree_of t.now) }
+        ensures { lent_key result ≡ key_of (tree_of t.now) }
+    {
+        match t {
+            Term::Var(_) => Lent::Any,
+            Term::Int(_) => Lent::Int,
+            Term::Atom(name) => Lent::Atom(name),
+            Term::Comp(name, args) => Lent::Comp(name, args.items().len() as u32),
+        }
+    }
+
+    /// Whether a tuple has this key, or the key is `Any`.
+    fn agrees(self, tuple: &Ground) -> bool
+        ensures { IsTrue result ↔ Agrees (lent_key self.entry) tuple.now }
+    {
         match (self, tuple.term()) {
-            (Key::Any, _) => true,
-            (Key::Int, Term::Int(_)) => true,
-            (Key::Atom(name), Term::Atom(other)) => name == other,
-            (Key::Comp(name, count), Term::Comp(other, args)) => {
-                args.items().len() == *count as usize && name == other
+            (Lent::Any, _) => true,
+            (Lent::Int, Term::Int(_)) => true,
+            (Lent::Atom(name), Term::Atom(other)) => *name == *other,
+            (Lent::Comp(name, count), Term::Comp(other, args)) => {
+                args.items().len() == count as usize && *name == *other
             }
             _ => false,
         }
@@ -65,9 +111,9 @@ pub fn known_first(t: &Term) -> Option<&Term>
 }
 
 /// Whether a tuple has this key and, where one is given, this first argument.
-pub(crate) fn is_like(key: &Key, first: Option<&Term>, tuple: &Ground) -> bool
+pub(crate) fn is_like(key: Lent, first: Option<&Term>, tuple: &Ground) -> bool
     ensures { IsTrue result
-        ↔ IsLike key.now (option_map (λ term. tree_of term.now) first.entry) tuple.now }
+        ↔ IsLike (lent_key key.entry) (option_map (λ term. tree_of term.now) first.entry) tuple.now }
 {
     key.agrees(tuple) && has_first(first, tuple.term())
 }

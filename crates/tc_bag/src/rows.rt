@@ -6,7 +6,7 @@ ghost use Rattle.tc_bag.specs.Held.{slots_of, IsEntered};
 
 use crate::codes::code_like;
 use crate::index::Index;
-use crate::key::{Key, is_like};
+use crate::key::{Lent, is_like};
 use crate::slots::Held;
 use std::alloc::Global;
 use std::collections::BTreeMap;
@@ -50,6 +50,7 @@ impl Rows {
     ghost use Rattle.tc_term.specs.Tree.{Tree};
     ghost use Rattle.tc_term.specs.TreeView.{tree_of};
     ghost use Rattle.tc_bag.specs.Keys.{IsLike};
+    ghost use Rattle.tc_bag.specs.Lent.{lent_key};
     ghost use Rattle.tc_bag.specs.Codes.{code_like};
     ghost use Rattle.tc_bag.specs.Slots.{Slot, slot, InOrder, IsThereLike, is_there, IsYoungest, is_older, is_not_of, stays, taken_at, revived_at, with_taken, tuple_there, tuples_there};
 
@@ -102,17 +103,17 @@ impl Rows {
     /// first argument, where one is given.
     pub(crate) fn first_like(
         &self,
-        key: &Key,
+        key: Lent,
         first: Option<&Term>,
         from: u64,
     ) -> Option<(u64, &Ground)>
         requires order { InOrder self.now }
         requires limit { All (λ s. s.age < 2 ^ 64) self.now }
         ensures found { IfSome result (λ r. IsFirst
-            (IsThereLike key.now (option_map (λ term. tree_of term.now) first.entry) from)
+            (IsThereLike (lent_key key.entry) (option_map (λ term. tree_of term.now) first.entry) from)
             self.now (slot r.0 r.1.now)) }
         ensures none { IfNone result (NoneOf
-            (IsThereLike key.now (option_map (λ term. tree_of term.now) first.entry) from)
+            (IsThereLike (lent_key key.entry) (option_map (λ term. tree_of term.now) first.entry) from)
             self.now) }
     {
         let code = code_like(key, first);
@@ -131,11 +132,11 @@ impl Rows {
 
     // The tuple of this age, where its row is there, agrees with the key and has this first
     // argument, where one is given.
-    fn like_at(&self, age: u64, key: &Key, first: Option<&Term>) -> Option<&Ground>
+    fn like_at(&self, age: u64, key: Lent, first: Option<&Term>) -> Option<&Ground>
         ensures found { IfSome result (λ t. (tuple_there age self.now ≡ Some t.now)
-            × IsLike key.now (option_map (λ term. tree_of term.now) first.entry) t.now) }
+            × IsLike (lent_key key.entry) (option_map (λ term. tree_of term.now) first.entry) t.now) }
         ensures none { IfNone result ((t : Tree) → tuple_there age self.now ≡ Some t
-            → IsLike key.now (option_map (λ term. tree_of term.now) first.entry) t → ⊥) }
+            → IsLike (lent_key key.entry) (option_map (λ term. tree_of term.now) first.entry) t → ⊥) }
     {
         let tuple = self.get(age)?;
         if is_like(key, first, tuple) {
@@ -147,19 +148,19 @@ impl Rows {
 
     // The least age from `from` on that the index has for a key, by the code of the key and of what
     // else is asked; where the key is any, that of a row.
-    fn next_age(&self, key: &Key, code: u64, from: u64) -> Option<u64>
+    fn next_age(&self, key: Lent, code: u64, from: u64) -> Option<u64>
         requires order { InOrder self.now }
         ensures found { IfSome result (λ age. (from ≤ age) × ((first : Option Tree)
-            → code ≡ code_like key.now first
-            → All (λ s. from ≤ s.age → s.age < age → IsThereLike key.now first from s → ⊥) self.now)) }
-        ensures none { IfNone result ((first : Option Tree) → code ≡ code_like key.now first
-            → All (λ s. from ≤ s.age → IsThereLike key.now first from s → ⊥) self.now) }
+            → code ≡ code_like (lent_key key.entry) first
+            → All (λ s. from ≤ s.age → s.age < age → IsThereLike (lent_key key.entry) first from s → ⊥) self.now)) }
+        ensures none { IfNone result ((first : Option Tree) → code ≡ code_like (lent_key key.entry) first
+            → All (λ s. from ≤ s.age → IsThereLike (lent_key key.entry) first from s → ⊥) self.now) }
     {
         if !self.whole {
             return self.oldest_from(from);
         }
         match key {
-            Key::Any => self.oldest_from(from),
+            Lent::Any => self.oldest_from(from),
             _ => self.index.next(code, from),
         }
     }

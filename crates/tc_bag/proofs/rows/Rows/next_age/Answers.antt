@@ -1,12 +1,21 @@
-use Rattle.std.proofs.Common.{◌≡◌, ◌≤◌, ◌<◌, ℕ, IsTrue, List, IfSome, IfNone, Option, All, get_or, sym, subst}
+use Rattle.std.proofs.Common.{◌≡◌, ◌≤◌, ◌<◌, ℕ, IsTrue, List, IfSome, IfNone, Option, All, get_or, refl, sym, subst}
 use Rattle.tc_term.specs.Tree.{Tree}
 use Rattle.tc_bag.specs.Ages.{Has}
 use Rattle.tc_bag.specs.Codes.{code_like}
 use Rattle.tc_bag.specs.declared.key.Key.{Key}
+use Rattle.tc_bag.specs.declared.key.Lent.{Lent}
 use Rattle.tc_bag.specs.Held.{slots_of}
 use Rattle.tc_bag.specs.Slots.{Slot, IsThereLike, is_there}
 use Rattle.tc_bag.proofs.Searching.{like_has, IfSome-weaker, IfNone-weaker}
+use Rattle.tc_bag.specs.Lent.{lent_key}
 use Rattle.tc_bag.proofs.rows.Rows.next_age.Goals as goal
+
+-- a key that is lent and isn't any
+not_any : (key : Lent) → (key ≡ Lent.Any → ⊥) → lent_key key ≡ Key.Any → ⊥
+not_any Lent.Any other same = other refl
+not_any Lent.Int other same = absurd (cc)
+not_any (Lent.Atom name) other same = absurd (cc)
+not_any (Lent.Comp name count) other same = absurd (cc)
 
 -- what a search by rows tells of those that are asked for
 module _ (key : Key) (code from : ℕ) (ss : List Slot) (result : Option ℕ) where
@@ -26,15 +35,15 @@ module _ (key : Key) (code from : ℕ) (ss : List Slot) (result : Option ℕ) wh
       result (λ has first same k d inside up like. has k d inside up like.0)
 
 pub returns-in-Any-clause-found : goal.returns-in-Any-clause-found
-returns-in-Any-clause-found c = found_of c.args.key.now c.args.code c.args.from c.args.self.now c.oldest_from-in-Any.result c.oldest_from-in-Any.ensures.found
+returns-in-Any-clause-found c = found_of (lent_key c.args.key) c.args.code c.args.from c.args.self.now c.oldest_from-in-Any.result c.oldest_from-in-Any.ensures.found
 
 pub returns-in-Any-clause-none : goal.returns-in-Any-clause-none
-returns-in-Any-clause-none c = none_of c.args.key.now c.args.code c.args.from c.args.self.now c.oldest_from-in-Any.result c.oldest_from-in-Any.ensures.none
+returns-in-Any-clause-none c = none_of (lent_key c.args.key) c.args.code c.args.from c.args.self.now c.oldest_from-in-Any.result c.oldest_from-in-Any.ensures.none
 
 pub returns-in_default : goal.returns-in_default
 returns-in_default c =
     let from = c.args.from in
-    let key = c.args.key.now in
+    let key = lent_key c.args.key in
     let own = c.self.inside in
     let es = slots_of own.held.entries in
     let missed : (first : Option Tree) → c.args.code ≡ code_like key first
@@ -42,7 +51,7 @@ returns-in_default c =
     λ first same k d inside like.
         let s = get_or es k d in
         subst (λ code. Has own.index code s.age) (sym same)
-        (like_has own.index key first s c.in_default.not-Any ((c.self.invariant k d inside like.0).1 c.if-not-self.false) like.2) in
+        (like_has own.index key first s (not_any c.args.key c.in_default.not-Any) ((c.self.invariant k d inside like.0).1 c.if-not-self.false) like.2) in
     record {
       found =
           IfSome-weaker (λ (age : ℕ). (from ≤ age) × ((a : ℕ) → from ≤ a → a < age → Has own.index c.args.code a → ⊥))

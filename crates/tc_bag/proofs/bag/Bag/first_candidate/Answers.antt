@@ -1,0 +1,43 @@
+use Rattle.std.proofs.Common.{All, subst}
+use Rattle.std.specs.Option.{option_map}
+use Rattle.tc_lists.specs.Firsts.{NoneOf, IsFirst}
+use Rattle.tc_term.specs.Tree.{IsTuple}
+use Rattle.tc_term.specs.TreeView.{tree_of}
+use Rattle.tc_bag.specs.Stock.{Stock, row, Rises, IsCandidateLike}
+use Rattle.tc_bag.specs.Slots.{IsThereLike}
+use Rattle.tc_bag.specs.Lent.{lent_key}
+use Rattle.std.proofs.Common.{vec_capacity}
+use Rattle.tc_bag.proofs.Searching.{IfSome-weaker, IfNone-weaker}
+use Rattle.tc_bag.proofs.Stocks.{sound-rises, sound-tuples, first-like, none-like}
+use Rattle.tc_bag.proofs.bag.Bag.first_candidate.Goals as goal
+
+pub returns-clause-found : goal.returns-clause-found
+returns-clause-found c =
+    let first = option_map (λ term. tree_of term.now) c.args.first in
+    let key = lent_key c.args.key in
+    let from = c.args.from in
+    IfSome-weaker _ _ c.first_like.result
+    (λ r found. subst (λ (stock : Stock). IsFirst (IsCandidateLike key first from) stock.now (row r.0 r.1.now)) c.self.view_is
+    (first-like key first from c.self.inside.rows r.0 r.1.now found)) c.first_like.ensures.found
+
+pub returns-clause-none : goal.returns-clause-none
+returns-clause-none c =
+    let first = option_map (λ term. tree_of term.now) c.args.first in
+    let key = lent_key c.args.key in
+    let from = c.args.from in
+    IfNone-weaker (NoneOf (IsThereLike key first from) c.self.inside.rows)
+    (NoneOf (IsCandidateLike key first from) c.args.self.now.now) c.first_like.result
+    (λ none. subst (λ (stock : Stock). NoneOf (IsCandidateLike key first from) stock.now) c.self.view_is
+    (none-like key first from c.self.inside.rows none)) c.first_like.ensures.none
+
+pub returns-clause-rises : goal.returns-clause-rises
+returns-clause-rises c =
+    let b = c.self.inside in
+    subst (λ (stock : Stock). Rises stock.now stock.next) c.self.view_is
+    (sound-rises b.rows b.next b.log.items (vec_capacity b.log) b.marks.items c.self.invariant)
+
+pub returns-clause-tuples : goal.returns-clause-tuples
+returns-clause-tuples c =
+    let b = c.self.inside in
+    subst (λ (stock : Stock). All (λ r. IsTuple r.tuple) stock.now) c.self.view_is
+    (sound-tuples b.rows b.next b.log.items (vec_capacity b.log) b.marks.items c.self.invariant)
