@@ -191,3 +191,127 @@ fn the_next_age_goes_back_too(rt: HostRuntime) -> Result<(), Fail> {
     assert!(rt; bag.candidate(&Key::Any, 0).is_some_and(|row| row.0 == 0));
     holds(&rt, alloc, &bag, &[1])
 }
+
+// Puts a tuple, where an age is left.
+fn add(bag: &mut Bag, tuple: Ground) -> Result<(), Fail> {
+    let _next = bag.next_age().checked_add(1).ok_or("an age is left")?;
+    bag.add(tuple)?;
+    Ok(())
+}
+
+// Puts the tuple `p(n)` so many times.
+fn add_many(alloc: Global, bag: &mut Bag, n: i64, count: u32) -> Result<(), Fail> {
+    for _ in 0..count {
+        add(bag, p(alloc, n)?)?;
+    }
+    Ok(())
+}
+
+// Takes the oldest tuples of a key, at most so many, and tells how many there were.
+fn take_oldest(bag: &mut Bag, key: &Key, count: u32) -> u32 {
+    let mut taken = 0u32;
+    for _ in 0..count {
+        let Some(age) = bag.candidate(key, 0).map(|row| row.0) else {
+            return taken;
+        };
+        bag.take(age);
+        taken = taken.saturating_add(1);
+    }
+    taken
+}
+
+#[test]
+fn many_are_taken_under_one_mark(rt: HostRuntime) -> Result<(), Fail> {
+    let alloc = rt.alloc();
+    let count = 100_000;
+    let mut bag = Bag::new(alloc);
+    add_many(alloc, &mut bag, 1, count)?;
+    let key = Key::Comp(Name::new(alloc, b"p")?, 1);
+    for asked in [&key, &Key::Any] {
+        bag.mark()?;
+        assert_eq!(rt; take_oldest(&mut bag, asked, count), count, "{asked:?}");
+        assert!(rt; bag.candidate(asked, 0).is_none());
+        bag.undo();
+        assert!(rt; bag.candidate(asked, 0).is_some_and(|row| row.0 == 0));
+        assert_eq!(rt; bag.len(), count as usize);
+    }
+    bag.mark()?;
+    assert_eq!(rt; take_oldest(&mut bag, &key, count - 1), count - 1);
+    bag.keep();
+    assert!(rt; bag.candidate(&Key::Any, 0).is_some_and(|row| row.0 == u64::from(count) - 1));
+    assert_eq!(rt; bag.len(), 1);
+    Ok(())
+}
+
+// The tuple `q(first)`.
+fn q(alloc: Global, first: Term) -> Result<Ground, Fail> {
+    let args = Args::new(vec![in alloc; first]?);
+    let term = Term::Comp(Name::new(alloc, b"q")?, args);
+    Ok(Ground::of(term).ok().ok_or("q of a tuple is one")?)
+}
+
+// The age of the oldest tuple `q(first)`.
+fn age_of(alloc: Global, bag: &Bag, first: &Term) -> Result<Option<u64>, Fail> {
+    let key = Key::Comp(Name::new(alloc, b"q")?, 1);
+    Ok(bag.candidate_like(&key, Some(first), 0).map(|row| row.0))
+}
+
+#[test]
+fn first_arguments_of_one_code_are_told_apart(rt: HostRuntime) -> Result<(), Fail> {
+    let alloc = rt.alloc();
+    let mut bag = Bag::new(alloc);
+    for n in 0..1_000 {
+        let one = p(alloc, n)?;
+        add(&mut bag, q(alloc, one.term().copy(alloc)?)?)?;
+    }
+    for flipped in [false, true] {
+        add(&mut bag, q(alloc, Term::Atom(word(alloc, flipped)?))?)?;
+    }
+    let first = p(alloc, 999)?;
+    assert!(rt; age_of(alloc, &bag, first.term())? == Some(999));
+    bag.take(999);
+    assert!(rt; age_of(alloc, &bag, first.term())?.is_none());
+    let other = Term::Atom(word(alloc, true)?);
+    assert!(rt; age_of(alloc, &bag, &other)? == Some(1_001));
+    bag.take(1_001);
+    assert!(rt; age_of(alloc, &bag, &other)?.is_none());
+    Ok(())
+}
+
+// The term `w(0,..,0,last)` of so many arguments.
+fn wide(alloc: Global, count: u32, last: i64) -> Result<Term, Fail> {
+    let mut args = Vec::new(alloc);
+    for _ in 1..count {
+        args.push(Term::Int(0))?;
+    }
+    args.push(Term::Int(last))?;
+    Ok(Term::Comp(Name::new(alloc, b"w")?, Args::new(args)))
+}
+
+#[test]
+fn first_arguments_may_be_as_large_as_tuples(rt: HostRuntime) -> Result<(), Fail> {
+    let alloc = rt.alloc();
+    let mut bag = Bag::new(alloc);
+    for last in 0..100 {
+        add(&mut bag, q(alloc, wide(alloc, 9_998, last)?)?)?;
+    }
+    assert!(rt; age_of(alloc, &bag, &wide(alloc, 9_998, 99)?)? == Some(99));
+    assert!(rt; age_of(alloc, &bag, &wide(alloc, 9_998, 100)?)?.is_none());
+    assert!(rt; age_of(alloc, &bag, &wide(alloc, 9_997, 99)?)?.is_none());
+    Ok(())
+}
+
+#[test]
+fn a_template_lends_its_key(rt: HostRuntime) -> Result<(), Fail> {
+    let alloc = rt.alloc();
+    let mut bag = Bag::new(alloc);
+    bag.add(atom(alloc, b"p")?)?;
+    bag.add(p(alloc, 1)?)?;
+    bag.add(p(alloc, 2)?)?;
+    let tuple = p(alloc, 2)?;
+    let found = bag.candidate_for(tuple.term(), None, 0);
+    assert!(rt; found.is_some_and(|row| row.0 == 1));
+    let found = bag.candidate_for(tuple.term(), Some(&Term::Int(2)), 0);
+    assert!(rt; found.is_some_and(|row| row.0 == 2));
+    Ok(())
+}

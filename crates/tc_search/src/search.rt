@@ -55,9 +55,9 @@ pub fn oldest_match<'a>(
 
 /// The oldest tuple that the template matches, with its age.
 ///
-/// It takes memory for the key, and none for the tuples, however many are tried.
+/// It takes no memory, however many tuples are tried.
 pub fn oldest_match_of<'a>(
-    alloc: Global,
+    _alloc: Global,
     template: &Pattern,
     bag: &'a Bag,
 ) -> Result<Option<(u64, &'a Ground)>, NoMemory>
@@ -66,21 +66,20 @@ pub fn oldest_match_of<'a>(
     ensures none { IfOk result (λ found. IfNone found
         (NoneOf (Matches (var_bound template.now) [] template.now) (tuples_of bag.now.now))) }
 {
-    let key = Key::of(alloc, template.term())?;
-    Ok(first_match(template, &key, bag))
+    Ok(first_match(template, bag))
 }
 
-// The same by the template's key, without memory.
-fn first_match<'a>(template: &Pattern, key: &Key, bag: &'a Bag) -> Option<(u64, &'a Ground)>
-    requires { key.now ≡ key_of template.now }
+// The same, which can't fail.
+fn first_match<'a>(template: &Pattern, bag: &'a Bag) -> Option<(u64, &'a Ground)>
     ensures found { IfSome result
         (λ m. IsFound (var_bound template.now) [] template.now bag.now.now m.0 m.1.now) }
     ensures none { IfNone result
         (NoneOf (Matches (var_bound template.now) [] template.now) (tuples_of bag.now.now)) }
 {
-    let first = known_first(template.term());
+    let term = template.term();
+    let first = known_first(term);
     let mut start = 0;
-    while let Some((age, tuple)) = bag.candidate_like(key, first, start) {
+    while let Some((age, tuple)) = bag.candidate_for(term, first, start) {
         if does_match(template, tuple) {
             return Some((age, tuple));
         }

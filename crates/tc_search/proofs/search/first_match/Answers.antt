@@ -25,9 +25,9 @@ returns-then-does_match-clause-found c =
     let template = c.args.template.now in
     let rows = c.args.bag.now.now in
     let row : Row = record { age = c.in-Some.age; tuple = c.in-Some.tuple.now } in
-    found_row (var_bound template) [] template (IsLike c.args.key.now (seen c.known_first-first.result)) c.loop-age.start c.args.bag.now.next rows row
+    found_row (var_bound template) [] template (IsLike (key_of (tree_of c.term-term.result.now)) (seen c.known_first-first.result)) c.loop-age.start c.args.bag.now.next rows row
     c.in-Some.ensures.rises
-    (likes template (tree_of c.term.result.now) c.args.key.now c.known_first-first.result rows c.requires c.term.ensures.term c.known_first-first.ensures c.in-Some.ensures.tuples)
+    (likes template (tree_of c.term-term.result.now) (key_of (tree_of c.term-term.result.now)) c.known_first-first.result rows (ap key_of c.term-term.ensures.term) c.term-term.ensures.term c.known_first-first.ensures c.in-Some.ensures.tuples)
     c.loop-age.invariant c.in-Some.ensures.found (c.does_match.ensures.0 c.if-does_match.true)
 
 pub loop-age-preserved : goal.loop-age-preserved
@@ -35,9 +35,9 @@ loop-age-preserved c =
     let template = c.args.template.now in
     let rows = c.args.bag.now.now in
     let row : Row = record { age = c.in-Some.age; tuple = c.in-Some.tuple.now } in
-    passed_more (Matches (var_bound template) [] template) (IsLike c.args.key.now (seen c.known_first-first.result)) c.loop-age.start
+    passed_more (Matches (var_bound template) [] template) (IsLike (key_of (tree_of c.term-term.result.now)) (seen c.known_first-first.result)) c.loop-age.start
     c.args.bag.now.next rows row c.in-Some.ensures.rises
-    (likes template (tree_of c.term.result.now) c.args.key.now c.known_first-first.result rows c.requires c.term.ensures.term c.known_first-first.ensures c.in-Some.ensures.tuples)
+    (likes template (tree_of c.term-term.result.now) (key_of (tree_of c.term-term.result.now)) c.known_first-first.result rows (ap key_of c.term-term.ensures.term) c.term-term.ensures.term c.known_first-first.ensures c.in-Some.ensures.tuples)
     c.loop-age.invariant c.in-Some.ensures.found
     (λ match. unlike c.does_match.result c.if-does_match.false (c.does_match.ensures.1 match))
   where
@@ -48,7 +48,7 @@ loop-age-preserved c =
 -- the candidate's age
 below : (c : goal.Else-does_match) → c.in-Some.age < c.args.bag.now.next
 below c =
-    candidate_below (IsLike c.args.key.now (seen c.known_first-first.result)) c.loop-age.start c.args.bag.now.next c.args.bag.now.now
+    candidate_below (IsLike (key_of (tree_of c.term-term.result.now)) (seen c.known_first-first.result)) c.loop-age.start c.args.bag.now.next c.args.bag.now.now
     (record { age = c.in-Some.age; tuple = c.in-Some.tuple.now }) c.in-Some.ensures.rises c.in-Some.ensures.found
 
 pub overflow_add-start : goal.overflow_add-start
@@ -61,6 +61,6 @@ pub returns-clause-none : goal.returns-clause-none
 returns-clause-none c =
     let template = c.args.template.now in
     let rows = c.args.bag.now.now in
-    passed_all (Matches (var_bound template) [] template) (IsLike c.args.key.now (seen c.known_first-first.result)) c.loop-age.start rows
-    (likes template (tree_of c.term.result.now) c.args.key.now c.known_first-first.result rows c.requires c.term.ensures.term c.known_first-first.ensures c.in_default.ensures.tuples)
+    passed_all (Matches (var_bound template) [] template) (IsLike (key_of (tree_of c.term-term.result.now)) (seen c.known_first-first.result)) c.loop-age.start rows
+    (likes template (tree_of c.term-term.result.now) (key_of (tree_of c.term-term.result.now)) c.known_first-first.result rows (ap key_of c.term-term.ensures.term) c.term-term.ensures.term c.known_first-first.ensures c.in_default.ensures.tuples)
     c.loop-age.invariant c.in_default.ensures.none
