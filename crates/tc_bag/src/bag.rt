@@ -131,12 +131,7 @@ impl Bag {
     }
 
     // The same by a key that is lent.
-    fn first_candidate(
-        &self,
-        key: Lent,
-        first: Option<&Term>,
-        from: u64,
-    ) -> Option<(u64, &Ground)>
+    fn first_candidate(&self, key: Lent, first: Option<&Term>, from: u64) -> Option<(u64, &Ground)>
         ensures found { IfSome result (λ r. IsFirst (IsCandidateLike
             (lent_key key.entry) (option_map (λ term. tree_of term.now) first.entry) from)
             self.now.now (row r.0 r.1.now)) }

@@ -220,26 +220,31 @@ fn take_oldest(bag: &mut Bag, key: &Key, count: u32) -> u32 {
     taken
 }
 
+// The oldest tuple of a key has this age.
+fn oldest_is(bag: &Bag, key: &Key, age: u64) -> bool {
+    bag.candidate(key, 0).is_some_and(|row| row.0 == age)
+}
+
 #[test]
 fn many_are_taken_under_one_mark(rt: HostRuntime) -> Result<(), Fail> {
     let alloc = rt.alloc();
-    let count = 100_000;
+    let (count, few) = (100_000, 10_000);
     let mut bag = Bag::new(alloc);
     add_many(alloc, &mut bag, 1, count)?;
     let key = Key::Comp(Name::new(alloc, b"p")?, 1);
     for asked in [&key, &Key::Any] {
         bag.mark()?;
-        assert_eq!(rt; take_oldest(&mut bag, asked, count), count, "{asked:?}");
-        assert!(rt; bag.candidate(asked, 0).is_none());
+        assert_eq!(rt; take_oldest(&mut bag, asked, few), few, "{asked:?}");
+        assert!(rt; oldest_is(&bag, asked, u64::from(few)));
         bag.undo();
-        assert!(rt; bag.candidate(asked, 0).is_some_and(|row| row.0 == 0));
+        assert!(rt; oldest_is(&bag, asked, 0));
         assert_eq!(rt; bag.len(), count as usize);
     }
     bag.mark()?;
-    assert_eq!(rt; take_oldest(&mut bag, &key, count - 1), count - 1);
+    assert_eq!(rt; take_oldest(&mut bag, &key, few), few);
     bag.keep();
-    assert!(rt; bag.candidate(&Key::Any, 0).is_some_and(|row| row.0 == u64::from(count) - 1));
-    assert_eq!(rt; bag.len(), 1);
+    assert!(rt; oldest_is(&bag, &Key::Any, u64::from(few)));
+    assert_eq!(rt; bag.len(), 90_000);
     Ok(())
 }
 

@@ -47,11 +47,11 @@ returns-in_default c =
     let own = c.self.inside in
     let es = slots_of own.held.entries in
     let missed : (first : Option Tree) → c.args.code ≡ code_like key first
-        → All (λ (s : Slot). IsThereLike key first from s → Has own.index c.args.code s.age) es =
+    → All (λ (s : Slot). IsThereLike key first from s → Has own.index c.args.code s.age) es =
     λ first same k d inside like.
-        let s = get_or es k d in
-        subst (λ code. Has own.index code s.age) (sym same)
-        (like_has own.index key first s (not_any c.args.key c.in_default.not-Any) ((c.self.invariant k d inside like.0).1 c.if-not-self.false) like.2) in
+    let s = get_or es k d in
+    subst (λ code. Has own.index code s.age) (sym same)
+    (like_has own.index key first s (not_any c.args.key c.in_default.not-Any) ((c.self.invariant k d inside like.0).1 c.if-not-self.false) like.2) in
     record {
       found =
           IfSome-weaker (λ (age : ℕ). (from ≤ age) × ((a : ℕ) → from ≤ a → a < age → Has own.index c.args.code a → ⊥))

@@ -12,7 +12,7 @@ invariant_of-self c =
     let ss = slots_of own.held.entries in
     let new = slots_of c.set_taken.new.held.entries in
     let Finds : Inside → Type 0 = λ i. new ≡ map (with_taken c.args.age c.args.n) (slots_of i.held.entries)
-        → All (IsFindable i.start i.whole i.index) new in
+    → All (IsFindable i.start i.whole i.index) new in
     elim c.match-get.branch [
       | in-Some w ↦
           subst Finds (sym w.self-inside-is)

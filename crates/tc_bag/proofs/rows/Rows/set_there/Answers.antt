@@ -15,7 +15,7 @@ invariant_of-self c =
     let order : InOrder (slots_of es) = subst InOrder (sym c.self.view_is) c.requires.order in
     let new = slots_of c.set_taken.new.held.entries in
     let Finds : Inside → Type 0 = λ i. new ≡ map (with_taken age 0) (slots_of i.held.entries)
-        → All (IsFindable i.start i.whole i.index) new in
+    → All (IsFindable i.start i.whole i.index) new in
     elim c.match-get.branch [
       | in-Some w ↦
           let h = w.in-Some.held.now in
