@@ -147,13 +147,15 @@ impl Rows {
     }
 
     // The least age from `from` on that the index has for a key, by the code of the key and of what
-    // else is asked; where the key is any, that of a row.
+    // else is asked; that of a row where the key is any or the index isn't whole.
     fn next_age(&self, key: Lent, code: u64, from: u64) -> Option<u64>
         requires order { InOrder self.now }
         ensures found { IfSome result (λ age. (from ≤ age) × ((first : Option Tree)
             → code ≡ code_like (lent_key key.entry) first
-            → All (λ s. from ≤ s.age → s.age < age → IsThereLike (lent_key key.entry) first from s → ⊥) self.now)) }
-        ensures none { IfNone result ((first : Option Tree) → code ≡ code_like (lent_key key.entry) first
+            → All (λ s. from ≤ s.age → s.age < age
+            → IsThereLike (lent_key key.entry) first from s → ⊥) self.now)) }
+        ensures none { IfNone result ((first : Option Tree)
+            → code ≡ code_like (lent_key key.entry) first
             → All (λ s. from ≤ s.age → IsThereLike (lent_key key.entry) first from s → ⊥) self.now) }
     {
         if !self.whole {
