@@ -4,6 +4,7 @@ use Rattle.std.proofs.lemmas.List.Sums.{sum_by-append}
 use Rattle.tc_bag.specs.Stock.{Row}
 use Rattle.tc_model.specs.Choices.{TheFirst}
 use Rattle.tc_model.specs.Entries.{weight_of, weight}
+use Rattle.tc_model.specs.Reactions.{Rule}
 use Rattle.tc_model.specs.Run.{IsLegal}
 use Rattle.tc_model.specs.State.{State, Origin, opening, after_entry, after_history}
 use Rattle.tc_model.specs.declared.calls.Request.{Request}
@@ -15,20 +16,22 @@ pub weight-push : (history : List Entry) (e : Entry) → weight (history ++ e �
 weight-push history e =
     sum_by-append weight_of history (e ∷ []) ∙ ap (λ w. weight history + w) (omega arith)
 
-pub held-push : (origin : Origin) (history : List Entry) (rows new : List Row) (n m : ℕ) (requests others : List Request) (e : Entry)
-    → IsHeld origin history rows n requests
-    → IsLegal TheFirst origin history (held rows requests) e
-    → held new others ≡ after_entry e (held rows requests)
+pub held-push : (origin : Origin) (history : List Entry) (clauses kept : List Rule) (rows new : List Row) (n m : ℕ)
+    (requests others : List Request) (e : Entry)
+    → IsHeld origin history clauses rows n requests
+    → IsLegal TheFirst origin history (held clauses rows requests) e
+    → held kept new others ≡ after_entry e (held clauses rows requests)
     → weight history + weight_of e + length others * (origin.budget + 1) ≤ 4000000
-    → m ≤ n + 1 → 1 ≤ weight_of e
-    → IsHeld origin (history ++ e ∷ []) new m others
-held-push origin history rows new n m requests others e h legal leads light next heavy =
+    → m ≤ n + 65 * weight_of e
+    → IsHeld origin (history ++ e ∷ []) kept new m others
+held-push origin history clauses kept rows new n m requests others e h legal leads light next =
     let s : State = after_history (opening origin) history in
     let pushed = weight-push history e in
     record {
+      origin_is = h.origin_is;
       run = EachEntry-push (IsLegal TheFirst origin) (opening origin) history e h.run
           (subst (λ t. IsLegal TheFirst origin history t e) h.state legal);
       state = leads ∙ ap (after_entry e) h.state ∙ sym (after_history-push (opening origin) history e);
       light = subst (λ w. w + length others * (origin.budget + 1) ≤ 4000000) (sym pushed) light;
-      ages = omega (arith, h.ages, next, heavy, pushed);
+      ages = omega (arith, h.ages, next, pushed);
     }

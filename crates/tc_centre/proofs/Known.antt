@@ -1,17 +1,15 @@
 -- What is known of requests and tuples, in the steps of a turn.
-use Rattle.std.proofs.Common.{◌≡◌, ◌<◌, ◌≤◌, ◌++◌, ◌+◌, ℕ, Bool, true, false, zero, suc, ◌==◌, cond, List, [], ◌∷◌, Contains, length, take, get_or, map, refl, sym, ap, subst, ◌∙◌, ⊎_elim, arith}
+use Rattle.std.proofs.Common.{◌≡◌, ◌<◌, ◌≤◌, ◌++◌, ℕ, List, [], ◌∷◌, Contains, length, take, get_or, map, refl, sym, ap, subst, ◌∙◌, arith}
 use Rattle.std.proofs.lemmas.List.{get_or-map, length-map, length-take, take_at}
-use Rattle.std.proofs.lemmas.List.Elements.{Contains-push_cases}
 use Rattle.tc_lists.specs.Firsts.{NoneOf}
 use Rattle.tc_term.specs.Tree.{Tree}
-use Rattle.tc_bag.specs.Stock.{AddsNone, Row, row, tuples_of, without_age}
-use Rattle.tc_bag.proofs.Additions.{without-none}
+use Rattle.tc_bag.specs.Stock.{Row, tuples_of}
 use Rattle.tc_pending.specs.Answers.{IsKnown}
 use Rattle.tc_model.specs.State.{IsAnswerable, IsQuiescent}
 use Rattle.tc_model.specs.declared.calls.Request.{Request}
-use Rattle.tc_centre.specs.Held.{KeepsOld, Knows, known_of, state_held}
+use Rattle.tc_centre.specs.Held.{KeepsRows, KeepsOld, Knows, known_of, state_held}
 use Rattle.tc_centre.specs.declared.holdings.Holdings.{Holdings}
-use Rattle.tc_centre.proofs.Removals.{rows_left}
+use Rattle.tc_pending.specs.declared.answering.Known.{Known}
 
 contains-tuple : (rows : List Row) (r : Row) → Contains rows r → Contains (tuples_of rows) r.tuple
 contains-tuple rows r there =
@@ -23,24 +21,22 @@ contains-tuple rows r there =
 
 -- where no request could be answered, what was there is known behind a call
 pub known-still : (old new : Holdings) → IsQuiescent (state_held old) → KeepsOld old new → Knows (known_of old) new
-known-still old new quiet kept = (
-  λ q r stands there older match.
+known-still old new quiet kept = record {
+  none = λ q r stands there older match.
       quiet q (subst (λ rs. Contains rs q) kept.requests stands) (record {
         tuple = r.tuple;
-        stands = contains-tuple old.bag.now r (kept.rows r there older);
+        stands = contains-tuple old.bag.now r (kept.rows.rows r there older);
         matches = match;
-      }),
-  omega (arith, ap length kept.requests, length-take (length old.pending.now) new.pending.now),
-)
+      });
+  requests = omega (arith, ap length kept.requests, length-take (length old.pending.now) new.pending.now);
+  age = kept.rows.next;
+}
 
--- the rows that are left, and those with a younger one
-pub left-none : (takes : Bool) (age : ℕ) (rows : List Row) (r : Row) → Contains (rows_left takes age rows) r → Contains rows r
-left-none true age rows r there = without-none age rows r there
-left-none false age rows r there = there
-
-pub left-adds-none : (takes : Bool) (age next : ℕ) (rows new : List Row) → new ≡ rows_left takes age rows → AddsNone next rows new
-left-adds-none takes age next rows new is r there older =
-    left-none takes age rows r (subst (λ rs. Contains rs r) is there)
+-- what was known is known behind an answer, of the requests that there were
+pub known-more : (known : Known) (old new : Holdings) → KeepsRows old new → Knows known old
+    → IsKnown known new.bag.now old.pending.now
+known-more known old new kept knows q r stands there younger match =
+    knows.none q r stands (kept.rows r there (omega (arith, younger, knows.age))) younger match
 
 pub take-pushed : (requests new : List Request) (r : Request) → new ≡ requests ++ r ∷ []
     → take (length requests) new ≡ requests

@@ -1,5 +1,4 @@
-pub mod Phases
-pub mod Removals
+pub mod Budgets
 pub mod Entries
 pub mod Performed
 pub mod Answered

@@ -3,6 +3,7 @@ use Rattle.std.proofs.Common.{◌≡◌, ◌+◌, ◌*◌, ◌<◌, ◌≤◌, �
 use Rattle.std.proofs.lemmas.Bool.{cases_lt, true≢false}
 use Rattle.tc_bag.specs.Stock.{Row}
 use Rattle.tc_model.specs.Entries.{weight}
+use Rattle.tc_model.specs.Reactions.{Rule}
 use Rattle.tc_model.specs.Replies.{reply_in}
 use Rattle.tc_model.specs.Run.{IsNext, IsFirstRun, HasCall, earlier}
 use Rattle.tc_model.specs.State.{IsQuiescent}
@@ -29,9 +30,9 @@ use Rattle.tc_centre.proofs.Indexed.{index-looked}
 abbrev pub centre_with : Founding → List Entry → Centre
 centre_with f history = record { origin = origin_of f; history = history }
 
-module _ (f : Founding) (old new : List Entry) (rows : List Row) (n : ℕ) (requests : List Request) (centre : Centre)
+module _ (f : Founding) (old new : List Entry) (clauses : List Rule) (rows : List Row) (n : ℕ) (requests : List Request) (centre : Centre)
     (id : CallId) (view : centre_with f old ≡ centre) where
-  pub serves : (op : Op) (answer : Answer) → Grows id op old new → IsSettled (origin_of f) new rows n requests
+  pub serves : (op : Op) (answer : Answer) → Grows id op old new → IsSettled (origin_of f) new clauses rows n requests
       → IsAnswer (reply_in new id) answer → Serves centre (centre_with f new) id op answer
   serves op answer grown settled told =
       let appended : (k : Centre) → Type 0 = λ k.
@@ -61,17 +62,17 @@ module _ (f : Founding) (old new : List Entry) (rows : List Row) (n : ℕ) (requ
       })
 
   -- what is held stays settled behind a look
-  pub look-settled : (asked waiting kept : ℕ) → IsSettled (origin_of f) old rows n requests → IsNext centre.origin centre.history id
+  pub look-settled : (asked waiting kept : ℕ) → IsSettled (origin_of f) old clauses rows n requests → IsNext centre.origin centre.history id
       → HasCall (earlier id asked) old → kept ≡ weight old → waiting ≡ length requests
       → (4000000 < kept + (waiting + 2) * (f.budget + 1) → false ≡ true)
       → new ≡ old ++ Looked id asked (reply_in old (earlier id asked)) ∷ []
-      → IsSettled (origin_of f) new rows n requests
+      → IsSettled (origin_of f) new clauses rows n requests
   look-settled asked waiting kept settled next called weighs count light grown =
       let P : Centre → Type 0 = λ k. IsNext k.origin k.history id in
       let room : kept + (waiting + 2) * (f.budget + 1) ≤ 4000000 =
       ⊎_elim (λ over. absurd (true≢false (sym (light over)))) (λ within. within)
       (cases_lt 4000000 (kept + (waiting + 2) * (f.budget + 1))) in
-      looked (origin_of f) old new rows n requests id settled (subst P (sym view) next)
+      looked (origin_of f) old new clauses rows n requests id settled (subst P (sym view) next)
       (subst (λ w. w + (length requests + 2) * (f.budget + 1) ≤ 4000000) weighs
       (subst (λ p. kept + (p + 2) * (f.budget + 1) ≤ 4000000) count room))
       asked (reply_in old (earlier id asked)) (record { called = called; told = refl }) grown
@@ -97,13 +98,15 @@ module _ (old new : Holdings) where
       → Serves centre (centre_with new.founding new.history.items) id op answer
   serves-held centre id op answer view keeps grown rest told =
       let f = new.founding in
-      serves f old.history.items new.history.items new.bag.now new.bag.next new.pending.now centre id
+      serves f old.history.items new.history.items new.spec new.bag.now new.bag.next new.pending.now centre id
       (ap (λ g. centre_with g old.history.items) keeps.founding ∙ view) op answer grown rest told
 
   -- what is as before is at rest as before
   pub same-rest : IsSame old new → IsAtRest old → IsAtRest new
   same-rest same rest =
-      subst (λ f. IsSettled (origin_of f) new.history.items new.bag.now new.bag.next new.pending.now) (sym same.founding)
-      (subst (λ (b : Stock). IsSettled (origin_of old.founding) new.history.items b.now b.next new.pending.now) (sym same.bag)
-      (subst (λ (w : Waiting). IsSettled (origin_of old.founding) new.history.items old.bag.now old.bag.next w.now) (sym same.pending)
-      (subst (λ es. IsSettled (origin_of old.founding) es old.bag.now old.bag.next old.pending.now) (sym same.history) rest)))
+      subst (λ f. IsSettled (origin_of f) new.history.items new.spec new.bag.now new.bag.next new.pending.now) (sym same.founding)
+      (subst (λ cs. IsSettled (origin_of old.founding) new.history.items cs new.bag.now new.bag.next new.pending.now) (sym same.spec)
+      (subst (λ (b : Stock). IsSettled (origin_of old.founding) new.history.items old.spec b.now b.next new.pending.now) (sym same.bag)
+      (subst (λ (w : Waiting). IsSettled (origin_of old.founding) new.history.items old.spec old.bag.now old.bag.next w.now)
+      (sym same.pending)
+      (subst (λ es. IsSettled (origin_of old.founding) es old.spec old.bag.now old.bag.next old.pending.now) (sym same.history) rest))))

@@ -1,7 +1,8 @@
 -- A centre as its callers see it: what it began with, and its history.
 use Rattle.std.specs.Prelude.{ℕ, List, []}
 use Rattle.tc_term.specs.Tree.{Tree}
-use Rattle.tc_model.specs.State.{State, Origin, opening, after_history}
+use Rattle.tc_model.specs.Reactions.{Rule}
+use Rattle.tc_model.specs.State.{State, Origin, origin_from, opening, after_history}
 use Rattle.tc_model.specs.Entries.{weight, pending_after, IsFull}
 use Rattle.tc_model.specs.declared.entries.Entry.{Entry}
 
@@ -10,10 +11,10 @@ pub record Centre : Type 0 where
   pub origin : Origin
   pub history : List Entry
 
--- a centre that begins with these and has served nothing; it has no clauses
-abbrev pub centre_from : List ℕ → List (List ℕ) → ℕ → List Tree → Centre
-centre_from name agents budget tuples = record {
-  origin = record { name = name; agents = agents; budget = budget; tuples = tuples; clauses = [] };
+-- a centre that begins with these and has served nothing
+abbrev pub centre_from : List ℕ → List (List ℕ) → ℕ → List Tree → List Rule → Centre
+centre_from name agents budget tuples clauses = record {
+  origin = origin_from name agents budget tuples clauses;
   history = [];
 }
 

@@ -1,7 +1,6 @@
 -- What a core keeps.
 use Rattle.std.specs.Prelude.{◌≡◌, [], All, length}
-use Rattle.tc_model.specs.State.{IsOrigin}
-use Rattle.tc_model.specs.Typed.{IsTyped}
+use Rattle.tc_model.specs.Typed.{IsTypedCall}
 use Rattle.tc_centre.specs.Centre.{Centre, weight_in}
 use Rattle.tc_centre.specs.Held.{origin_of, IsAtRest}
 use Rattle.tc_centre.specs.Numbers.{AreLast}
@@ -12,15 +11,14 @@ use Rattle.tc_centre.specs.declared.centre.Core.TheInside.{Inside}
 abbrev pub centre_of : Inside → Centre
 centre_of c = record { origin = origin_of c.held.founding; history = c.held.history.items }
 
--- it began within the limits, what it holds is at rest, it knows its weight, the places of
--- its calls and the last number of each agent, its entries are typed, and no mark is left
+-- what it holds is at rest, it knows its weight, the places of its calls and the last number of
+-- each agent, its calls are typed, and no mark is left
 pub record IsSound (c : Inside) : Type 0 where
-  pub origin : IsOrigin (origin_of c.held.founding)
   pub rest : IsAtRest c.held
   pub weight : c.weight ≡ weight_in (centre_of c)
   pub places : IsIndex (place_in c.places) c.held.history.items
   pub agents : length c.numbers.items ≡ length c.held.founding.agents.items
   pub numbers : AreLast c.numbers.items c.held.history.items
-  pub typed : All IsTyped c.held.history.items
+  pub typed : All IsTypedCall c.held.history.items
   pub bag_unmarked : c.held.bag.saved ≡ []
   pub pending_unmarked : c.held.pending.saved ≡ []

@@ -2,10 +2,11 @@
 use Rattle.std.specs.Prelude.{◌≡◌, ℕ, ◌+◌, ◌*◌, ◌<◌, ◌≤◌, List, [], ◌∷◌, ◌++◌, All, Contains, length, take}
 use Rattle.tc_bag.specs.Stock.{Row, AddsNone, tuples_of}
 use Rattle.tc_model.specs.Entries.{weight}
-use Rattle.tc_model.specs.Typed.{IsTyped}
+use Rattle.tc_model.specs.Reactions.{Rule}
+use Rattle.tc_model.specs.Typed.{IsTypedCall}
 use Rattle.tc_model.specs.declared.limits.TheConstants.{MOST_TUPLES, MOST_WEIGHT}
 use Rattle.tc_model.specs.Run.{IsFirstRun}
-use Rattle.tc_model.specs.State.{State, Origin, IsQuiescent, opening, after_history}
+use Rattle.tc_model.specs.State.{State, Origin, IsOrigin, IsQuiescent, opening, after_history}
 use Rattle.tc_model.specs.declared.calls.CallId.{CallId}
 use Rattle.tc_model.specs.declared.calls.Op.{Op}
 use Rattle.tc_model.specs.declared.calls.Request.{Request}
@@ -19,31 +20,34 @@ use Rattle.tc_pending.specs.Answers.{IsKnown}
 use Rattle.tc_pending.specs.declared.answering.Known.{Known}
 use Rattle.tc_centre.specs.declared.holdings.Holdings.{Holdings}
 
--- what a centre began with: it has no clauses
+-- what a centre began with
 abbrev pub origin_of : Founding → Origin
 origin_of f = record {
   name = f.name;
   agents = f.agents.items;
   budget = f.budget;
   tuples = f.tuples.value.items;
-  clauses = [];
+  clauses = f.clauses.value;
 }
 
--- the state that these rows and these requests are, without clauses
-abbrev pub held : List Row → List Request → State
-held rows requests = record { tuples = tuples_of rows; clauses = []; pending = requests }
+-- the state that these clauses, these rows and these requests are
+abbrev pub held : List Rule → List Row → List Request → State
+held clauses rows requests = record { tuples = tuples_of rows; clauses = clauses; pending = requests }
 
 -- the history is a run that has led to what is held, and there is room for the answers to all requests
-pub record IsHeld (origin : Origin) (history : List Entry) (rows : List Row) (next : ℕ) (requests : List Request) : Type 0 where
+pub record IsHeld (origin : Origin) (history : List Entry) (clauses : List Rule) (rows : List Row) (next : ℕ)
+    (requests : List Request) : Type 0 where
+  pub origin_is : IsOrigin origin
   pub run : IsFirstRun origin history
-  pub state : held rows requests ≡ after_history (opening origin) history
+  pub state : held clauses rows requests ≡ after_history (opening origin) history
   pub light : weight history + length requests * (origin.budget + 1) ≤ MOST_WEIGHT
   pub ages : next ≤ MOST_TUPLES + 65 * weight history
 
 -- and no request can be answered
-pub record IsSettled (origin : Origin) (history : List Entry) (rows : List Row) (next : ℕ) (requests : List Request) : Type 0 where
-  pub holds : IsHeld origin history rows next requests
-  pub quiescent : IsQuiescent (held rows requests)
+pub record IsSettled (origin : Origin) (history : List Entry) (clauses : List Rule) (rows : List Row) (next : ℕ)
+    (requests : List Request) : Type 0 where
+  pub holds : IsHeld origin history clauses rows next requests
+  pub quiescent : IsQuiescent (held clauses rows requests)
 
 -- answers to requests were appended
 pub record Answers (old new : List Entry) : Type 0 where
@@ -67,11 +71,11 @@ pub record Grows (id : CallId) (op : Op) (old new : List Entry) : Type 0 where
 
 -- the run of what is held
 abbrev pub HoldsRun : Holdings → Type 0
-HoldsRun h = IsHeld (origin_of h.founding) h.history.items h.bag.now h.bag.next h.pending.now
+HoldsRun h = IsHeld (origin_of h.founding) h.history.items h.spec h.bag.now h.bag.next h.pending.now
 
 -- and no request can be answered
 abbrev pub IsAtRest : Holdings → Type 0
-IsAtRest h = IsSettled (origin_of h.founding) h.history.items h.bag.now h.bag.next h.pending.now
+IsAtRest h = IsSettled (origin_of h.founding) h.history.items h.spec h.bag.now h.bag.next h.pending.now
 
 -- there is room for another call, and for all answers to which it may lead
 abbrev pub HasRoom : Holdings → Type 0
@@ -79,7 +83,7 @@ HasRoom h = weight h.history.items + (length h.pending.now + 2) * (h.founding.bu
 
 -- the state that is held
 abbrev pub state_held : Holdings → State
-state_held h = held h.bag.now h.pending.now
+state_held h = held h.spec h.bag.now h.pending.now
 
 -- entries were appended
 pub record IsLonger (old new : List Entry) : Type 0 where
@@ -93,26 +97,34 @@ pub record Keeps (old new : Holdings) : Type 0 where
   pub pending : new.pending.saved ≡ old.pending.saved
   pub longer : IsLonger old.history.items new.history.items
 
+-- what is new are younger rows, and the next age has not fallen
+pub record KeepsRows (old new : Holdings) : Type 0 where
+  pub rows : AddsNone old.bag.next old.bag.now new.bag.now
+  pub next : old.bag.next ≤ new.bag.next
+
 -- what is new are younger rows, and requests behind the others
 pub record KeepsOld (old new : Holdings) : Type 0 where
-  pub rows : AddsNone old.bag.next old.bag.now new.bag.now
+  pub rows : KeepsRows old new
   pub requests : take (length old.pending.now) new.pending.now ≡ old.pending.now
 
 -- what is known where no request can be answered
 abbrev pub known_of : Holdings → Known
 known_of h = record { requests = length h.pending.now; age = h.bag.next }
 
--- the same of requests and rows as they are then
-abbrev pub Knows : Known → Holdings → Type 0
-Knows known h = IsKnown known h.bag.now h.pending.now × (known.requests ≤ length h.pending.now)
+-- it is known of requests and rows as they are then
+pub record Knows (known : Known) (h : Holdings) : Type 0 where
+  pub none : IsKnown known h.bag.now h.pending.now
+  pub requests : known.requests ≤ length h.pending.now
+  pub age : known.age ≤ h.bag.next
 
--- where the entries are typed, they stay so
+-- where the calls are typed, they stay so
 abbrev pub KeepsTyped : Holdings → Holdings → Type 0
-KeepsTyped old new = All IsTyped old.history.items → All IsTyped new.history.items
+KeepsTyped old new = All IsTypedCall old.history.items → All IsTypedCall new.history.items
 
 -- all is as before
 pub record IsSame (old new : Holdings) : Type 0 where
   pub founding : new.founding ≡ old.founding
+  pub spec : new.spec ≡ old.spec
   pub bag : new.bag ≡ old.bag
   pub pending : new.pending ≡ old.pending
   pub history : new.history.items ≡ old.history.items

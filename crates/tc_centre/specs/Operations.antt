@@ -1,14 +1,66 @@
--- What the operations on tuples come to.
-use Rattle.std.specs.Prelude.{◌≡◌, Bool, List}
-use Rattle.tc_lists.specs.Firsts.{NoneOf, IsFirst}
+-- What an operation of a call comes to, and what an answer does.
+use Rattle.std.specs.Prelude.{◌≡◌, ◌≤◌, ℕ, ◌+◌, ◌*◌, Bool, if◌then◌else◌, Option, Some, None, List, length, slice_get}
 use Rattle.tc_term.specs.Tree.{Tree}
-use Rattle.tc_model.specs.State.{IsMatch, after_taking}
+use Rattle.tc_model.specs.Choices.{TheFirst}
+use Rattle.tc_model.specs.State.{State, after_call, after_search, unless_over, with_tuples}
+use Rattle.tc_model.specs.Reactions.{Rule}
+use Rattle.tc_model.specs.Tables.{IsServed, IsGiven, setting_of}
+use Rattle.tc_model.specs.Tuples.{after_items}
+use Rattle.tc_model.specs.declared.calls.CallId.{CallId}
+use Rattle.tc_model.specs.declared.calls.Op.{Op}
+use Rattle.tc_model.specs.declared.calls.Op.TheVariants.{In, Rd, Inp, Rdp}
+use Rattle.tc_model.specs.declared.calls.Request.{Request}
+use Rattle.tc_model.specs.declared.items.Item.{Item}
 use Rattle.tc_model.specs.declared.outcomes.Outcome.{Outcome}
 use Rattle.tc_model.specs.declared.outcomes.Outcome.TheVariants.{Took, NoTuple}
+use Rattle.tc_centre.specs.Held.{origin_of, state_held, KeepsRows, KeepsOld}
+use Rattle.tc_centre.specs.declared.founding.Founding.{Founding}
+use Rattle.tc_centre.specs.declared.holdings.Holdings.{Holdings}
+use Rattle.tc_phases.specs.Phases.{setting_in}
+use Rattle.tc_phases.specs.declared.regime.Regime.{Regime}
 
--- the first tuple that matches is told, and it is taken or stays; or none matches, and all stay
-abbrev pub IsSearched : Bool → Tree → List Tree → Outcome → List Tree → Type 0
-IsSearched takes template old (Took tuple) new =
-    IsFirst (IsMatch template) old tuple × (new ≡ after_taking takes tuple old)
-IsSearched takes template old NoTuple new = NoneOf (IsMatch template) old × (new ≡ old)
-IsSearched takes template old outcome new = ⊥
+-- the reactions run by these clauses, in the name of the agent of this call
+pub record IsRegimeOf (founding : Founding) (clauses : List Rule) (id : CallId) (regime : Regime) : Type 0 where
+  pub clauses_are : regime.spec.now ≡ clauses
+  pub setting : setting_in regime ≡ setting_of (origin_of founding) id
+  pub budget : regime.budget ≡ founding.budget
+
+-- the operation that waits for a tuple, to take it or to read it
+abbrev pub request_op : Bool → Tree → Op
+request_op takes template = if takes then In template else Rd template
+
+-- the operation that takes or reads a tuple, where one is there
+abbrev pub search_op : Bool → Tree → Op
+search_op takes template = if takes then Inp template else Rdp template
+
+-- what a search tells that has found this
+abbrev pub outcome_of : Option Tree → Outcome
+outcome_of (Some tuple) = Took tuple
+outcome_of None = NoTuple
+
+-- the next age has risen by 1 at most, and by 64 for each of the items
+abbrev pub RisesBy : List Item → Holdings → Holdings → Type 0
+RisesBy items old new = new.bag.next ≤ old.bag.next + 1 + 64 * length items
+
+-- a call's operation was done, with this outcome and these items; at most one request was added
+pub record Performs (id : CallId) (op : Op) (old new : Holdings) (outcome : Outcome) (items : List Item) : Type 0 where
+  pub served : IsServed TheFirst (origin_of old.founding) (state_held old) id op outcome items
+  pub state : state_held new ≡ after_call id op outcome items (state_held old)
+  pub few : length new.pending.now ≤ length old.pending.now + 1
+  pub next : RisesBy items old new
+  pub keeps : KeepsOld old new
+
+-- the state after the reactions to an answer, with the request still there
+abbrev pub after_giving : Bool → Outcome → List Item → State → State
+after_giving takes outcome items s =
+    unless_over outcome s (with_tuples (after_items items (after_search takes outcome s.tuples)) s)
+
+-- the request at a place was answered, with this outcome and these items; it is still there
+pub record Gives (place : ℕ) (old new : Holdings) (id : CallId) (outcome : Outcome) (items : List Item) : Type 0 where
+  pub request : Request
+  pub stands : slice_get old.pending.now place ≡ Some request
+  pub of : request.id ≡ id
+  pub given : IsGiven TheFirst (origin_of old.founding) (state_held old) request outcome items
+  pub state : state_held new ≡ after_giving request.takes outcome items (state_held old)
+  pub next : RisesBy items old new
+  pub keeps : KeepsRows old new

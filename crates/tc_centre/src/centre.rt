@@ -1,7 +1,6 @@
 //! The centre and its history.
 ghost use Rattle.std.specs.Prelude.{◌≡◌, ◌↔◌, ◌+◌, ◌*◌, ◌<◌, ◌≤◌, [], ◌∷◌, ◌++◌, All, IsTrue, IfOk, OnOk, OnErr};
 ghost use Rattle.tc_model.specs.Replies.{reply_in};
-ghost use Rattle.tc_model.specs.Typed.{IsTyped};
 ghost use Rattle.tc_model.specs.declared.limits.TheConstants.{MOST_BUDGET, MOST_WEIGHT};
 ghost use Rattle.tc_model.specs.Run.{HasCall, earlier};
 ghost use Rattle.tc_centre.specs.Places.{place_in, IsIndex};
@@ -18,9 +17,11 @@ use std::alloc::Global;
 use std::marker::Model;
 use std::snapshot::Snapshot;
 use tc_lists::NoMemory;
-use tc_model::{CallId, Entry, MOST_WEIGHT, Op, Reply, Request};
+use tc_model::{CallId, Clauses, Entry, MOST_WEIGHT, Op, Reply, Request};
 use tc_pending::Pending;
+use tc_spec::Spec;
 use tc_term::{Ground, Name};
+use tc_unify::Store;
 
 /// A tuple centre: what it began with, its tuples, the requests that wait, and its history, with the
 /// places in it that tell what became of its calls.
@@ -53,34 +54,41 @@ impl Core {
     ghost use Rattle.std.specs.Option.{option_copied};
     ghost use Rattle.tc_model.specs.Replies.{reply_in};
     ghost use Rattle.tc_model.specs.declared.limits.TheConstants.{MOST_WEIGHT};
-    ghost use Rattle.tc_model.specs.State.{IsOrigin, IsQuiescent};
+    ghost use Rattle.tc_model.specs.State.{IsOrigin, IsQuiescent, origin_from};
     ghost use Rattle.tc_model.specs.Run.{IsNext, IsRun, IsFirstRun, HasCall, earlier};
     ghost use Rattle.tc_centre.specs.Centre.{centre_from, state_of, weight_in, waiting_in, IsFullCentre};
     ghost use Rattle.tc_model.specs.Typed.{IsTyped};
     ghost use Rattle.tc_centre.specs.Numbers.{IsLast, IsAbove};
     ghost use Rattle.tc_centre.specs.Turns.{IsOnTuples, Serves, IsRefused, Tells, IsPollRefused};
 
-    /// A centre of these tuples, oldest first, with an empty history and no clauses.
+    /// A centre of these clauses and these tuples, oldest first, with an empty history.
+    ///
+    /// Its reactions are as many as the budget at most in each phase of a call or of an answer.
     pub fn new(
         alloc: Global,
         name: Name,
         agents: Vec<Name>,
         budget: u32,
+        clauses: Clauses,
         tuples: Vec<Ground>,
     ) -> Result<Core, NoMemory>
-        requires { IsOrigin (centre_from name agents.items budget tuples.items).origin }
-        ensures { IfOk result (λ core. core ≡ centre_from name agents.items budget tuples.items) }
+        requires { IsOrigin (origin_from name agents.items budget tuples.items clauses) }
+        ensures { IfOk result
+            (λ core. core ≡ centre_from name agents.items budget tuples.items clauses) }
     {
         let founding = Founding {
             name,
             agents,
             budget,
             tuples: Snapshot::of(&tuples),
+            clauses: Snapshot::of(&clauses),
         };
         let numbers = no_numbers(alloc, founding.agents.len())?;
         let bag = fill(alloc, tuples)?;
         let held = Holdings {
             founding,
+            spec: Spec::of(alloc, clauses)?,
+            store: Store::new(alloc, 0)?,
             bag,
             pending: Pending::new(alloc),
             history: Vec::new(alloc),
@@ -157,6 +165,7 @@ impl Core {
                 pending: waiting,
             });
         }
+        typed_id(id);
         match look_up(alloc, id, asked, &self.places, &mut self.held.history) {
             Ok(poll) => {
                 self.weight += 1;
@@ -273,15 +282,11 @@ fn look_up(
 ) -> Result<Poll, NoMemory>
     requires places { IsIndex (place_in places.now) history.old.items }
     requires called { HasCall (earlier id asked) history.old.items }
-    requires typed { All IsTyped history.old.items }
     ensures poll { IfOk result (IsPoll (reply_in history.old.items (earlier id asked))) }
     ensures appended { OnOk result (history.new.items ≡ history.old.items
         ++ Entry.Looked id asked (reply_in history.old.items (earlier id asked)) ∷ []) }
-    ensures typed { OnOk result (IsTyped
-        (Entry.Looked id asked (reply_in history.old.items (earlier id asked)))) }
     ensures same { OnErr result (history.new.items ≡ history.old.items) }
 {
-    typed_id(id);
     let call = CallId {
         agent: id.agent,
         number: asked,

@@ -7,15 +7,18 @@ use std::alloc::Global;
 use std::snapshot::Snapshot;
 use tc_bag::Bag;
 use tc_lists::NoMemory;
+use tc_model::Clauses;
 use tc_term::{Ground, Name};
 
-/// What a centre began with. The tuples are for clauses alone: the bag has them.
+/// What a centre began with. The tuples and the clauses are for contracts alone: the bag has those
+/// that there are now, and so has the specification.
 #[derive(Drop)]
 pub struct Founding {
     pub name: Name,
     pub agents: Vec<Name>,
     pub budget: u32,
     pub tuples: Snapshot<Vec<Ground>>,
+    pub clauses: Snapshot<Clauses>,
 }
 
 /// The bag of these tuples, in order.

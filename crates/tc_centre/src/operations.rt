@@ -1,77 +1,138 @@
-//! Operations on the tuples and the requests of a centre.
-ghost use Rattle.std.specs.Prelude.{◌≡◌, ◌+◌, ◌<◌, ◌≤◌, if◌then◌else◌, [], ◌∷◌, ◌++◌, Some, length, IfOk, OnOk, IsSome};
-ghost use Rattle.tc_bag.specs.Stock.{AddsNone, tuples_of, tuple_at, without_age};
-ghost use Rattle.tc_model.specs.Choices.{TheFirst};
-ghost use Rattle.tc_model.specs.State.{after_call};
-ghost use Rattle.tc_model.specs.Tables.{IsServed};
-ghost use Rattle.tc_centre.specs.Held.{origin_of, state_held, Keeps, KeepsOld};
-ghost use Rattle.tc_centre.specs.Operations.{IsSearched};
-ghost use Rattle.tc_centre.specs.Turns.{IsOnTuples};
+//! Operations on the tuples and the requests of a centre, with their reactions.
+ghost use Rattle.std.specs.Prelude.{◌≡◌, ◌<◌, ◌++◌, ◌∷◌, [], length, IfOk, OnOk};
+ghost use Rattle.tc_model.specs.declared.calls.Op.{Op};
+ghost use Rattle.tc_pending.specs.Answers.{IsNextAnswer};
+ghost use Rattle.tc_centre.specs.Held.{Keeps, HoldsRun};
+ghost use Rattle.tc_centre.specs.Operations.{request_op, search_op, outcome_of, IsRegimeOf, Performs, Gives};
 
+use crate::founding::Founding;
 use crate::holdings::Holdings;
 use std::alloc::Global;
-use tc_bag::Bag;
-use tc_lists::NoMemory;
-use tc_model::{CallId, Op, Outcome, Request};
+use tc_cascade::Cascade;
+use tc_lists::{NoMemory, Seq};
+use tc_model::{CallId, Item, Op, Outcome, Phase, Request};
 use tc_pending::Pending;
-use tc_search::oldest_match_of;
+use tc_phases::{Regime, answer, put, request, search};
+use tc_spec::Spec;
 use tc_term::{Ground, Pattern};
 
-/// Does a call's operation, and tells its outcome. After a fault only the marks are as before.
-pub fn perform(alloc: Global, held: &mut Holdings, id: CallId, op: &Op) -> Result<Outcome, NoMemory>
-    requires op { IsOnTuples op.now }
-    requires next { held.old.bag.next < u64.MAX }
-    ensures served { IfOk result (λ outcome. IsServed TheFirst (origin_of held.old.founding)
-        (state_held held.old) id op.now outcome []) }
-    ensures state { IfOk result (λ outcome. state_held held.new
-        ≡ after_call id op.now outcome [] (state_held held.old)) }
-    ensures few { length held.new.pending.now ≤ length held.old.pending.now + 1 }
-    ensures next { held.new.bag.next ≤ held.old.bag.next + 1 }
+/// Puts a tuple behind the others, with the reactions to that. Tells the outcome, and what the
+/// reactions did; where they went over the budget, the tuple is gone again.
+///
+/// Here and below only the marks are as before after a fault.
+pub fn out(
+    alloc: Global,
+    held: &mut Holdings,
+    id: CallId,
+    tuple: &Ground,
+) -> Result<(Outcome, Seq<Item>), NoMemory>
+    requires run { HoldsRun held.old }
+    requires agent { id.agent < length held.old.founding.agents.items }
+    ensures done { IfOk result (λ x. Performs id (Op.Out tuple.now) held.old held.new x.0 x.1) }
     ensures keeps { Keeps held.old held.new }
     ensures history { held.new.history.items ≡ held.old.history.items }
-    ensures old { OnOk result (KeepsOld held.old held.new) }
+    ensures spec { held.new.spec ≡ held.old.spec }
 {
-    match op {
-        Op::Out(tuple) => {
-            put(alloc, tuple, &mut held.bag)?;
-            Ok(Outcome::Done)
-        }
-        Op::In(template) => {
-            wait(alloc, id, true, template, &mut held.pending)?;
-            Ok(Outcome::Pending)
-        }
-        Op::Rd(template) => {
-            wait(alloc, id, false, template, &mut held.pending)?;
-            Ok(Outcome::Pending)
-        }
-        Op::Inp(template) => {
-            let outcome = find(alloc, true, template, &mut held.bag)?;
-            Ok(outcome)
-        }
-        Op::Rdp(template) => {
-            let outcome = find(alloc, false, template, &mut held.bag)?;
-            Ok(outcome)
-        }
-        Op::SetSpec(_) | Op::GetSpec => unreachable!(),
+    let regime = regime(&held.founding, &held.spec, id);
+    match put(alloc, &mut held.store, &regime, tuple, &mut held.bag)? {
+        Cascade::Whole(items) => Ok((Outcome::Done, items)),
+        Cascade::Over(items) => Ok((Outcome::Over(Phase::Post, None), items)),
     }
 }
 
-// Puts a tuple behind the others.
-fn put(alloc: Global, tuple: &Ground, bag: &mut Bag) -> Result<(), NoMemory>
-    requires { bag.old.next < u64.MAX }
-    ensures tuples { OnOk result (tuples_of bag.new.now ≡ tuples_of bag.old.now ++ tuple.now ∷ []) }
-    ensures next { bag.new.next ≤ bag.old.next + 1 }
-    ensures old { OnOk result (AddsNone bag.old.next bag.old.now bag.new.now) }
-    ensures marks { bag.new.saved ≡ bag.old.saved }
+/// Runs the reactions to a request, and appends it, unless they went over the budget.
+pub fn wait(
+    alloc: Global,
+    held: &mut Holdings,
+    id: CallId,
+    takes: bool,
+    template: &Pattern,
+) -> Result<(Outcome, Seq<Item>), NoMemory>
+    requires run { HoldsRun held.old }
+    requires agent { id.agent < length held.old.founding.agents.items }
+    ensures done { IfOk result
+        (λ x. Performs id (request_op takes template.now) held.old held.new x.0 x.1) }
+    ensures keeps { Keeps held.old held.new }
+    ensures history { held.new.history.items ≡ held.old.history.items }
+    ensures spec { held.new.spec ≡ held.old.spec }
 {
-    match bag.put(tuple.copy(alloc)?) {
-        Ok(()) => Ok(()),
-        Err(_) => Err(NoMemory),
+    let regime = regime(&held.founding, &held.spec, id);
+    match request(alloc, &mut held.store, &regime, takes, template, &mut held.bag)? {
+        Cascade::Whole(items) => {
+            append(alloc, id, takes, template, &mut held.pending)?;
+            Ok((Outcome::Pending, items))
+        }
+        Cascade::Over(items) => Ok((Outcome::Over(Phase::Pre, None), items)),
+    }
+}
+
+/// Takes or reads the oldest tuple that matches, with the reactions to that, or to the failure where
+/// none matches. The tuple is back where they went over the budget.
+pub fn find(
+    alloc: Global,
+    held: &mut Holdings,
+    id: CallId,
+    takes: bool,
+    template: &Pattern,
+) -> Result<(Outcome, Seq<Item>), NoMemory>
+    requires run { HoldsRun held.old }
+    requires agent { id.agent < length held.old.founding.agents.items }
+    ensures done { IfOk result
+        (λ x. Performs id (search_op takes template.now) held.old held.new x.0 x.1) }
+    ensures keeps { Keeps held.old held.new }
+    ensures history { held.new.history.items ≡ held.old.history.items }
+    ensures spec { held.new.spec ≡ held.old.spec }
+{
+    let regime = regime(&held.founding, &held.spec, id);
+    let (found, cascade) = search(alloc, &mut held.store, &regime, takes, template, &mut held.bag)?;
+    match cascade {
+        Cascade::Whole(items) => Ok((outcome_of(found), items)),
+        Cascade::Over(items) => Ok((Outcome::Over(Phase::Post, found), items)),
+    }
+}
+
+/// Answers the request at a place with the tuple of an age, with the reactions to that. Tells whose
+/// request it is, the outcome, and what the reactions did. The request is still there.
+pub fn give(
+    alloc: Global,
+    held: &mut Holdings,
+    place: usize,
+    age: u64,
+) -> Result<(CallId, Outcome, Seq<Item>), NoMemory>
+    requires run { HoldsRun held.old }
+    requires next { IsNextAnswer held.old.bag.now held.old.pending.now place age }
+    ensures gives { IfOk result (λ x. Gives place held.old held.new x.0 x.1 x.2) }
+    ensures keeps { Keeps held.old held.new }
+    ensures history { held.new.history.items ≡ held.old.history.items }
+    ensures spec { held.new.spec ≡ held.old.spec }
+    ensures requests { held.new.pending ≡ held.old.pending }
+{
+    let request = &held.pending.list()[place];
+    let id = request.id;
+    let takes = request.takes;
+    let regime = regime(&held.founding, &held.spec, id);
+    let (tuple, cascade) = answer(alloc, &mut held.store, &regime, takes, age, &mut held.bag)?;
+    match cascade {
+        Cascade::Whole(items) => Ok((id, Outcome::Took(tuple), items)),
+        Cascade::Over(items) => Ok((id, Outcome::Over(Phase::Post, Some(tuple)), items)),
+    }
+}
+
+// In whose name the reactions to a call run, and by which clauses.
+fn regime<'c>(founding: &'c Founding, spec: &'c Spec, id: CallId) -> Regime<'c>
+    requires { id.agent < length founding.now.agents.items }
+    ensures { IsRegimeOf founding.now spec.now id result }
+{
+    Regime {
+        spec,
+        agent: &founding.agents[id.agent as usize],
+        centre: &founding.name,
+        budget: founding.budget,
     }
 }
 
 // Appends a request.
-fn wait(
+fn append(
     alloc: Global,
     id: CallId,
     takes: bool,
@@ -80,7 +141,6 @@ fn wait(
 ) -> Result<(), NoMemory>
     ensures requests { OnOk result (pending.new.now
         ≡ pending.old.now ++ record { id = id; takes = takes; template = template.now } ∷ []) }
-    ensures few { length pending.new.now ≤ length pending.old.now + 1 }
     ensures marks { pending.new.saved ≡ pending.old.saved }
 {
     let template = template.copy(alloc)?;
@@ -91,46 +151,12 @@ fn wait(
     })
 }
 
-// Takes or reads the oldest tuple that matches.
-fn find(alloc: Global, takes: bool, template: &Pattern, bag: &mut Bag) -> Result<Outcome, NoMemory>
-    ensures found { IfOk result (λ outcome. IsSearched takes template.now
-        (tuples_of bag.old.now) outcome (tuples_of bag.new.now)) }
-    ensures next { bag.new.next ≡ bag.old.next }
-    ensures old { OnOk result (AddsNone bag.old.next bag.old.now bag.new.now) }
-    ensures marks { bag.new.saved ≡ bag.old.saved }
+// What a search tells that has found this.
+fn outcome_of(found: Option<Ground>) -> Outcome
+    ensures { result ≡ outcome_of found }
 {
-    let Some((age, tuple)) = oldest_match_of(alloc, template, bag)? else {
-        return Ok(Outcome::NoTuple);
-    };
-    let tuple = tuple.copy(alloc)?;
-    take_if(takes, age, bag);
-    Ok(Outcome::Took(tuple))
-}
-
-/// The tuple of an age, which is taken or stays.
-pub fn take_answer(alloc: Global, takes: bool, age: u64, bag: &mut Bag) -> Result<Ground, NoMemory>
-    requires { IsSome (tuple_at age bag.old.now) }
-    ensures tuple { IfOk result (λ tuple. tuple_at age bag.old.now ≡ Some tuple) }
-    ensures rows { OnOk result (bag.new.now
-        ≡ (if takes then without_age age bag.old.now else bag.old.now)) }
-    ensures next { bag.new.next ≡ bag.old.next }
-    ensures marks { bag.new.saved ≡ bag.old.saved }
-{
-    let Some(tuple) = bag.get(age) else {
-        unreachable!();
-    };
-    let tuple = tuple.copy(alloc)?;
-    take_if(takes, age, bag);
-    Ok(tuple)
-}
-
-// Removes the tuple of an age, where it is to be taken.
-fn take_if(takes: bool, age: u64, bag: &mut Bag)
-    ensures { bag.new ≡ record bag.old {
-      now = if takes then without_age age bag.old.now else bag.old.now;
-    } }
-{
-    if takes {
-        bag.take(age);
+    match found {
+        Some(tuple) => Outcome::Took(tuple),
+        None => Outcome::NoTuple,
     }
 }

@@ -1,20 +1,20 @@
 //! Serving a call: its entry, and then the answers to requests that can be given.
-ghost use Rattle.std.specs.Prelude.{◌≡◌, ◌<◌, Contains, length, remove, IfOk, OnOk, OnErr};
-ghost use Rattle.tc_bag.specs.Stock.{Row};
+ghost use Rattle.std.specs.Prelude.{◌≡◌, ◌<◌, length, remove, IfOk, OnOk, OnErr};
 ghost use Rattle.tc_pending.specs.Answers.{IsNextAnswer};
 ghost use Rattle.tc_model.specs.Replies.{reply_in};
 ghost use Rattle.tc_model.specs.Run.{IsNext};
 ghost use Rattle.tc_model.specs.Typed.{IsTypedId};
-ghost use Rattle.tc_centre.specs.Held.{origin_of, IsSame, Keeps, KeepsTyped, HoldsRun, IsAtRest, Knows, known_of, HasRoom, Answers, Calls, Grows};
+ghost use Rattle.tc_centre.specs.Held.{origin_of, IsSame, Keeps, KeepsRows, KeepsTyped, HoldsRun, IsAtRest, Knows, known_of, HasRoom, Answers, Calls, Grows};
+ghost use Rattle.tc_centre.specs.Operations.{Performs};
 ghost use Rattle.tc_centre.specs.Turns.{IsOnTuples, IsAnswer};
 
 use crate::answers::Answer;
 use crate::holdings::Holdings;
-use crate::operations::{perform, take_answer};
+use crate::operations::{find, give, out, wait};
 use crate::replies::reply_to;
 use std::alloc::Global;
 use tc_lists::{NoMemory, Seq};
-use tc_model::{CallId, Entry, Op, Outcome};
+use tc_model::{CallId, Entry, Item, Op, Outcome};
 use tc_pending::Known;
 
 /// Serves a call, and answers the requests that can be answered, until none is left.
@@ -63,6 +63,7 @@ fn serve(alloc: Global, held: &mut Holdings, id: CallId, op: Op) -> Result<Answe
     ensures grown { OnOk result (Grows id op held.old.history.items held.new.history.items) }
     ensures answer { IfOk result (IsAnswer (reply_in held.new.history.items id)) }
     ensures keeps { Keeps held.old held.new }
+    ensures spec { held.new.spec ≡ held.old.spec }
     ensures typed { OnOk result (KeepsTyped held.old held.new) }
 {
     let before = held.history.len();
@@ -88,9 +89,10 @@ fn call(alloc: Global, held: &mut Holdings, id: CallId, op: Op) -> Result<(), No
     ensures known { OnOk result (Knows (known_of held.old) held.new) }
     ensures called { OnOk result (Calls id op held.old.history.items held.new.history.items) }
     ensures keeps { Keeps held.old held.new }
+    ensures spec { held.new.spec ≡ held.old.spec }
     ensures typed { OnOk result (KeepsTyped held.old held.new) }
 {
-    let outcome = perform(alloc, held, id, &op)?;
+    let (outcome, items) = perform(alloc, held, id, &op)?;
     typed_id(id);
     op.typed();
     outcome.typed();
@@ -98,9 +100,34 @@ fn call(alloc: Global, held: &mut Holdings, id: CallId, op: Op) -> Result<(), No
         id,
         op,
         outcome,
-        items: Seq::empty(alloc),
+        items,
     })?;
     Ok(())
+}
+
+// Does a call's operation with its reactions, and tells its outcome and what the reactions did.
+fn perform(
+    alloc: Global,
+    held: &mut Holdings,
+    id: CallId,
+    op: &Op,
+) -> Result<(Outcome, Seq<Item>), NoMemory>
+    requires op { IsOnTuples op.now }
+    requires run { HoldsRun held.old }
+    requires agent { id.agent < length held.old.founding.agents.items }
+    ensures done { IfOk result (λ x. Performs id op.now held.old held.new x.0 x.1) }
+    ensures keeps { Keeps held.old held.new }
+    ensures history { held.new.history.items ≡ held.old.history.items }
+    ensures spec { held.new.spec ≡ held.old.spec }
+{
+    match op {
+        Op::Out(tuple) => out(alloc, held, id, tuple),
+        Op::In(template) => wait(alloc, held, id, true, template),
+        Op::Rd(template) => wait(alloc, held, id, false, template),
+        Op::Inp(template) => find(alloc, held, id, true, template),
+        Op::Rdp(template) => find(alloc, held, id, false, template),
+        Op::SetSpec(_) | Op::GetSpec => unreachable!(),
+    }
 }
 
 // Answers the requests that can be answered, the oldest first, until none is left. Only requests and
@@ -111,6 +138,7 @@ fn answer_all(alloc: Global, held: &mut Holdings, known: Known) -> Result<(), No
     ensures rest { OnOk result (IsAtRest held.new) }
     ensures answers { OnOk result (Answers held.old.history.items held.new.history.items) }
     ensures keeps { Keeps held.old held.new }
+    ensures spec { held.new.spec ≡ held.old.spec }
     ensures typed { OnOk result (KeepsTyped held.old held.new) }
 {
     let mut known = known;
@@ -121,30 +149,25 @@ fn answer_all(alloc: Global, held: &mut Holdings, known: Known) -> Result<(), No
     Ok(())
 }
 
-// Answers the request at a place with the tuple of an age.
+// Answers the request at a place with the tuple of an age, and appends the entry of that.
 fn answer(alloc: Global, held: &mut Holdings, place: usize, age: u64) -> Result<(), NoMemory>
     requires run { HoldsRun held.old }
     requires next { IsNextAnswer held.old.bag.now held.old.pending.now place age }
     ensures run { OnOk result (HoldsRun held.new) }
     ensures answers { OnOk result (Answers held.old.history.items held.new.history.items) }
     ensures requests { OnOk result (held.new.pending.now ≡ remove held.old.pending.now place) }
-    ensures rows { OnOk result ((row : Row)
-        → Contains held.new.bag.now row → Contains held.old.bag.now row) }
+    ensures rows { OnOk result (KeepsRows held.old held.new) }
     ensures fewer { OnOk result (length held.new.pending.now < length held.old.pending.now) }
     ensures keeps { Keeps held.old held.new }
+    ensures spec { held.new.spec ≡ held.old.spec }
     ensures typed { OnOk result (KeepsTyped held.old held.new) }
 {
-    let request = &held.pending.list()[place];
-    let id = request.id;
-    let tuple = take_answer(alloc, request.takes, age, &mut held.bag)?;
+    let (id, outcome, items) = give(alloc, held, place, age)?;
     held.pending.remove(place);
-    let outcome = Outcome::Took(tuple);
-    typed_id(id);
-    outcome.typed();
     held.history.push(Entry::Gave {
         id,
         outcome,
-        items: Seq::empty(alloc),
+        items,
     })?;
     Ok(())
 }

@@ -18,10 +18,11 @@ fn centre(
     tuples: Vec<Ground>,
 ) -> Result<Core, Fail> {
     let name = Name::new(alloc, b"c")?;
-    let Ok(()) = check_origin(&name, &agents, budget, &tuples, &Clauses::new(alloc)) else {
+    let clauses = Clauses::new(alloc);
+    let Ok(()) = check_origin(&name, &agents, budget, &tuples, &clauses) else {
         return Err(Fail::new("no origin"));
     };
-    Ok(Core::new(alloc, name, agents, budget, tuples)?)
+    Ok(Core::new(alloc, name, agents, budget, clauses, tuples)?)
 }
 
 // The next call of an agent: its number is one above those of all its entries.

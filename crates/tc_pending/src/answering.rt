@@ -24,7 +24,7 @@ pub struct Known {
 }
 
 impl Known {
-    ghost use Rattle.std.specs.Prelude.{◌-◌, ◌<◌, ◌≤◌, List, Contains, length, remove};
+    ghost use Rattle.std.specs.Prelude.{◌≡◌, ◌-◌, ◌<◌, ◌≤◌, List, Contains, length, remove};
     ghost use Rattle.tc_bag.specs.Stock.{Row};
     ghost use Rattle.tc_model.specs.declared.calls.Request.{Request};
     ghost use Rattle.tc_pending.specs.Answers.{IsKnown};
@@ -37,6 +37,7 @@ impl Known {
             → IsKnown result left (remove requests place) }
         ensures inside { (requests : List Request) → place < length requests
             → self.requests ≤ length requests → result.requests ≤ length (remove requests place) }
+        ensures age { result.age ≡ self.age }
     {
         let requests = if place < self.requests {
             self.requests - 1

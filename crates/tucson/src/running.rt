@@ -13,6 +13,7 @@ use crate::serving::serve_script;
 use std::alloc::Global;
 use tc_centre::Core;
 use tc_lists::NoMemory;
+use tc_model::Clauses;
 
 // The budget of a centre for which none is given.
 const BUDGET: u32 = 1000;
@@ -52,5 +53,12 @@ fn configured(alloc: Global, config: &Config) -> Result<Core, NoMemory>
     let mut agents = Vec::new(alloc);
     agents.push(config.agent.copy(alloc)?)?;
     let centre = config.centre.copy(alloc)?;
-    Core::new(alloc, centre, agents, BUDGET, Vec::new(alloc))
+    Core::new(
+        alloc,
+        centre,
+        agents,
+        BUDGET,
+        Clauses::new(alloc),
+        Vec::new(alloc),
+    )
 }

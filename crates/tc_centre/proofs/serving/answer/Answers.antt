@@ -1,42 +1,26 @@
-use Rattle.std.proofs.Common.{◌≡◌, ◌∙◌, ◌<◌, Contains, ap, subst, get_or, length, arith}
-use Rattle.std.specs.List.{remove}
+use Rattle.std.proofs.Common.{◌≡◌, ◌<◌, ◌++◌, ◌∷◌, [], ap, sym, subst, length, ◌∙◌, arith}
+use Rattle.std.specs.List.{All, remove}
 use Rattle.std.proofs.lemmas.List.Edits.{length-remove}
 use Rattle.std.proofs.lemmas.Option.{slice_get_within}
 use Rattle.tc_pending.specs.Waiting.{Waiting}
-use Rattle.tc_model.specs.declared.calls.Request.{Request}
-use Rattle.tc_centre.specs.Held.{origin_of}
-use Rattle.tc_centre.proofs.Known.{left-none}
+use Rattle.tc_model.specs.Typed.{IsTypedCall}
 use Rattle.tc_model.specs.declared.entries.Entry.TheVariants.{Gave}
-use Rattle.tc_model.specs.declared.outcomes.Outcome.TheVariants.{Took}
-use Rattle.tc_centre.proofs.Typed.{typed-push, gave-typed}
+use Rattle.tc_centre.specs.Held.{origin_of, IsHeld}
+use Rattle.tc_centre.proofs.Typed.{typed-push}
 use Rattle.tc_centre.proofs.Answered.{answered}
 use Rattle.tc_centre.proofs.serving.answer.Goals as goal
 
 pub returns-clause-run : goal.returns-clause-run
 returns-clause-run c =
-    let r : Request = c.index-list-place.result in
-    answered (origin_of c.args.held.now.founding) c.args.held.now.history.items c.push.new.self.items c.args.held.now.bag.now c.take_answer.new.bag.now
-    c.args.held.now.bag.next c.take_answer.new.bag.next c.args.held.now.pending.now c.remove.new.self.now c.args.place c.args.age
-    r c.in_ok-tuple.tuple c.empty.result c.requires.run c.requires.next
-    (c.index-list-place.is ∙ ap (λ rs. get_or rs c.args.place r) c.list.ensures)
-    c.in_ok-tuple.ensures.tuple c.in_ok-tuple.ensures.rows
-    (ap (λ (w : Waiting). w.now) c.remove.ensures) c.empty.ensures c.in_ok-push.ensures.items c.take_answer.ensures.next
-
-pub returns-clause-fewer : goal.returns-clause-fewer
-returns-clause-fewer c =
-    let inside : c.args.place < length c.args.held.now.pending.now =
-    slice_get_within c.args.held.now.pending.now c.args.place c.requires.next.request c.requires.next.stands in
-    let gone : c.remove.new.self.now ≡ remove c.args.held.now.pending.now c.args.place = ap (λ (w : Waiting). w.now) c.remove.ensures in
-    let one_less = length-remove c.args.held.now.pending.now c.args.place inside in
-    omega (arith, one_less, ap length gone)
-
-pub returns-clause-rows : goal.returns-clause-rows
-returns-clause-rows c r there =
-    left-none c.index-list-place.result.takes c.args.age c.args.held.now.bag.now r
-    (subst (λ rows. Contains rows r) c.in_ok-tuple.ensures.rows there)
-
-pub returns-clause-typed : goal.returns-clause-typed
-returns-clause-typed c all =
-    typed-push c.args.held.now.history.items c.push.new.self.items (Gave c.index-list-place.result.id (Took c.in_ok-tuple.tuple) c.empty.result)
-    c.in_ok-push.ensures.items
-    (gave-typed c.index-list-place.result.id (Took c.in_ok-tuple.tuple) c.empty.result c.typed_id.ensures c.typed.ensures c.empty.ensures) all
+    let old = c.args.held.now in
+    let new = c.give.new.held in
+    let gives = c.in_ok-id.ensures.gives in
+    let entry = Gave c.in_ok-id.id c.in_ok-id.outcome c.in_ok-id.items in
+    subst (λ f. IsHeld (origin_of f) c.push.new.self.items new.spec new.bag.now new.bag.next c.remove.new.self.now)
+    (sym c.give.ensures.keeps.founding)
+    (answered (origin_of old.founding) old.history.items old.spec old.bag.now old.bag.next old.pending.now c.requires.run
+    c.push.new.self.items new.bag.now new.bag.next c.remove.new.self.now c.args.place c.args.age gives.request
+    c.in_ok-id.id c.in_ok-id.outcome c.in_ok-id.items c.requires.next gives.stands gives.of gives.given gives.state
+    (ap (λ (w : Waiting). w.now) c.remove.ensures)
+    (c.in_ok-push.ensures.items ∙ ap (λ es. es ++ entry ∷ []) c.give.ensures.history)
+    gives.next)

@@ -1,8 +1,9 @@
-use Rattle.std.proofs.Common.{◌≤◌, ◌<◌, length, sym, subst}
+use Rattle.std.proofs.Common.{◌≤◌, ◌<◌, length, sym, subst, ◌∙◌, arith}
 use Rattle.std.proofs.lemmas.Option.{slice_get_within}
 use Rattle.tc_lists.proofs.Options.{IfSome-at}
 use Rattle.tc_pending.specs.Answers.{IsKnown}
 use Rattle.tc_centre.proofs.Growing.{answers-more, keeps-more}
+use Rattle.tc_centre.proofs.Known.{known-more}
 use Rattle.tc_centre.proofs.serving.answer_all.Goals as goal
 
 pub loop-place-preserved : goal.loop-place-preserved
@@ -10,16 +11,22 @@ loop-place-preserved c =
     let old = c.loop-place.held in
     let new = c.answer.new.held in
     let told = c.in_ok-answer.ensures in
+    let knows = c.loop-place.invariant.known in
     let next = IfSome-at _ c.in_ok-place.field-0 (c.in-Some.place, c.in-Some.age) c.in-Some.is c.in_ok-place.ensures.found in
     let inside = slice_get_within old.pending.now c.in-Some.place next.request next.stands in
     record {
       run = told.run;
-      known = subst (λ rs. IsKnown c.without-known.result new.bag.now rs × (c.without-known.result.requests ≤ length rs)) (sym told.requests) (
-        c.without-known.ensures.known old.bag.now new.bag.now old.pending.now told.rows inside c.loop-place.invariant.known.0,
-        c.without-known.ensures.inside old.pending.now inside c.loop-place.invariant.known.1,
-      );
+      known = record {
+        none = subst (λ rs. IsKnown c.without-known.result new.bag.now rs) (sym told.requests)
+            (c.without-known.ensures.known new.bag.now new.bag.now old.pending.now (λ row there. there) inside
+            (known-more c.loop-place.known old new told.rows knows));
+        requests = subst (λ rs. c.without-known.result.requests ≤ length rs) (sym told.requests)
+            (c.without-known.ensures.inside old.pending.now inside knows.requests);
+        age = omega (arith, c.without-known.ensures.age, knows.age, told.rows.next);
+      };
       answers = answers-more c.args.held.now.history.items old.history.items new.history.items
           c.loop-place.invariant.answers told.answers;
       keeps = keeps-more c.args.held.now old new c.loop-place.invariant.keeps c.answer.ensures.keeps;
+      spec = c.answer.ensures.spec ∙ c.loop-place.invariant.spec;
       typed = λ all. told.typed (c.loop-place.invariant.typed all);
     }

@@ -1,4 +1,4 @@
-use Rattle.std.proofs.Common.{length}
+use Rattle.std.proofs.Common.{◌≡◌, length}
 use Rattle.tc_centre.specs.Held.{HoldsRun, Keeps, KeepsTyped, Knows, Answers}
 use Rattle.tc_centre.proofs.serving.answer_all.Given as goal
 
@@ -8,6 +8,7 @@ invariant-loop-place l = record {
   known : Knows l.known l.held;
   answers : Answers l.initial.held.history.items l.held.history.items;
   keeps : Keeps l.initial.held l.held;
+  spec : l.held.spec ≡ l.initial.held.spec;
   typed : KeepsTyped l.initial.held l.held;
 }
 

@@ -19,17 +19,16 @@ next c = subst (λ (k : Centre). IsNext k.origin k.history c.args.id) (sym c.sel
 
 pub invariant_of-self : goal.invariant_of-self
 invariant_of-self c = record {
-  origin = c.self.invariant.origin;
   rest = look-settled c.self.inside.held.founding c.self.inside.held.history.items c.look_up.new.history.items
-      c.self.inside.held.bag.now c.self.inside.held.bag.next c.self.inside.held.pending.now c.args.self.now c.args.id c.self.view_is
+      c.self.inside.held.spec c.self.inside.held.bag.now c.self.inside.held.bag.next c.self.inside.held.pending.now c.args.self.now c.args.id c.self.view_is
       c.args.asked (length c.list.result.now) c.self.inside.weight c.self.invariant.rest c.requires
       (has_call c) c.self.invariant.weight (ap length c.list.ensures)
       c.if-is_full.ensures.1 c.in-Ok.ensures.appended;
   weight = look-weight c.self.inside.held.founding c.self.inside.held.history.items c.look_up.new.history.items
-      c.self.inside.held.bag.now c.self.inside.held.bag.next c.self.inside.held.pending.now c.args.self.now c.args.id c.self.view_is
+      c.self.inside.held.spec c.self.inside.held.bag.now c.self.inside.held.bag.next c.self.inside.held.pending.now c.args.self.now c.args.id c.self.view_is
       c.args.asked c.self.inside.weight c.self.invariant.weight c.in-Ok.ensures.appended;
   places = look-places c.self.inside.held.founding c.self.inside.held.history.items c.look_up.new.history.items
-      c.self.inside.held.bag.now c.self.inside.held.bag.next c.self.inside.held.pending.now c.args.self.now c.args.id c.self.view_is
+      c.self.inside.held.spec c.self.inside.held.bag.now c.self.inside.held.bag.next c.self.inside.held.pending.now c.args.self.now c.args.id c.self.view_is
       c.args.asked (place_in c.self.inside.places) c.requires c.self.invariant.places c.in-Ok.ensures.appended;
   agents = c.note_number.ensures.agents ∙ c.self.invariant.agents;
   numbers = look-numbers c.self.inside.held.history.items c.look_up.new.history.items c.args.id c.self.inside.numbers.items
@@ -37,7 +36,7 @@ invariant_of-self c = record {
       (reply_in c.self.inside.held.history.items (earlier c.args.id c.args.asked)) c.in-Ok.ensures.appended;
   typed = typed-push c.self.inside.held.history.items c.look_up.new.history.items
       (Looked c.args.id c.args.asked (reply_in c.self.inside.held.history.items (earlier c.args.id c.args.asked)))
-      c.in-Ok.ensures.appended c.in-Ok.ensures.typed c.self.invariant.typed;
+      c.in-Ok.ensures.appended c.typed_id.ensures c.self.invariant.typed;
   bag_unmarked = c.self.invariant.bag_unmarked;
   pending_unmarked = c.self.invariant.pending_unmarked;
 }
@@ -45,6 +44,6 @@ invariant_of-self c = record {
 pub returns-in-Ok-clause-told : goal.returns-in-Ok-clause-told
 returns-in-Ok-clause-told c =
     tells c.self.inside.held.founding c.self.inside.held.history.items c.look_up.new.history.items
-    c.self.inside.held.bag.now c.self.inside.held.bag.next c.self.inside.held.pending.now c.args.self.now c.args.id c.self.view_is
+    c.self.inside.held.spec c.self.inside.held.bag.now c.self.inside.held.bag.next c.self.inside.held.pending.now c.args.self.now c.args.id c.self.view_is
     c.args.asked c.in-Ok.poll (has_call c) c.in-Ok.ensures.appended
     (invariant_of-self c).rest.holds.run c.in-Ok.ensures.poll

@@ -1,5 +1,5 @@
 use Rattle.tc_model.specs.Run.{IsNext}
-use Rattle.tc_model.specs.Typed.{IsTyped}
+use Rattle.tc_model.specs.Typed.{IsTypedCall}
 use Rattle.tc_centre.specs.Centre.{Centre}
 use Rattle.tc_centre.specs.Numbers.{AreLast}
 use Rattle.tc_centre.specs.declared.founding.Founding.{Founding}
@@ -9,7 +9,6 @@ use Rattle.tc_bag.specs.Stock.{Stock}
 use Rattle.tc_pending.specs.Waiting.{Waiting}
 use Rattle.tc_model.specs.Entries.{weight}
 use Rattle.tc_model.proofs.Runs.{IsRun-first}
-use Rattle.tc_model.specs.State.{IsOrigin}
 use Rattle.tc_centre.specs.Held.{origin_of}
 use Rattle.tc_centre.specs.Places.{place_in, IsIndex, IsSomeRun}
 use Rattle.tc_centre.specs.Turns.{IsGave}
@@ -44,7 +43,6 @@ pub invariant_of-self-in-Err : goal.invariant_of-self-in-Err
 invariant_of-self-in-Err c =
     let told = c.in-Err.ensures.same in
     record {
-      origin = subst (λ f. IsOrigin (origin_of f)) (sym told.founding) c.self.invariant.origin;
       rest = same-rest c.self.inside.held c.guarded.new.held told c.self.invariant.rest;
       weight = c.self.invariant.weight ∙ ap weight (sym told.history);
       places =
@@ -53,7 +51,7 @@ invariant_of-self-in-Err c =
           (λ id. c.reserve.ensures.entries.2 (id.agent, id.number)) c.self.invariant.places);
       agents = c.self.invariant.agents ∙ ap (λ (f : Founding). length f.agents.items) (sym told.founding);
       numbers = subst (AreLast c.self.inside.numbers.items) (sym told.history) c.self.invariant.numbers;
-      typed = subst (All IsTyped) (sym told.history) c.self.invariant.typed;
+      typed = subst (All IsTypedCall) (sym told.history) c.self.invariant.typed;
       bag_unmarked = ap (λ (b : Stock). b.saved) told.bag ∙ c.self.invariant.bag_unmarked;
       pending_unmarked = ap (λ (w : Waiting). w.saved) told.pending ∙ c.self.invariant.pending_unmarked;
     }
@@ -64,7 +62,6 @@ invariant_of-self-in-Ok c =
     let next : IsNext (origin_of c.self.inside.held.founding) c.self.inside.held.history.items c.args.id =
     subst (λ (k : Centre). IsNext k.origin k.history c.args.id) (sym c.self.view_is) c.requires.next in
     record {
-      origin = subst (λ f. IsOrigin (origin_of f)) (sym told.keeps.founding) c.self.invariant.origin;
       rest = told.rest;
       weight = weight-grown c.self.inside.held.history.items c.guarded.new.held.history.items c.len-before.result
           c.self.inside.weight c.weigh.result
