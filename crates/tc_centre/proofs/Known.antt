@@ -28,12 +28,12 @@ known-still old new quiet kept = record {
         stands = contains-tuple old.bag.now r (kept.rows.rows r there older);
         matches = match;
       });
-  requests = omega (arith, ap length kept.requests, length-take (length old.pending.now) new.pending.now);
+  count = omega (arith, ap length kept.requests, length-take (length old.pending.now) new.pending.now);
   age = kept.rows.next;
 }
 
 -- what was known is known behind an answer, of the requests that there were
-pub known-more : (known : Known) (old new : Holdings) → KeepsRows old new → Knows known old
+pub known-more : (known : Known) (old new : Holdings) → KeepsRows old.bag new.bag → Knows known old
     → IsKnown known new.bag.now old.pending.now
 known-more known old new kept knows q r stands there younger match =
     knows.none q r stands (kept.rows r there (omega (arith, younger, knows.age))) younger match

@@ -1,6 +1,6 @@
 -- What a centre holds between two entries of its history.
 use Rattle.std.specs.Prelude.{◌≡◌, ℕ, ◌+◌, ◌*◌, ◌<◌, ◌≤◌, List, [], ◌∷◌, ◌++◌, All, Contains, length, take}
-use Rattle.tc_bag.specs.Stock.{Row, AddsNone, tuples_of}
+use Rattle.tc_bag.specs.Stock.{Row, Stock, AddsNone, tuples_of}
 use Rattle.tc_model.specs.Entries.{weight}
 use Rattle.tc_model.specs.Reactions.{Rule}
 use Rattle.tc_model.specs.Typed.{IsTypedCall}
@@ -98,24 +98,28 @@ pub record Keeps (old new : Holdings) : Type 0 where
   pub longer : IsLonger old.history.items new.history.items
 
 -- what is new are younger rows, and the next age has not fallen
-pub record KeepsRows (old new : Holdings) : Type 0 where
-  pub rows : AddsNone old.bag.next old.bag.now new.bag.now
-  pub next : old.bag.next ≤ new.bag.next
+pub record KeepsRows (old new : Stock) : Type 0 where
+  pub rows : AddsNone old.next old.now new.now
+  pub next : old.next ≤ new.next
 
 -- what is new are younger rows, and requests behind the others
 pub record KeepsOld (old new : Holdings) : Type 0 where
-  pub rows : KeepsRows old new
+  pub rows : KeepsRows old.bag new.bag
   pub requests : take (length old.pending.now) new.pending.now ≡ old.pending.now
 
 -- what is known where no request can be answered
 abbrev pub known_of : Holdings → Known
 known_of h = record { requests = length h.pending.now; age = h.bag.next }
 
--- it is known of requests and rows as they are then
-pub record Knows (known : Known) (h : Holdings) : Type 0 where
-  pub none : IsKnown known h.bag.now h.pending.now
-  pub requests : known.requests ≤ length h.pending.now
-  pub age : known.age ≤ h.bag.next
+-- it is known of these rows, before whose next age it ends, and of these requests, among which it ends
+pub record IsKnownOf (known : Known) (rows : List Row) (next : ℕ) (requests : List Request) : Type 0 where
+  pub none : IsKnown known rows requests
+  pub age : known.age ≤ next
+  pub count : known.requests ≤ length requests
+
+-- it is known of rows and requests as they are then
+abbrev pub Knows : Known → Holdings → Type 0
+Knows known h = IsKnownOf known h.bag.now h.bag.next h.pending.now
 
 -- where the calls are typed, they stay so
 abbrev pub KeepsTyped : Holdings → Holdings → Type 0

@@ -13,7 +13,7 @@ use Rattle.tc_model.specs.declared.calls.Request.{Request}
 use Rattle.tc_model.specs.declared.items.Item.{Item}
 use Rattle.tc_model.specs.declared.outcomes.Outcome.{Outcome}
 use Rattle.tc_model.specs.declared.outcomes.Outcome.TheVariants.{Took, NoTuple}
-use Rattle.tc_centre.specs.Held.{origin_of, state_held, KeepsRows, KeepsOld}
+use Rattle.tc_centre.specs.Held.{origin_of, held, state_held, KeepsRows, KeepsOld}
 use Rattle.tc_centre.specs.declared.founding.Founding.{Founding}
 use Rattle.tc_centre.specs.declared.holdings.Holdings.{Holdings}
 use Rattle.tc_phases.specs.Phases.{setting_in}
@@ -61,6 +61,6 @@ pub record Gives (place : ℕ) (old new : Holdings) (id : CallId) (outcome : Out
   pub stands : slice_get old.pending.now place ≡ Some request
   pub of : request.id ≡ id
   pub given : IsGiven TheFirst (origin_of old.founding) (state_held old) request outcome items
-  pub state : state_held new ≡ after_giving request.takes outcome items (state_held old)
+  pub state : held old.spec new.bag.now old.pending.now ≡ after_giving request.takes outcome items (state_held old)
   pub next : RisesBy items old new
-  pub keeps : KeepsRows old new
+  pub keeps : KeepsRows old.bag new.bag

@@ -156,7 +156,7 @@ fn answer(alloc: Global, held: &mut Holdings, place: usize, age: u64) -> Result<
     ensures run { OnOk result (HoldsRun held.new) }
     ensures answers { OnOk result (Answers held.old.history.items held.new.history.items) }
     ensures requests { OnOk result (held.new.pending.now ≡ remove held.old.pending.now place) }
-    ensures rows { OnOk result (KeepsRows held.old held.new) }
+    ensures rows { OnOk result (KeepsRows held.old.bag held.new.bag) }
     ensures fewer { OnOk result (length held.new.pending.now < length held.old.pending.now) }
     ensures keeps { Keeps held.old held.new }
     ensures spec { held.new.spec ≡ held.old.spec }

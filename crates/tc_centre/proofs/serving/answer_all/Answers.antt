@@ -20,8 +20,8 @@ loop-place-preserved c =
         none = subst (λ rs. IsKnown c.without-known.result new.bag.now rs) (sym told.requests)
             (c.without-known.ensures.known new.bag.now new.bag.now old.pending.now (λ row there. there) inside
             (known-more c.loop-place.known old new told.rows knows));
-        requests = subst (λ rs. c.without-known.result.requests ≤ length rs) (sym told.requests)
-            (c.without-known.ensures.inside old.pending.now inside knows.requests);
+        count = subst (λ rs. c.without-known.result.requests ≤ length rs) (sym told.requests)
+            (c.without-known.ensures.inside old.pending.now inside knows.count);
         age = omega (arith, c.without-known.ensures.age, knows.age, told.rows.next);
       };
       answers = answers-more c.args.held.now.history.items old.history.items new.history.items
