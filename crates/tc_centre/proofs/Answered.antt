@@ -1,5 +1,5 @@
 -- The answer to the request that is next is legal, and leads to what is held then.
-use Rattle.std.proofs.Common.{◌≡◌, ◌++◌, ◌+◌, ◌*◌, ◌<◌, ◌≤◌, ℕ, false, List, [], ◌∷◌, AllPairs, Contains, Some, suc, zero, length, take, drop, slice_get, refl, sym, ap, subst, ◌∙◌, arith}
+use Rattle.std.proofs.Common.{◌≡◌, ◌++◌, ◌+◌, ◌*◌, ◌<◌, ◌≤◌, ℕ, List, [], ◌∷◌, Contains, Some, suc, zero, length, take, drop, slice_get, refl, sym, ap, subst, ◌∙◌, arith}
 use Rattle.std.specs.List.{remove}
 use Rattle.std.proofs.lemmas.Option.{same_Some, slice_get_within, slice_get-get_or, get_or_from_slice_get}
 use Rattle.std.proofs.lemmas.List.Edits.{length-remove}
@@ -7,7 +7,7 @@ use Rattle.std.proofs.lemmas.List.Elements.{All-contains, Contains-append_right}
 use Rattle.tc_lists.specs.Firsts.{IsFirst}
 use Rattle.tc_bag.specs.Stock.{Row, tuples_of}
 use Rattle.tc_pending.specs.Answers.{IsNextAnswer}
-use Rattle.tc_model.specs.Calls.{same_id, IsCallOf}
+use Rattle.tc_model.specs.Calls.{IsCallOf}
 use Rattle.tc_model.specs.Choices.{AnyOne, TheFirst}
 use Rattle.tc_model.specs.Entries.{weight}
 use Rattle.tc_model.specs.Reactions.{Rule}
@@ -16,7 +16,6 @@ use Rattle.tc_model.specs.Run.{IsLegal, IsRun, HasCall}
 use Rattle.tc_model.specs.Tables.{IsGiven}
 use Rattle.tc_model.specs.Waiting.{AreWaiting}
 use Rattle.tc_model.specs.declared.calls.CallId.{CallId}
-use Rattle.tc_model.specs.declared.calls.Op.{Op}
 use Rattle.tc_model.specs.declared.calls.Request.{Request}
 use Rattle.tc_model.specs.declared.items.Item.{Item}
 use Rattle.tc_model.specs.declared.outcomes.Outcome.{Outcome}

@@ -1,5 +1,5 @@
 -- An entry of a call or of an answer has no more items than the budget allows.
-use Rattle.std.proofs.Common.{◌≡◌, ◌≤◌, List, length, Some, None, ap, arith}
+use Rattle.std.proofs.Common.{◌≤◌, List, length, Some, None, ap, arith}
 use Rattle.tc_term.specs.Tree.{Tree}
 use Rattle.tc_model.specs.Choices.{Choice}
 use Rattle.tc_model.specs.Events.{Occurrence}

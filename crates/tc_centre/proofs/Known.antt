@@ -1,11 +1,9 @@
 -- What is known of requests and tuples, in the steps of a turn.
-use Rattle.std.proofs.Common.{◌≡◌, ◌<◌, ◌≤◌, ◌++◌, ℕ, List, [], ◌∷◌, Contains, length, take, get_or, map, refl, sym, ap, subst, ◌∙◌, arith}
+use Rattle.std.proofs.Common.{◌≡◌, ◌++◌, ℕ, List, [], ◌∷◌, Contains, length, take, refl, sym, ap, subst, ◌∙◌, arith}
 use Rattle.std.proofs.lemmas.List.{get_or-map, length-map, length-take, take_at}
-use Rattle.tc_lists.specs.Firsts.{NoneOf}
-use Rattle.tc_term.specs.Tree.{Tree}
 use Rattle.tc_bag.specs.Stock.{Row, tuples_of}
 use Rattle.tc_pending.specs.Answers.{IsKnown}
-use Rattle.tc_model.specs.State.{IsAnswerable, IsQuiescent}
+use Rattle.tc_model.specs.State.{IsQuiescent}
 use Rattle.tc_model.specs.declared.calls.Request.{Request}
 use Rattle.tc_centre.specs.Held.{KeepsRows, KeepsOld, Knows, known_of, state_held}
 use Rattle.tc_centre.specs.declared.holdings.Holdings.{Holdings}

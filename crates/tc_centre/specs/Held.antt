@@ -1,5 +1,5 @@
 -- What a centre holds between two entries of its history.
-use Rattle.std.specs.Prelude.{◌≡◌, ℕ, ◌+◌, ◌*◌, ◌<◌, ◌≤◌, List, [], ◌∷◌, ◌++◌, All, Contains, length, take}
+use Rattle.std.specs.Prelude.{◌≡◌, ℕ, ◌+◌, ◌*◌, ◌≤◌, List, [], ◌∷◌, ◌++◌, All, length, take}
 use Rattle.tc_bag.specs.Stock.{Row, Stock, AddsNone, tuples_of}
 use Rattle.tc_model.specs.Entries.{weight}
 use Rattle.tc_model.specs.Reactions.{Rule}

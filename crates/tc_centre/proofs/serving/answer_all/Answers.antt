@@ -1,4 +1,4 @@
-use Rattle.std.proofs.Common.{◌≤◌, ◌<◌, length, sym, subst, ◌∙◌, arith}
+use Rattle.std.proofs.Common.{◌≤◌, length, sym, subst, ◌∙◌, arith}
 use Rattle.std.proofs.lemmas.Option.{slice_get_within}
 use Rattle.tc_lists.proofs.Options.{IfSome-at}
 use Rattle.tc_pending.specs.Answers.{IsKnown}

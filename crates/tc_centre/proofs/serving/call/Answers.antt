@@ -1,7 +1,6 @@
 use Rattle.std.proofs.Common.{◌++◌, ◌∷◌, [], sym, ap, subst, ◌∙◌}
 use Rattle.std.specs.List.{All}
 use Rattle.tc_model.specs.Typed.{IsTypedCall}
-use Rattle.tc_model.specs.declared.entries.Entry.{Entry}
 use Rattle.tc_model.specs.declared.entries.Entry.TheVariants.{Called}
 use Rattle.tc_centre.specs.Held.{origin_of, IsHeld}
 use Rattle.tc_centre.proofs.Typed.{typed-push}
