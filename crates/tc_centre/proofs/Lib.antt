@@ -6,6 +6,7 @@ pub mod FreshReplies
 pub mod Room
 pub mod Growing
 pub mod Called
+pub mod Specified
 pub mod Turned
 pub mod Indexed
 pub mod Noting

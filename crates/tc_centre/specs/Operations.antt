@@ -4,6 +4,7 @@ use Rattle.tc_term.specs.Tree.{Tree}
 use Rattle.tc_model.specs.Choices.{TheFirst}
 use Rattle.tc_model.specs.State.{State, after_call, after_search, unless_over, with_tuples}
 use Rattle.tc_model.specs.Reactions.{Rule}
+use Rattle.tc_model.specs.Replies.{reply_in}
 use Rattle.tc_model.specs.Tables.{IsServed, IsGiven, setting_of}
 use Rattle.tc_model.specs.Tuples.{after_items}
 use Rattle.tc_model.specs.declared.calls.CallId.{CallId}
@@ -13,7 +14,9 @@ use Rattle.tc_model.specs.declared.calls.Request.{Request}
 use Rattle.tc_model.specs.declared.items.Item.{Item}
 use Rattle.tc_model.specs.declared.outcomes.Outcome.{Outcome}
 use Rattle.tc_model.specs.declared.outcomes.Outcome.TheVariants.{Took, NoTuple}
-use Rattle.tc_centre.specs.Held.{origin_of, held, state_held, KeepsRows, KeepsOld}
+use Rattle.tc_centre.specs.Held.{origin_of, held, state_held, Grows, IsAtRest, Keeps, KeepsRows, KeepsOld, KeepsTyped}
+use Rattle.tc_centre.specs.Turns.{IsAnswer}
+use Rattle.tc_centre.specs.declared.answers.Answer.{Answer}
 use Rattle.tc_centre.specs.declared.founding.Founding.{Founding}
 use Rattle.tc_centre.specs.declared.holdings.Holdings.{Holdings}
 use Rattle.tc_phases.specs.Phases.{setting_in}
@@ -50,12 +53,12 @@ pub record Performs (id : CallId) (op : Op) (old new : Holdings) (outcome : Outc
   pub next : RisesBy items old new
   pub keeps : KeepsOld old new
 
--- the state after the reactions to an answer, with the request still there
+-- the state after the reactions to an answer, before the request is removed
 abbrev pub after_giving : Bool → Outcome → List Item → State → State
 after_giving takes outcome items s =
     unless_over outcome s (with_tuples (after_items items (after_search takes outcome s.tuples)) s)
 
--- the request at a place was answered, with this outcome and these items; it is still there
+-- the request at a place was answered, with this outcome and these items
 pub record Gives (place : ℕ) (old new : Holdings) (id : CallId) (outcome : Outcome) (items : List Item) : Type 0 where
   pub request : Request
   pub stands : slice_get old.pending.now place ≡ Some request
@@ -64,3 +67,12 @@ pub record Gives (place : ℕ) (old new : Holdings) (id : CallId) (outcome : Out
   pub state : held old.spec new.bag.now old.pending.now ≡ after_giving request.takes outcome items (state_held old)
   pub next : RisesBy items old new
   pub keeps : KeepsRows old.bag new.bag
+
+-- a call was served: its entry was appended, and then answers, until no request can be answered; and
+-- the caller is told what the history then tells
+pub record HasServed (id : CallId) (op : Op) (old new : Holdings) (told : Answer) : Type 0 where
+  pub rest : IsAtRest new
+  pub grown : Grows id op old.history.items new.history.items
+  pub answer : IsAnswer (reply_in new.history.items id) told
+  pub kept : Keeps old new
+  pub typed : KeepsTyped old new

@@ -59,7 +59,7 @@ impl Core {
     ghost use Rattle.tc_centre.specs.Centre.{centre_from, state_of, weight_in, waiting_in, IsFullCentre};
     ghost use Rattle.tc_model.specs.Typed.{IsTyped};
     ghost use Rattle.tc_centre.specs.Numbers.{IsLast, IsAbove};
-    ghost use Rattle.tc_centre.specs.Turns.{IsOnTuples, Serves, IsRefused, Tells, IsPollRefused};
+    ghost use Rattle.tc_centre.specs.Turns.{Serves, IsRefused, Tells, IsPollRefused};
 
     /// A centre of these clauses and these tuples, oldest first, with an empty history.
     ///
@@ -108,8 +108,7 @@ impl Core {
     /// among the tuples where one is asked for, some nanoseconds for each request that waits where a
     /// tuple is put, and that of the answers, however long the history is.
     pub fn turn(&mut self, alloc: Global, id: CallId, op: Op) -> Result<Answer, TurnFault>
-        requires next { IsNext self.old.origin self.old.history id }
-        requires tuples { IsOnTuples op }
+        requires { IsNext self.old.origin self.old.history id }
         ensures served { IfOk result (Serves self.old self.new id op) }
         ensures refused { IfErr result (IsRefused self.old) }
         ensures full { IsFullCentre self.old

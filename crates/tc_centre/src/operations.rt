@@ -1,5 +1,5 @@
 //! Operations on the tuples and the requests of a centre, with their reactions.
-ghost use Rattle.std.specs.Prelude.{◌≡◌, ◌<◌, ◌++◌, ◌∷◌, [], length, IfOk, OnOk};
+ghost use Rattle.std.specs.Prelude.{◌≡◌, ◌<◌, ◌++◌, ◌∷◌, [], length, remove, IfOk, OnOk};
 ghost use Rattle.tc_model.specs.declared.calls.Op.{Op};
 ghost use Rattle.tc_pending.specs.Answers.{IsNextAnswer};
 ghost use Rattle.tc_centre.specs.Held.{Keeps, HoldsRun};
@@ -91,8 +91,9 @@ pub fn find(
     }
 }
 
-/// Answers the request at a place with the tuple of an age, with the reactions to that. Tells whose
-/// request it is, the outcome, and what the reactions did. The request is still there.
+/// Answers the request at a place with the tuple of an age, with the reactions to that, and removes
+/// it. Tells whose request it is, the outcome, and what the reactions did; where they went over the
+/// budget, the tuples are as before.
 pub fn give(
     alloc: Global,
     held: &mut Holdings,
@@ -105,13 +106,14 @@ pub fn give(
     ensures keeps { Keeps held.old held.new }
     ensures history { held.new.history.items ≡ held.old.history.items }
     ensures spec { held.new.spec ≡ held.old.spec }
-    ensures requests { held.new.pending ≡ held.old.pending }
+    ensures requests { OnOk result (held.new.pending.now ≡ remove held.old.pending.now place) }
 {
     let request = &held.pending.list()[place];
     let id = request.id;
     let takes = request.takes;
-    let regime = regime(&held.founding, &held.spec, id);
+    let regime = regime(&held.founding, &held.spec, request.id);
     let (tuple, cascade) = answer(alloc, &mut held.store, &regime, takes, age, &mut held.bag)?;
+    held.pending.remove(place);
     match cascade {
         Cascade::Whole(items) => Ok((id, Outcome::Took(tuple), items)),
         Cascade::Over(items) => Ok((id, Outcome::Over(Phase::Post, Some(tuple)), items)),

@@ -1,11 +1,13 @@
 //! Serving a call: its entry, and then the answers to requests that can be given.
 ghost use Rattle.std.specs.Prelude.{◌≡◌, ◌<◌, length, remove, IfOk, OnOk, OnErr};
 ghost use Rattle.tc_pending.specs.Answers.{IsNextAnswer};
+ghost use Rattle.tc_model.specs.Reactions.{clauses_text};
 ghost use Rattle.tc_model.specs.Replies.{reply_in};
 ghost use Rattle.tc_model.specs.Run.{IsNext};
 ghost use Rattle.tc_model.specs.Typed.{IsTypedId};
+ghost use Rattle.tc_model.specs.declared.calls.Op.{Op};
 ghost use Rattle.tc_centre.specs.Held.{origin_of, IsSame, Keeps, KeepsRows, KeepsTyped, HoldsRun, IsAtRest, Knows, known_of, HasRoom, Answers, Calls, Grows};
-ghost use Rattle.tc_centre.specs.Operations.{Performs};
+ghost use Rattle.tc_centre.specs.Operations.{Performs, HasServed};
 ghost use Rattle.tc_centre.specs.Turns.{IsOnTuples, IsAnswer};
 
 use crate::answers::Answer;
@@ -14,22 +16,96 @@ use crate::operations::{find, give, out, wait};
 use crate::replies::reply_to;
 use std::alloc::Global;
 use tc_lists::{NoMemory, Seq};
-use tc_model::{CallId, Entry, Item, Op, Outcome};
+use tc_model::{CallId, Entry, Item, Op, Outcome, Reply};
 use tc_pending::Known;
+use tc_spec::{Spec, print_spec};
 
 /// Serves a call, and answers the requests that can be answered, until none is left.
 ///
 /// Where memory ends, all is as before.
 pub fn guarded(alloc: Global, held: &mut Holdings, id: CallId, op: Op) -> Result<Answer, NoMemory>
     requires next { IsNext (origin_of held.old.founding) held.old.history.items id }
+    requires rest { IsAtRest held.old }
+    requires room { HasRoom held.old }
+    ensures served { IfOk result (HasServed id op held.old held.new) }
+    ensures same { OnErr result (IsSame held.old held.new) }
+{
+    match &op {
+        Op::Out(_) | Op::In(_) | Op::Rd(_) | Op::Inp(_) | Op::Rdp(_) => {
+            on_tuples(alloc, held, id, op)
+        }
+        Op::SetSpec(clauses) => {
+            let spec = Spec::of(alloc, clauses.copy(alloc)?)?;
+            set_spec(alloc, held, id, op, spec)
+        }
+        Op::GetSpec => get_spec(alloc, held, id),
+    }
+}
+
+// Replaces the clauses. Tuples and requests stay, so that still no request can be answered.
+fn set_spec(
+    alloc: Global,
+    held: &mut Holdings,
+    id: CallId,
+    op: Op,
+    spec: Spec,
+) -> Result<Answer, NoMemory>
+    requires next { IsNext (origin_of held.old.founding) held.old.history.items id }
+    requires rest { IsAtRest held.old }
+    requires room { HasRoom held.old }
+    requires spec { op ≡ Op.SetSpec spec }
+    ensures served { IfOk result (HasServed id op held.old held.new) }
+    ensures same { OnErr result (IsSame held.old held.new) }
+{
+    typed_id(id);
+    op.typed();
+    held.history.push(Entry::Called {
+        id,
+        op,
+        outcome: Outcome::Done,
+        items: Seq::empty(alloc),
+    })?;
+    held.spec = spec;
+    Ok(Answer::Replied(Reply::Done))
+}
+
+// Tells the text of the clauses.
+fn get_spec(alloc: Global, held: &mut Holdings, id: CallId) -> Result<Answer, NoMemory>
+    requires next { IsNext (origin_of held.old.founding) held.old.history.items id }
+    requires rest { IsAtRest held.old }
+    requires room { HasRoom held.old }
+    ensures served { IfOk result (HasServed id Op.GetSpec held.old held.new) }
+    ensures same { OnErr result (IsSame held.old held.new) }
+{
+    let reply = Reply::Spec(text_of(alloc, &held.spec)?);
+    let outcome = Outcome::Spec(text_of(alloc, &held.spec)?);
+    typed_id(id);
+    outcome.typed();
+    held.history.push(Entry::Called {
+        id,
+        op: Op::GetSpec,
+        outcome,
+        items: Seq::empty(alloc),
+    })?;
+    Ok(Answer::Replied(reply))
+}
+
+// The text of the clauses.
+fn text_of(alloc: Global, spec: &Spec) -> Result<Seq<u8>, NoMemory>
+    ensures { IfOk result (λ text. text ≡ clauses_text spec.now) }
+{
+    let mut text = Vec::new(alloc);
+    print_spec(alloc, spec.clauses(), &mut text)?;
+    Ok(Seq::new(text))
+}
+
+// Serves an operation on tuples, and answers the requests that can be answered.
+fn on_tuples(alloc: Global, held: &mut Holdings, id: CallId, op: Op) -> Result<Answer, NoMemory>
+    requires next { IsNext (origin_of held.old.founding) held.old.history.items id }
     requires op { IsOnTuples op }
     requires rest { IsAtRest held.old }
     requires room { HasRoom held.old }
-    ensures rest { OnOk result (IsAtRest held.new) }
-    ensures grown { OnOk result (Grows id op held.old.history.items held.new.history.items) }
-    ensures answer { IfOk result (IsAnswer (reply_in held.new.history.items id)) }
-    ensures keeps { OnOk result (Keeps held.old held.new) }
-    ensures typed { OnOk result (KeepsTyped held.old held.new) }
+    ensures served { IfOk result (HasServed id op held.old held.new) }
     ensures same { OnErr result (IsSame held.old held.new) }
 {
     held.bag.mark()?;
@@ -163,7 +239,6 @@ fn answer(alloc: Global, held: &mut Holdings, place: usize, age: u64) -> Result<
     ensures typed { OnOk result (KeepsTyped held.old held.new) }
 {
     let (id, outcome, items) = give(alloc, held, place, age)?;
-    held.pending.remove(place);
     held.history.push(Entry::Gave {
         id,
         outcome,

@@ -1,13 +1,12 @@
 //! What no printed history shows: refusals, looks, and what is left where reactions went over the
 //! budget.
-ghost use Rattle.std.specs.Prelude.{IfOk, IfSome};
+ghost use Rattle.std.specs.Prelude.{IfSome};
 ghost use Rattle.tc_model.specs.Run.{IsNext};
-ghost use Rattle.tc_centre.specs.Turns.{IsOnTuples};
 
 use crate::{Answer, Core, Poll, PollFault, TurnFault};
 use std::alloc::Global;
 use std::test::Fail;
-use tc_lists::NoMemory;
+use tc_lists::{NoMemory, Seq};
 use tc_model::{CallId, Op, Phase, Reply, check_origin};
 use tc_spec::read_spec;
 use tc_term::{Ground, Name, Pattern, Term};
@@ -52,9 +51,7 @@ fn next_call(core: &Core, agent: u32) -> Option<CallId>
 }
 
 // Puts the tuple `a` where `puts`, and else takes it, or waits for it.
-fn op(alloc: Global, puts: bool) -> Result<Op, Fail>
-    ensures { IfOk result IsOnTuples }
-{
+fn op(alloc: Global, puts: bool) -> Result<Op, Fail> {
     let atom = Term::Atom(Name::new(alloc, b"a")?);
     if puts {
         let Ok(tuple) = Ground::of(atom) else {
@@ -169,5 +166,40 @@ fn an_answer_that_goes_over_the_budget_leaves_no_request(rt: HostRuntime) -> Res
     assert_eq!(rt; core.weight(), 8);
     assert_eq!(rt; core.pending().len(), 0);
     assert_eq!(rt; core.tuples(), 1);
+    Ok(())
+}
+
+// The text of the clauses, as the next call of the first agent is told it.
+fn told_clauses(core: &mut Core, alloc: Global) -> Result<Seq<u8>, Fail> {
+    let Some(id) = next_call(core, 0) else {
+        return Err(Fail::new("no further call"));
+    };
+    match core.turn(alloc, id, Op::GetSpec)? {
+        Answer::Replied(Reply::Spec(text)) => Ok(text),
+        _ => Err(Fail::new("no clauses are told")),
+    }
+}
+
+#[test]
+fn clauses_are_replaced_from_the_next_call_on(rt: HostRuntime) -> Result<(), Fail> {
+    let alloc = rt.alloc();
+    let mut core = centre(alloc, 1, 3, b"reaction(out(a),out_r(b)).")?;
+    let one = call(&mut core, alloc, 0, true)?;
+    let Ok(clauses) = read_spec(alloc, b"reaction(out(X),in_r(X)). reaction(in(X),pre).") else {
+        return Err(Fail::new("no clauses"));
+    };
+    let Some(id) = next_call(&core, 0) else {
+        return Err(Fail::new("no further call"));
+    };
+    let set = core.turn(alloc, id, Op::SetSpec(clauses))?;
+    let other = call(&mut core, alloc, 0, true)?;
+    let text = told_clauses(&mut core, alloc)?;
+    assert!(rt; matches!(one, Answer::Replied(Reply::Done)));
+    assert!(rt; matches!(set, Answer::Replied(Reply::Done)));
+    assert!(rt; matches!(other, Answer::Replied(Reply::Done)));
+    assert_eq!(rt; core.weight(), 6);
+    assert_eq!(rt; core.tuples(), 2);
+    let want: &[u8] = b"reaction(out(_0),in_r(_0)).\nreaction(in(_0),pre).\n";
+    assert!(rt; text.items() == want);
     Ok(())
 }

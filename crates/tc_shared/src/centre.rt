@@ -1,7 +1,6 @@
 //! The centre, its passes, and a turn that is kept.
 ghost use Rattle.std.specs.Prelude.{◌≡◌, [], ◌<◌, ◌≤◌, ℕ, false, true, Some, length, IfOk, IfErr, OnErr, All};
 ghost use Rattle.tc_model.specs.Calls.{id_of, calls_of};
-ghost use Rattle.tc_centre.specs.Turns.{IsOnTuples};
 ghost use Rattle.tc_model.specs.Run.{HasCall};
 ghost use Rattle.tc_model.specs.Replies.{reply_in};
 ghost use Rattle.tc_centre.specs.Owners.{owner_of};
@@ -111,7 +110,6 @@ impl SharedCentre {
     ) -> Result<Answer, CallFault>
         requires own { IsPassOf self.now pass.old }
         requires free { pass.old.holds ≡ false }
-        requires tuples { IsOnTuples op }
         requires next { All (λ e. (id_of e).number < number) pass.old.mine }
         ensures served { IfOk result (λ told. Makes self.now pass.old number op told pass.new) }
         ensures refused { IfErr result (λ fault. IsCallRefused self.now pass.old fault pass.new) }

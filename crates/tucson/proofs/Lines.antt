@@ -2,7 +2,6 @@
 use Rattle.std.proofs.Common.{◌≡◌, ◌+◌, ◌*◌, ◌<◌, ◌≤◌, List, [], ◌∷◌, length, Some, None, All, refl, ap, ◌∙◌, subst, arith}
 use Rattle.std.proofs.lemmas.List.Elements.{All-head, All-tail, All-weaker}
 use Rattle.std.proofs.lemmas.List.Sums.{sum_by-le}
-use Rattle.tc_centre.specs.Turns.{IsOnTuples}
 use Rattle.tc_term.specs.Tree.{Tree}
 use Rattle.tc_model.specs.Choices.{TheFirst}
 use Rattle.tc_model.specs.Cascades.{IsWhole, IsOver}
@@ -16,7 +15,7 @@ use Rattle.tc_model.specs.Tables.{setting_of, Reacts, Overruns, IsServed}
 use Rattle.tc_model.specs.Waiting.{NeverWaits}
 use Rattle.tc_model.specs.declared.calls.CallId.{CallId}
 use Rattle.tc_model.specs.declared.calls.Op.{Op}
-use Rattle.tc_model.specs.declared.calls.Op.TheVariants.{Out, In, Rd, Inp, SetSpec, GetSpec}
+use Rattle.tc_model.specs.declared.calls.Op.TheVariants.{Out, In, Rd, Inp}
 use Rattle.tc_model.specs.declared.entries.Entry.{Entry}
 use Rattle.tc_model.specs.declared.entries.Entry.TheVariants.{Called, Gave, Looked}
 use Rattle.tc_model.specs.declared.events.Phase.TheVariants.{Post}
@@ -41,12 +40,6 @@ NeverWaits-item id _ result items item = tt
 pub NeverWaits-line : (e : Entry) → IsLine e → NeverWaits e
 NeverWaits-line (Called id op result items) line = NeverWaits-item id op result items line.0
 NeverWaits-line _ line = absurd line
-
--- an item is an operation on tuples
-pub IsOnTuples-item : (op : Op) → IsItem op → IsOnTuples op
-IsOnTuples-item (SetSpec clauses) item = absurd item
-IsOnTuples-item GetSpec item = absurd item
-IsOnTuples-item _ item = tt
 
 -- an item leaves the clauses
 call-clauses : (id : CallId) (op : Op) (result : Outcome) (items : List Item) (s : State)

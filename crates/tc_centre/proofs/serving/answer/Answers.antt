@@ -1,8 +1,7 @@
 use Rattle.std.proofs.Common.{◌<◌, ◌++◌, ◌∷◌, [], ap, sym, subst, length, ◌∙◌, arith}
-use Rattle.std.specs.List.{All, remove}
+use Rattle.std.specs.List.{All}
 use Rattle.std.proofs.lemmas.List.Edits.{length-remove}
 use Rattle.std.proofs.lemmas.Option.{slice_get_within}
-use Rattle.tc_pending.specs.Waiting.{Waiting}
 use Rattle.tc_model.specs.Typed.{IsTypedCall}
 use Rattle.tc_model.specs.declared.entries.Entry.TheVariants.{Gave}
 use Rattle.tc_centre.specs.Held.{origin_of, IsHeld}
@@ -16,22 +15,16 @@ returns-clause-run c =
     let new = c.give.new.held in
     let gives = c.in_ok-id.ensures.gives in
     let entry = Gave c.in_ok-id.id c.in_ok-id.outcome c.in_ok-id.items in
-    subst (λ f. IsHeld (origin_of f) c.push.new.self.items new.spec new.bag.now new.bag.next c.remove.new.self.now)
+    subst (λ f. IsHeld (origin_of f) c.push.new.self.items new.spec new.bag.now new.bag.next new.pending.now)
     (sym c.give.ensures.keeps.founding)
-    (subst (λ cs. IsHeld (origin_of old.founding) c.push.new.self.items cs new.bag.now new.bag.next c.remove.new.self.now)
+    (subst (λ cs. IsHeld (origin_of old.founding) c.push.new.self.items cs new.bag.now new.bag.next new.pending.now)
     (sym c.give.ensures.spec)
     (answered (origin_of old.founding) old.history.items old.spec old.bag.now old.bag.next old.pending.now c.requires.run
-    c.push.new.self.items new.bag.now new.bag.next c.remove.new.self.now c.args.place c.args.age gives.request
+    c.push.new.self.items new.bag.now new.bag.next new.pending.now c.args.place c.args.age gives.request
     c.in_ok-id.id c.in_ok-id.outcome c.in_ok-id.items c.requires.next gives.stands gives.of gives.given gives.state
-    (ap (λ (w : Waiting). w.now) c.remove.ensures
-    ∙ ap (λ (w : Waiting). remove w.now c.args.place) c.give.ensures.requests)
+    c.in_ok-id.ensures.requests
     (c.in_ok-push.ensures.items ∙ ap (λ es. es ++ entry ∷ []) c.give.ensures.history)
     gives.next))
-
-pub returns-clause-requests : goal.returns-clause-requests
-returns-clause-requests c =
-    ap (λ (w : Waiting). w.now) c.remove.ensures
-    ∙ ap (λ (w : Waiting). remove w.now c.args.place) c.give.ensures.requests
 
 pub returns-clause-fewer : goal.returns-clause-fewer
 returns-clause-fewer c =
@@ -39,7 +32,7 @@ returns-clause-fewer c =
     let inside : c.args.place < length requests =
     slice_get_within requests c.args.place c.requires.next.request c.requires.next.stands in
     let one_less = length-remove requests c.args.place inside in
-    omega (arith, one_less, ap length (returns-clause-requests c))
+    omega (arith, one_less, ap length c.in_ok-id.ensures.requests)
 
 pub returns-clause-typed : goal.returns-clause-typed
 returns-clause-typed c all =

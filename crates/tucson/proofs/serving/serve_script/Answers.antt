@@ -4,7 +4,7 @@ use Rattle.tc_centre.specs.Turns.{IsRefused}
 use Rattle.tc_model.specs.Run.{IsNext}
 use Rattle.tucson.specs.Good.{call}
 use Rattle.tucson.specs.Setup.{IsItem}
-use Rattle.tucson.proofs.Lines.{IsOnTuples-item, IsFull-lines}
+use Rattle.tucson.proofs.Lines.{IsFull-lines}
 use Rattle.tucson.proofs.Scripts.{IsNext-served}
 use Rattle.tucson.proofs.Turns.{IsServing, IsServing-none, IsServing-replied, IsServing-push}
 use Rattle.tucson.proofs.serving.serve_script.Goals as goal
@@ -13,14 +13,10 @@ pub turn-requires : goal.turn-requires
 turn-requires c =
     let core = c.loop-op.core in
     let so_far = c.loop-op.invariant in
-    let item = (subst (AllByRecursion IsItem) c.in-Some.ensures.steps.0 so_far.items).0 in
     let some : 0 < length core.origin.agents = subst (λ o. 0 < length o.agents) (sym so_far.origin) c.requires.fresh.agent in
     let count : c.len.result ≡ length c.loop-op.log.items = c.len.ensures ∙ c.loop-op.log.ok.0 in
-    record {
-      next = subst (λ n. IsNext core.origin core.history (call (n + 1))) (sym count)
-          (IsNext-served core.origin c.loop-op.yielded core.history c.loop-op.log.items some so_far.serving.served);
-      tuples = IsOnTuples-item c.in-Some.op item;
-    }
+    subst (λ n. IsNext core.origin core.history (call (n + 1))) (sym count)
+    (IsNext-served core.origin c.loop-op.yielded core.history c.loop-op.log.items some so_far.serving.served)
 
 pub unreachable-requires : goal.unreachable-requires
 unreachable-requires c =

@@ -21,21 +21,21 @@ pub note_turn-requires-clause-run : goal.note_turn-requires-clause-run
 note_turn-requires-clause-run c =
     subst IsSomeRun (sym c.deref-in-Ok.ensures.value) (
       origin_of c.guarded.new.held.founding,
-      IsRun-first (origin_of c.guarded.new.held.founding) c.guarded.new.held.history.items c.in-Ok.ensures.rest.holds.run,
+      IsRun-first (origin_of c.guarded.new.held.founding) c.guarded.new.held.history.items c.in-Ok.ensures.served.rest.holds.run,
     )
 
 pub note_turn-requires-clause-answers : goal.note_turn-requires-clause-answers
 note_turn-requires-clause-answers c =
     subst (λ es. All IsGave (drop (c.len-before.result + 1) es)) (sym c.deref-in-Ok.ensures.value)
     (grown-answers c.args.id c.args.op c.self.inside.held.history.items c.guarded.new.held.history.items c.len-before.result
-    (c.len-before.ensures ∙ c.self.inside.held.history.ok.0) c.in-Ok.ensures.grown)
+    (c.len-before.ensures ∙ c.self.inside.held.history.ok.0) c.in-Ok.ensures.served.grown)
 
 pub note_turn-requires-clause-places : goal.note_turn-requires-clause-places
 note_turn-requires-clause-places c =
     subst (IsIndex (place_in c.reserve.new.self))
     (sym (ap (take c.len-before.result) c.deref-in-Ok.ensures.value
     ∙ grown-before c.args.id c.args.op c.self.inside.held.history.items c.guarded.new.held.history.items c.len-before.result
-    (c.len-before.ensures ∙ c.self.inside.held.history.ok.0) c.in-Ok.ensures.grown))
+    (c.len-before.ensures ∙ c.self.inside.held.history.ok.0) c.in-Ok.ensures.served.grown))
     (index-agrees c.self.inside.held.history.items (place_in c.self.inside.places) (place_in c.reserve.new.self)
     (λ id. c.reserve.ensures.entries.2 (id.agent, id.number)) c.self.invariant.places)
 
@@ -58,9 +58,9 @@ invariant_of-self-in-Err c =
 
 pub invariant_of-self-in-Ok : goal.invariant_of-self-in-Ok
 invariant_of-self-in-Ok c =
-    let told = c.in-Ok.ensures in
+    let told = c.in-Ok.ensures.served in
     let next : IsNext (origin_of c.self.inside.held.founding) c.self.inside.held.history.items c.args.id =
-    subst (λ (k : Centre). IsNext k.origin k.history c.args.id) (sym c.self.view_is) c.requires.next in
+    subst (λ (k : Centre). IsNext k.origin k.history c.args.id) (sym c.self.view_is) c.requires in
     record {
       rest = told.rest;
       weight = weight-grown c.self.inside.held.history.items c.guarded.new.held.history.items c.len-before.result
@@ -71,15 +71,15 @@ invariant_of-self-in-Ok c =
           (c.weigh.ensures ∙ ap weight (slice-whole c.guarded.new.held.history.items c.deref.result.now c.len-before.result c.deref.ensures.value));
       places = search (rules, c.note_turn.ensures);
       agents = c.note_number.ensures.agents ∙ c.self.invariant.agents
-          ∙ ap (λ (f : Founding). length f.agents.items) (sym told.keeps.founding);
+          ∙ ap (λ (f : Founding). length f.agents.items) (sym told.kept.founding);
       numbers = turn-numbers c.self.inside.held.history.items c.guarded.new.held.history.items c.args.id c.self.inside.numbers.items
           c.note_number.new.numbers.items next.number c.note_number.ensures.noted c.self.invariant.numbers c.args.op told.grown;
       typed = told.typed c.self.invariant.typed;
-      bag_unmarked = told.keeps.bag ∙ c.self.invariant.bag_unmarked;
-      pending_unmarked = told.keeps.pending ∙ c.self.invariant.pending_unmarked;
+      bag_unmarked = told.kept.bag ∙ c.self.invariant.bag_unmarked;
+      pending_unmarked = told.kept.pending ∙ c.self.invariant.pending_unmarked;
     }
 
 pub returns-in-Ok-clause-served : goal.returns-in-Ok-clause-served
 returns-in-Ok-clause-served c =
     serves-held c.self.inside.held c.guarded.new.held c.args.self.now c.args.id c.args.op c.in-Ok.answer c.self.view_is
-    c.in-Ok.ensures.keeps c.in-Ok.ensures.grown c.in-Ok.ensures.rest c.in-Ok.ensures.answer
+    c.in-Ok.ensures.served.kept c.in-Ok.ensures.served.grown c.in-Ok.ensures.served.rest c.in-Ok.ensures.served.answer

@@ -10,8 +10,8 @@ use Rattle.tc_shared.proofs.Turns.{is-next, adds, makes, refuses, ok-no-fault}
 use Rattle.tc_shared.proofs.Kept.{keeps-makes, makes-own_call, keeps-call-refused}
 use Rattle.tc_shared.proofs.centre.SharedCentre.call.Goals as goal
 
-pub turn-served-requires-clause-next : goal.turn-served-requires-clause-next
-turn-served-requires-clause-next g c =
+pub turn-served-requires : goal.turn-served-requires
+turn-served-requires g c =
     let e = c.in-Ok.ensures in
     let old = c.in-Ok.held.value in
     let same : c.number.result ≡ c.args.pass.now.number =
