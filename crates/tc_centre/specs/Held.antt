@@ -34,9 +34,10 @@ origin_of f = record {
 abbrev pub held : List Rule → List Row → List Request → State
 held clauses rows requests = record { tuples = tuples_of rows; clauses = clauses; pending = requests }
 
--- the history is a run that has led to what is held, and there is room for the answers to all requests
-pub record IsHeld (origin : Origin) (history : List Entry) (clauses : List Rule) (rows : List Row) (next : ℕ)
-    (requests : List Request) : Type 0 where
+-- it began within the limits, the history is a run that has led to what is held, there is room for
+-- the answers to all requests, and ages are far from their end
+pub record IsHeld (origin : Origin) (history : List Entry) (clauses : List Rule)
+    (rows : List Row) (next : ℕ) (requests : List Request) : Type 0 where
   pub origin_is : IsOrigin origin
   pub run : IsFirstRun origin history
   pub state : held clauses rows requests ≡ after_history (opening origin) history
@@ -44,8 +45,8 @@ pub record IsHeld (origin : Origin) (history : List Entry) (clauses : List Rule)
   pub ages : next ≤ MOST_TUPLES + 65 * weight history
 
 -- and no request can be answered
-pub record IsSettled (origin : Origin) (history : List Entry) (clauses : List Rule) (rows : List Row) (next : ℕ)
-    (requests : List Request) : Type 0 where
+pub record IsSettled (origin : Origin) (history : List Entry) (clauses : List Rule)
+    (rows : List Row) (next : ℕ) (requests : List Request) : Type 0 where
   pub holds : IsHeld origin history clauses rows next requests
   pub quiescent : IsQuiescent (held clauses rows requests)
 
@@ -111,7 +112,7 @@ pub record KeepsOld (old new : Holdings) : Type 0 where
 abbrev pub known_of : Holdings → Known
 known_of h = record { requests = length h.pending.now; age = h.bag.next }
 
--- it is known of these rows, before whose next age it ends, and of these requests, among which it ends
+-- it is known of these rows and requests, and is about none that are to come
 pub record IsKnownOf (known : Known) (rows : List Row) (next : ℕ) (requests : List Request) : Type 0 where
   pub none : IsKnown known rows requests
   pub age : known.age ≤ next

@@ -1,5 +1,6 @@
 -- What an operation of a call comes to, and what an answer does.
-use Rattle.std.specs.Prelude.{◌≡◌, ◌≤◌, ℕ, ◌+◌, ◌*◌, Bool, if◌then◌else◌, Option, Some, None, List, length, slice_get}
+use Rattle.std.specs.Prelude.{◌≡◌, ◌≤◌, ℕ, ◌+◌, ◌*◌, Bool, if◌then◌else◌, Option, Some, None, List}
+use Rattle.std.specs.Prelude.{length, slice_get}
 use Rattle.tc_term.specs.Tree.{Tree}
 use Rattle.tc_model.specs.Choices.{TheFirst}
 use Rattle.tc_model.specs.State.{State, after_call, after_search, unless_over, with_tuples}
@@ -14,7 +15,8 @@ use Rattle.tc_model.specs.declared.calls.Request.{Request}
 use Rattle.tc_model.specs.declared.items.Item.{Item}
 use Rattle.tc_model.specs.declared.outcomes.Outcome.{Outcome}
 use Rattle.tc_model.specs.declared.outcomes.Outcome.TheVariants.{Took, NoTuple}
-use Rattle.tc_centre.specs.Held.{origin_of, held, state_held, Grows, IsAtRest, Keeps, KeepsRows, KeepsOld, KeepsTyped}
+use Rattle.tc_centre.specs.Held.{origin_of, held, state_held, Grows, IsAtRest}
+use Rattle.tc_centre.specs.Held.{Keeps, KeepsRows, KeepsOld, KeepsTyped}
 use Rattle.tc_centre.specs.Turns.{IsAnswer}
 use Rattle.tc_centre.specs.declared.answers.Answer.{Answer}
 use Rattle.tc_centre.specs.declared.founding.Founding.{Founding}
@@ -23,7 +25,8 @@ use Rattle.tc_phases.specs.Phases.{setting_in}
 use Rattle.tc_phases.specs.declared.regime.Regime.{Regime}
 
 -- the reactions run by these clauses, in the name of the agent of this call
-pub record IsRegimeOf (founding : Founding) (clauses : List Rule) (id : CallId) (regime : Regime) : Type 0 where
+pub record IsRegimeOf (founding : Founding) (clauses : List Rule) (id : CallId) (regime : Regime)
+    : Type 0 where
   pub clauses_are : regime.spec.now ≡ clauses
   pub setting : setting_in regime ≡ setting_of (origin_of founding) id
   pub budget : regime.budget ≡ founding.budget
@@ -46,7 +49,8 @@ abbrev pub RisesBy : List Item → Holdings → Holdings → Type 0
 RisesBy items old new = new.bag.next ≤ old.bag.next + 1 + 64 * length items
 
 -- a call's operation was done, with this outcome and these items; at most one request was added
-pub record Performs (id : CallId) (op : Op) (old new : Holdings) (outcome : Outcome) (items : List Item) : Type 0 where
+pub record Performs (id : CallId) (op : Op) (old new : Holdings) (outcome : Outcome)
+    (items : List Item) : Type 0 where
   pub served : IsServed TheFirst (origin_of old.founding) (state_held old) id op outcome items
   pub state : state_held new ≡ after_call id op outcome items (state_held old)
   pub few : length new.pending.now ≤ length old.pending.now + 1
@@ -59,12 +63,14 @@ after_giving takes outcome items s =
     unless_over outcome s (with_tuples (after_items items (after_search takes outcome s.tuples)) s)
 
 -- the request at a place was answered, with this outcome and these items
-pub record Gives (place : ℕ) (old new : Holdings) (id : CallId) (outcome : Outcome) (items : List Item) : Type 0 where
+pub record Gives (place : ℕ) (old new : Holdings) (id : CallId) (outcome : Outcome)
+    (items : List Item) : Type 0 where
   pub request : Request
   pub stands : slice_get old.pending.now place ≡ Some request
   pub of : request.id ≡ id
   pub given : IsGiven TheFirst (origin_of old.founding) (state_held old) request outcome items
-  pub state : held old.spec new.bag.now old.pending.now ≡ after_giving request.takes outcome items (state_held old)
+  pub state : held old.spec new.bag.now old.pending.now
+      ≡ after_giving request.takes outcome items (state_held old)
   pub next : RisesBy items old new
   pub keeps : KeepsRows old.bag new.bag
 

@@ -57,7 +57,14 @@ pub fn wait(
     ensures spec { held.new.spec ≡ held.old.spec }
 {
     let regime = regime(&held.founding, &held.spec, id);
-    match request(alloc, &mut held.store, &regime, takes, template, &mut held.bag)? {
+    match request(
+        alloc,
+        &mut held.store,
+        &regime,
+        takes,
+        template,
+        &mut held.bag,
+    )? {
         Cascade::Whole(items) => {
             append(alloc, id, takes, template, &mut held.pending)?;
             Ok((Outcome::Pending, items))
@@ -84,7 +91,14 @@ pub fn find(
     ensures spec { held.new.spec ≡ held.old.spec }
 {
     let regime = regime(&held.founding, &held.spec, id);
-    let (found, cascade) = search(alloc, &mut held.store, &regime, takes, template, &mut held.bag)?;
+    let (found, cascade) = search(
+        alloc,
+        &mut held.store,
+        &regime,
+        takes,
+        template,
+        &mut held.bag,
+    )?;
     match cascade {
         Cascade::Whole(items) => Ok((outcome_of(found), items)),
         Cascade::Over(items) => Ok((Outcome::Over(Phase::Post, found), items)),

@@ -6,7 +6,8 @@ ghost use Rattle.tc_model.specs.Replies.{reply_in};
 ghost use Rattle.tc_model.specs.Run.{IsNext};
 ghost use Rattle.tc_model.specs.Typed.{IsTypedId};
 ghost use Rattle.tc_model.specs.declared.calls.Op.{Op};
-ghost use Rattle.tc_centre.specs.Held.{origin_of, IsSame, Keeps, KeepsRows, KeepsTyped, HoldsRun, IsAtRest, Knows, known_of, HasRoom, Answers, Calls, Grows};
+ghost use Rattle.tc_centre.specs.Held.{origin_of, HoldsRun, IsAtRest, HasRoom, Knows, known_of};
+ghost use Rattle.tc_centre.specs.Held.{IsSame, Keeps, KeepsRows, KeepsTyped, Answers, Calls, Grows};
 ghost use Rattle.tc_centre.specs.Operations.{Performs, HasServed};
 ghost use Rattle.tc_centre.specs.Turns.{IsOnTuples, IsAnswer};
 
@@ -40,63 +41,6 @@ pub fn guarded(alloc: Global, held: &mut Holdings, id: CallId, op: Op) -> Result
         }
         Op::GetSpec => get_spec(alloc, held, id),
     }
-}
-
-// Replaces the clauses. Tuples and requests stay, so that still no request can be answered.
-fn set_spec(
-    alloc: Global,
-    held: &mut Holdings,
-    id: CallId,
-    op: Op,
-    spec: Spec,
-) -> Result<Answer, NoMemory>
-    requires next { IsNext (origin_of held.old.founding) held.old.history.items id }
-    requires rest { IsAtRest held.old }
-    requires room { HasRoom held.old }
-    requires spec { op ≡ Op.SetSpec spec }
-    ensures served { IfOk result (HasServed id op held.old held.new) }
-    ensures same { OnErr result (IsSame held.old held.new) }
-{
-    typed_id(id);
-    op.typed();
-    held.history.push(Entry::Called {
-        id,
-        op,
-        outcome: Outcome::Done,
-        items: Seq::empty(alloc),
-    })?;
-    held.spec = spec;
-    Ok(Answer::Replied(Reply::Done))
-}
-
-// Tells the text of the clauses.
-fn get_spec(alloc: Global, held: &mut Holdings, id: CallId) -> Result<Answer, NoMemory>
-    requires next { IsNext (origin_of held.old.founding) held.old.history.items id }
-    requires rest { IsAtRest held.old }
-    requires room { HasRoom held.old }
-    ensures served { IfOk result (HasServed id Op.GetSpec held.old held.new) }
-    ensures same { OnErr result (IsSame held.old held.new) }
-{
-    let reply = Reply::Spec(text_of(alloc, &held.spec)?);
-    let outcome = Outcome::Spec(text_of(alloc, &held.spec)?);
-    typed_id(id);
-    outcome.typed();
-    held.history.push(Entry::Called {
-        id,
-        op: Op::GetSpec,
-        outcome,
-        items: Seq::empty(alloc),
-    })?;
-    Ok(Answer::Replied(reply))
-}
-
-// The text of the clauses.
-fn text_of(alloc: Global, spec: &Spec) -> Result<Seq<u8>, NoMemory>
-    ensures { IfOk result (λ text. text ≡ clauses_text spec.now) }
-{
-    let mut text = Vec::new(alloc);
-    print_spec(alloc, spec.clauses(), &mut text)?;
-    Ok(Seq::new(text))
 }
 
 // Serves an operation on tuples, and answers the requests that can be answered.
@@ -239,12 +183,65 @@ fn answer(alloc: Global, held: &mut Holdings, place: usize, age: u64) -> Result<
     ensures typed { OnOk result (KeepsTyped held.old held.new) }
 {
     let (id, outcome, items) = give(alloc, held, place, age)?;
-    held.history.push(Entry::Gave {
-        id,
-        outcome,
-        items,
-    })?;
+    held.history.push(Entry::Gave { id, outcome, items })?;
     Ok(())
+}
+
+// Replaces the clauses. Tuples and requests stay, so that still no request can be answered.
+fn set_spec(
+    alloc: Global,
+    held: &mut Holdings,
+    id: CallId,
+    op: Op,
+    spec: Spec,
+) -> Result<Answer, NoMemory>
+    requires next { IsNext (origin_of held.old.founding) held.old.history.items id }
+    requires rest { IsAtRest held.old }
+    requires room { HasRoom held.old }
+    requires spec { op ≡ Op.SetSpec spec }
+    ensures served { IfOk result (HasServed id op held.old held.new) }
+    ensures same { OnErr result (IsSame held.old held.new) }
+{
+    typed_id(id);
+    op.typed();
+    held.history.push(Entry::Called {
+        id,
+        op,
+        outcome: Outcome::Done,
+        items: Seq::empty(alloc),
+    })?;
+    held.spec = spec;
+    Ok(Answer::Replied(Reply::Done))
+}
+
+// Tells the text of the clauses.
+fn get_spec(alloc: Global, held: &mut Holdings, id: CallId) -> Result<Answer, NoMemory>
+    requires next { IsNext (origin_of held.old.founding) held.old.history.items id }
+    requires rest { IsAtRest held.old }
+    requires room { HasRoom held.old }
+    ensures served { IfOk result (HasServed id Op.GetSpec held.old held.new) }
+    ensures same { OnErr result (IsSame held.old held.new) }
+{
+    let reply = Reply::Spec(text_of(alloc, &held.spec)?);
+    let outcome = Outcome::Spec(text_of(alloc, &held.spec)?);
+    typed_id(id);
+    outcome.typed();
+    held.history.push(Entry::Called {
+        id,
+        op: Op::GetSpec,
+        outcome,
+        items: Seq::empty(alloc),
+    })?;
+    Ok(Answer::Replied(reply))
+}
+
+// The text of the clauses.
+fn text_of(alloc: Global, spec: &Spec) -> Result<Seq<u8>, NoMemory>
+    ensures { IfOk result (λ text. text ≡ clauses_text spec.now) }
+{
+    let mut text = Vec::new(alloc);
+    print_spec(alloc, spec.clauses(), &mut text)?;
+    Ok(Seq::new(text))
 }
 
 /// Tells contracts what the type of an id promises, and does nothing.
