@@ -1,16 +1,20 @@
--- A goal is told by the term that it is written as, and so is a rule by its clause.
-use Rattle.std.proofs.Common.{◌≡◌, ℕ, List, [], ◌∷◌, if◌then◌else◌, map, refl, ap, sym, ◌∙◌, codes}
+-- A goal is told by the term that it is written as, and a rule by its clause.
+use Rattle.std.proofs.Common.{◌≡◌, ℕ, List, [], ◌∷◌, Result, Ok, Err, IfOk, if◌then◌else◌, length, map, refl, ap, ap₂, sym, ◌∙◌, codes}
 use Rattle.std.specs.Str.{bytes_eq}
 use Rattle.tc_term.specs.Tree.{Tree, Variable, Atomic, Number, Compound, Last, More}
 use Rattle.tc_term.specs.TreeView.{tree_of}
+use Rattle.tc_term.specs.Variables.{variables}
 use Rattle.tc_term.specs.declared.comparison.Cmp.TheVariants as cmp
 use Rattle.tc_term.specs.declared.terms.Term.{Term}
 use Rattle.tc_term.specs.declared.terms.Term.TheVariants.{Var, Atom, Int, Comp}
 use Rattle.tc_model.specs.Events.{op_name}
-use Rattle.tc_model.specs.Reactions.{goal_term}
+use Rattle.tc_model.specs.Reactions.{Rule, goal_term, of_one}
 use Rattle.tc_model.specs.declared.events.EventOp.{EventOp}
 use Rattle.tc_model.specs.declared.events.EventOp.TheVariants as op
 use Rattle.tc_model.specs.declared.goals.Goal.{Goal}
+use Rattle.tc_spec.proofs.Exact.{one_head, same_clause, same_goals}
+use Rattle.tc_spec.specs.Written.{IsWrittenAs}
+use Rattle.tc_spec.specs.declared.faults.ReactionFault.{ReactionFault}
 use Rattle.tc_model.specs.declared.goals.Goal.TheVariants.{OutR, InR, RdR, NoR, Pre, Post, Success, Failure, True, Agent, Centre, Operation, Tuple, Equal, Differ, Is, Compare}
 
 -- the term of a tree
@@ -121,3 +125,34 @@ op_of-name op.NoR = refl
 
 pub op_name-injective : (o p : EventOp) → op_name o ≡ op_name p → o ≡ p
 op_name-injective o p same = sym (op_of-name o) ∙ ap op_of same ∙ op_of-name p
+
+-- a term is written as one rule at most
+one_op : (o p : List ℕ) (a b : Tree) → of_one o a ≡ of_one p b → o ≡ p
+one_op o p a b same = cc
+
+one_argument : (o p : List ℕ) (a b : Tree) → of_one o a ≡ of_one p b → a ≡ b
+one_argument o p a b same = cc
+
+abbrev rule : ℕ → EventOp → Tree → List Goal → Rule
+rule vars op head goals = record { vars = vars; op = op; head = head; goals = goals }
+
+rule_parts : (r q : Rule) → r.vars ≡ q.vars → r.op ≡ q.op → r.head ≡ q.head → r.goals ≡ q.goals → r ≡ q
+rule_parts r q vars op head goals =
+    ap (λ n. rule n r.op r.head r.goals) vars ∙ ap (λ o. rule q.vars o r.head r.goals) op
+    ∙ ap₂ (rule q.vars q.op) head goals
+
+pub one_rule : (t : Tree) (r q : Rule) → IsWrittenAs t r → IsWrittenAs t q → r ≡ q
+one_rule t r q w v =
+    let heads : of_one (op_name r.op) r.head ≡ of_one (op_name q.op) q.head =
+    one_head (of_one (op_name r.op) r.head) w.spells.body (of_one (op_name q.op) q.head) v.spells.body
+    (sym w.spells.parts ∙ v.spells.parts) in
+    rule_parts r q
+    (w.rule.vars ∙ ap (λ u. length (variables u)) (same_clause t r q w.spells v.spells) ∙ sym v.rule.vars)
+    (op_name-injective r.op q.op (one_op (op_name r.op) (op_name q.op) r.head q.head heads))
+    (one_argument (op_name r.op) (op_name q.op) r.head q.head heads)
+    (goal_terms-injective r.goals q.goals (same_goals t r q w.spells v.spells))
+
+pub same_by : (t : Tree) (x : Result Rule ReactionFault) → IfOk x (IsWrittenAs t)
+    → (r : Rule) → IsWrittenAs t r → IfOk x (λ q. q ≡ r)
+same_by t (Ok q) written r w = one_rule t q r written w
+same_by t (Err f) written r w = tt

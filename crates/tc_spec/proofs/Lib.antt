@@ -13,3 +13,5 @@ pub mod Decoding
 pub mod OneText
 pub mod PrintedTexts
 pub mod GoingOn
+pub mod Apart
+pub mod Parted

@@ -1,51 +1,21 @@
 -- A text spells one list of clauses or has one first fault, and not both.
-use Rattle.std.proofs.Common.{◌≡◌, ◌<◌, ◌≤◌, ◌+◌, ◌⊎◌, ℕ, List, [], ◌∷◌, Result, Ok, Err, IfOk, IfErr, true, drop, length, inl, inr, refl, ap, ap₂, sym, subst, ◌∙◌, arith}
+use Rattle.std.proofs.Common.{◌≡◌, ◌<◌, ◌≤◌, ◌+◌, ◌⊎◌, ℕ, List, [], ◌∷◌, Result, Ok, Err, IfOk, IfErr, true, drop, length, inl, inr, refl, ap₂, sym, subst, ◌∙◌, arith}
 use Rattle.tc_term.specs.Faults.{Answer, Found, Nothing, TooBig, TooMany, WideInt}
 use Rattle.tc_term.specs.Faults as answer
 use Rattle.tc_term.specs.Tree.{Tree}
-use Rattle.tc_term.specs.Variables.{variables}
-use Rattle.tc_model.specs.Events.{op_name}
-use Rattle.tc_model.specs.Reactions.{Rule, of_one}
-use Rattle.tc_model.specs.declared.events.EventOp.{EventOp}
+use Rattle.tc_model.specs.Reactions.{Rule}
 use Rattle.tc_model.specs.declared.faults.BadSpec.{BadSpec}
 use Rattle.tc_model.specs.declared.faults.SpecCause.{SpecCause}
 use Rattle.tc_model.specs.declared.faults.SpecCause.TheVariants as cause
-use Rattle.tc_model.specs.declared.goals.Goal.{Goal}
 use Rattle.tc_model.specs.declared.limits.TheConstants.{MOST_CLAUSES}
 use Rattle.tc_read.proofs.OneReading.{one_reading}
-use Rattle.tc_spec.proofs.Decoding.{goal_terms-injective, op_name-injective}
-use Rattle.tc_spec.proofs.Exact.{excluded, same_cause, same_clause, same_goals, one_head, shape_spells, head_spells, goal_spells}
+use Rattle.tc_spec.proofs.Decoding.{one_rule}
+use Rattle.tc_spec.proofs.Exact.{excluded, same_cause, shape_spells, head_spells, goal_spells}
 use Rattle.tc_spec.specs.TextAnswers.{IsTextFault, IsTextWant, IsThisBad}
 use Rattle.tc_spec.specs.Texts.{AreSpelt, HasBadSpec, IsClauseAt, IsFaulty, IsRefused, IsSpelt, IsUnread, Reads}
 use Rattle.tc_spec.specs.Written.{IsCausedBy, IsWrittenAs, Spells}
 use Rattle.tc_spec.specs.declared.faults.SpecFault.{SpecFault}
 use Rattle.tc_spec.specs.declared.faults.SpecFault.TheVariants.{Bad, NoMemory}
-
--- a term is written as one rule at most
-one_op : (o p : List ℕ) (a b : Tree) → of_one o a ≡ of_one p b → o ≡ p
-one_op o p a b same = cc
-
-one_argument : (o p : List ℕ) (a b : Tree) → of_one o a ≡ of_one p b → a ≡ b
-one_argument o p a b same = cc
-
-abbrev rule : ℕ → EventOp → Tree → List Goal → Rule
-rule vars op head goals = record { vars = vars; op = op; head = head; goals = goals }
-
-rule_parts : (r q : Rule) → r.vars ≡ q.vars → r.op ≡ q.op → r.head ≡ q.head → r.goals ≡ q.goals → r ≡ q
-rule_parts r q vars op head goals =
-    ap (λ n. rule n r.op r.head r.goals) vars ∙ ap (λ o. rule q.vars o r.head r.goals) op
-    ∙ ap₂ (rule q.vars q.op) head goals
-
-pub one_rule : (t : Tree) (r q : Rule) → IsWrittenAs t r → IsWrittenAs t q → r ≡ q
-one_rule t r q w v =
-    let heads : of_one (op_name r.op) r.head ≡ of_one (op_name q.op) q.head =
-    one_head (of_one (op_name r.op) r.head) w.spells.body (of_one (op_name q.op) q.head) v.spells.body
-    (sym w.spells.parts ∙ v.spells.parts) in
-    rule_parts r q
-    (w.rule.vars ∙ ap (λ u. length (variables u)) (same_clause t r q w.spells v.spells) ∙ sym v.rule.vars)
-    (op_name-injective r.op q.op (one_op (op_name r.op) (op_name q.op) r.head q.head heads))
-    (one_argument (op_name r.op) (op_name q.op) r.head q.head heads)
-    (goal_terms-injective r.goals q.goals (same_goals t r q w.spells v.spells))
 
 -- the reader answers one thing at a place
 one_answer : (text : List ℕ) (from : ℕ) (a b : Answer) → Reads text from a → Reads text from b → a ≡ b

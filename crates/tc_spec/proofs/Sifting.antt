@@ -6,14 +6,12 @@ use Rattle.std.proofs.lemmas.List.{get_or_default}
 use Rattle.std.proofs.lemmas.List.Elements.{Contains-get_or, Contains-append_left, Contains-push, Contains-push_cases}
 use Rattle.std.proofs.lemmas.List.Quantifiers.{all_pairs_push}
 use Rattle.std.proofs.lemmas.Option.{slice_get-get_or, slice_get_read, slice_get_within}
-use Rattle.tc_term.specs.Variables.{raised, var_bound}
-use Rattle.tc_term.specs.Equations.{Solvable}
 use Rattle.tc_model.specs.Events.{Occurrence}
 use Rattle.tc_model.specs.Reactions.{Rule}
 use Rattle.tc_model.specs.Triggers.{IsClause, IsTriggered, AreTriggered}
 use Rattle.tc_model.specs.declared.events.EventOp.{EventOp}
 use Rattle.tc_spec.specs.Numbers.{AreThose}
-use Rattle.tc_spec.specs.Indexed.{AreOf, HasOp}
+use Rattle.tc_spec.specs.Indexed.{AreEnough, AreOf, HasOp}
 use Rattle.tc_spec.specs.Kept.{IsKept}
 
 module _ (f : ℕ → ℕ) (P : ℕ → Type 0) where
@@ -96,8 +94,17 @@ all_numbers P clauses found h = record {
   only = λ n inside. let from = h.from n inside in (from.3.0, from.3.1);
 }
 
--- of an operation's clauses those whose heads meet the event are those that it triggers
-pub all_triggered : (clauses : List Rule) (e : Occurrence) (numbers found : List ℕ) → AreOf e.op clauses numbers
+-- an operation's clauses are enough for its events
+pub of_enough : (clauses : List Rule) (e : Occurrence) (o : EventOp) (numbers : List ℕ) → o ≡ e.op → AreOf o clauses numbers
+    → AreEnough clauses e numbers
+of_enough clauses e o numbers same of = record {
+  rising = of.rising;
+  only = of.only;
+  all = λ n r clause triggered. (of.exact n r clause).1 (triggered.op ∙ sym same);
+}
+
+-- of enough numbers those whose clauses the event triggers are all of them
+pub all_triggered : (clauses : List Rule) (e : Occurrence) (numbers found : List ℕ) → AreEnough clauses e numbers
     → IsKept (λ k. get_or numbers k 0) (HasClause clauses (λ r. IsTriggered r e)) (length numbers) found
     → AreTriggered clauses e found
 all_triggered clauses e numbers found of h = record {
@@ -105,7 +112,7 @@ all_triggered clauses e numbers found of h = record {
   exact = λ n r clause. (
     λ inside. let from = h.from n inside in subst (λ q. IsTriggered q e) (one_clause clauses n from.3.0 r from.3.1 clause) from.3.2,
     λ triggered.
-        let inside = (of.exact n r clause).1 triggered.op in
+        let inside = of.all n r clause triggered in
         let number : get_or numbers inside.0 0 ≡ n = get_or_default numbers inside.0 0 n inside.1 ∙ inside.2 in
         subst (Contains found) number
         (h.all inside.0 inside.1 (subst (HasClause clauses (λ q. IsTriggered q e)) (sym number) (r, clause, triggered))),
@@ -113,13 +120,11 @@ all_triggered clauses e numbers found of h = record {
   only = λ n inside. let from = h.from n inside in (from.3.0, from.3.1);
 }
 
--- the clause of the number at a place of an operation's numbers
-pub clause_of_number : (o : EventOp) (clauses : List Rule) (numbers : List ℕ) (i n d : ℕ) → AreOf o clauses numbers
-    → i < length numbers → n ≡ get_or numbers i d → (r : Rule) × IsClause clauses n r × (r.op ≡ o)
-clause_of_number o clauses numbers i n d of inside at =
-    let contains : Contains numbers n = subst (Contains numbers) (sym at) (Contains-get_or numbers i d inside) in
-    let only = of.only n contains in
-    (only.0, only.1, (of.exact n only.0 only.1).0 contains)
+-- the clause of the number at a place
+pub clause_of_number : (clauses : List Rule) (e : Occurrence) (numbers : List ℕ) (i d : ℕ) → AreEnough clauses e numbers
+    → i < length numbers → (r : Rule) × IsClause clauses (get_or numbers i d) r
+clause_of_number clauses e numbers i d enough inside =
+    enough.only (get_or numbers i d) (Contains-get_or numbers i d inside)
 
 -- the clause that stands where its number says
 pub clause_read : (clauses : List Rule) (n : ℕ) (q r : Rule) → IsClause clauses n q → r ≡ get_or clauses (n - 1) r → IsClause clauses n r
@@ -128,45 +133,48 @@ clause_read clauses n q r h is =
     let within = slice_get_within clauses h.place q h.stands in
     record { place = h.place; at = h.at; stands = slice_get_read clauses (length clauses) h.place r refl within (subst (λ k. r ≡ get_or clauses k r) place is) }
 
+-- one clause more, kept or not
+pub rule_kept : (P : Rule → Type 0) (clauses : List Rule) (found new : List ℕ) (i : ℕ) (r : Rule) (keep : Bool)
+    → IsClause clauses (i + 1) r → IsKept (λ k. k + 1) (HasClause clauses P) i found → (IsTrue keep ↔ P r)
+    → new ≡ (if keep then found ++ (i + 1) ∷ [] else found) → IsKept (λ k. k + 1) (HasClause clauses P) (i + 1) new
+rule_kept P clauses found new i r keep clause h same kept =
+    kept_if (λ k. k + 1) (HasClause clauses P) i found new keep h (λ k lt. omega (arith, lt))
+    (λ holds. (r, clause, same.0 holds))
+    (λ fails has.
+    let holds = same.1 (subst P (one_clause clauses (i + 1) has.0 r has.1 clause) has.2) in
+    let never : false ≡ true = sym fails ∙ holds in
+    absurd cc)
+    kept
+
 pub op_kept : (o : EventOp) (clauses : List Rule) (found new : List ℕ) (i : ℕ) (r : Rule) (keep : Bool)
     → i < length clauses → r ≡ get_or clauses i r → IsKept (λ k. k + 1) (HasClause clauses (λ q. q.op ≡ o)) i found
     → (IsTrue keep ↔ (r.op ≡ o)) → new ≡ (if keep then found ++ (i + 1) ∷ [] else found)
     → IsKept (λ k. k + 1) (HasClause clauses (λ q. q.op ≡ o)) (i + 1) new
 op_kept o clauses found new i r keep inside is h same kept =
-    let clause : IsClause clauses (i + 1) r = record { place = i; at = refl; stands = slice_get_read clauses (length clauses) i r refl inside is } in
-    kept_if (λ k. k + 1) (HasClause clauses (λ q. q.op ≡ o)) i found new keep h (λ k lt. omega (arith, lt))
-    (λ holds. (r, clause, same.0 holds))
-    (λ fails has.
-    let e = one_clause clauses (i + 1) has.0 r has.1 clause in
-    let holds = same.1 (subst (λ (q : Rule). q.op ≡ o) e has.2) in
-    let never : false ≡ true = sym fails ∙ holds in
-    absurd cc)
-    kept
+    rule_kept (λ q. q.op ≡ o) clauses found new i r keep
+    (record { place = i; at = refl; stands = slice_get_read clauses (length clauses) i r refl inside is }) h same kept
 
-pub number_kept : (e : Occurrence) (clauses : List Rule) (numbers found new : List ℕ) (i : ℕ) (r : Rule) (meets : Bool)
-    → AreOf e.op clauses numbers → i < length numbers → r ≡ get_or clauses (get_or numbers i 0 - 1) r
+-- a number is kept where the event triggers its clause
+pub number_kept : (e : Occurrence) (clauses : List Rule) (numbers found new : List ℕ) (i : ℕ) (r : Rule) (triggers : Bool)
+    → AreEnough clauses e numbers → i < length numbers → r ≡ get_or clauses (get_or numbers i 0 - 1) r
     → IsKept (λ k. get_or numbers k 0) (HasClause clauses (λ q. IsTriggered q e)) i found
-    → (IsTrue meets → Solvable (r.vars + var_bound e.term) ((r.head, raised r.vars e.term) ∷ []))
-    → (meets ≡ false → Solvable (r.vars + var_bound e.term) ((r.head, raised r.vars e.term) ∷ []) → ⊥)
-    → new ≡ (if meets then found ++ get_or numbers i 0 ∷ [] else found)
+    → (IsTrue triggers → IsTriggered r e) → (triggers ≡ false → IsTriggered r e → ⊥)
+    → new ≡ (if triggers then found ++ get_or numbers i 0 ∷ [] else found)
     → IsKept (λ k. get_or numbers k 0) (HasClause clauses (λ q. IsTriggered q e)) (i + 1) new
-number_kept e clauses numbers found new i r meets of inside is h holds fails kept =
-    let n = get_or numbers i 0 in
-    let there = clause_of_number e.op clauses numbers i n 0 of inside refl in
-    let clause = clause_read clauses n there.0 r there.1 is in
-    let op : r.op ≡ e.op = subst (λ (q : Rule). q.op ≡ e.op) (one_clause clauses n there.0 r there.1 clause) there.2 in
-    kept_if (λ k. get_or numbers k 0) (HasClause clauses (λ q. IsTriggered q e)) i found new meets h
-    (λ k lt. of.rising k i 0 lt inside)
-    (λ y. (r, clause, record { op = op; solvable = holds y }))
-    (λ n has. fails n (subst (λ (q : Rule). IsTriggered q e) (one_clause clauses (get_or numbers i 0) has.0 r has.1 clause) has.2).solvable)
+number_kept e clauses numbers found new i r triggers enough inside is h holds fails kept =
+    let there = clause_of_number clauses e numbers i 0 enough inside in
+    let clause = clause_read clauses (get_or numbers i 0) there.0 r there.1 is in
+    kept_if (λ k. get_or numbers k 0) (HasClause clauses (λ q. IsTriggered q e)) i found new triggers h
+    (λ k lt. enough.rising k i 0 lt inside)
+    (λ y. (r, clause, holds y))
+    (λ n has. fails n (subst (λ (q : Rule). IsTriggered q e) (one_clause clauses (get_or numbers i 0) has.0 r has.1 clause) has.2))
     kept
 
 -- the number is at least 1, and its place is inside
-pub number_inside : (o : EventOp) (clauses : List Rule) (numbers : List ℕ) (i : ℕ) → AreOf o clauses numbers → i < length numbers
+pub number_inside : (e : Occurrence) (clauses : List Rule) (numbers : List ℕ) (i : ℕ) → AreEnough clauses e numbers → i < length numbers
     → (1 ≤ get_or numbers i 0) × (get_or numbers i 0 - 1 < length clauses)
-number_inside o clauses numbers i of inside =
-    let n = get_or numbers i 0 in
-    let there = clause_of_number o clauses numbers i n 0 of inside refl in
+number_inside e clauses numbers i enough inside =
+    let there = clause_of_number clauses e numbers i 0 enough inside in
     let within = slice_get_within clauses there.1.place there.0 there.1.stands in
     (omega (arith, there.1.at), omega (arith, there.1.at, within))
 

@@ -1,9 +1,13 @@
--- Clauses with their numbers by operation.
-use Rattle.std.specs.Prelude.{◌≡◌, ℕ, List}
+-- Clauses with their numbers by operation, and in parts by the codes of their heads.
+use Rattle.std.specs.Prelude.{◌≡◌, ◌<◌, ℕ, IsTrue, List, AllPairs, Contains, length}
+use Rattle.std.specs.declared.vec.Vec.{Vec}
+use Rattle.std.proofs.Common.{get_or}
+use Rattle.tc_model.specs.Events.{Occurrence}
 use Rattle.tc_model.specs.Reactions.{Rule}
-use Rattle.tc_model.specs.Triggers.{IsClause}
+use Rattle.tc_model.specs.Triggers.{IsClause, IsTriggered}
 use Rattle.tc_model.specs.declared.events.EventOp.{EventOp}
 use Rattle.tc_model.specs.declared.events.EventOp.TheVariants as op
+use Rattle.tc_spec.specs.Codes.{is_in, rule_part}
 use Rattle.tc_spec.specs.Numbers.{AreThose}
 use Rattle.tc_spec.specs.declared.spec.Index.{Index}
 
@@ -18,7 +22,23 @@ pub record HasOp (o : EventOp) (clauses : List Rule) : Type 0 where
 abbrev pub AreOf : EventOp → List Rule → List ℕ → Type 0
 AreOf o clauses numbers = AreThose (λ r. r.op ≡ o) clauses numbers
 
--- each list has the numbers of its operation's clauses
+-- the numbers of the clauses that are in this part of so many
+abbrev pub AreInPart : ℕ → ℕ → List Rule → List ℕ → Type 0
+AreInPart count part clauses numbers = AreThose (λ r. IsTrue (is_in (rule_part count r) part)) clauses numbers
+
+-- there is a part, and each has the numbers of its clauses
+pub record AreParts {X : Type 0} (clauses : List Rule) (parts : List (Vec ℕ X)) : Type 0 where
+  pub some : 0 < length parts
+  pub each : (part : ℕ) (d : Vec ℕ X) → part < length parts
+      → AreInPart (length parts) part clauses (get_or parts part d).items
+
+-- numbers of clauses, rising, with those of all the clauses that the event triggers among them
+pub record AreEnough (clauses : List Rule) (e : Occurrence) (numbers : List ℕ) : Type 0 where
+  pub rising : AllPairs ◌<◌ numbers
+  pub only : (n : ℕ) → Contains numbers n → (r : Rule) × IsClause clauses n r
+  pub all : (n : ℕ) (r : Rule) → IsClause clauses n r → IsTriggered r e → Contains numbers n
+
+-- each list has the numbers of its operation's clauses, and each part those of its own
 pub record IsIndex (clauses : List Rule) (i : Index) : Type 0 where
   pub out : AreOf op.Out clauses i.out.items
   pub in_ : AreOf op.In clauses i.in_.items
@@ -29,3 +49,4 @@ pub record IsIndex (clauses : List Rule) (i : Index) : Type 0 where
   pub in_r : AreOf op.InR clauses i.in_r.items
   pub rd_r : AreOf op.RdR clauses i.rd_r.items
   pub no_r : AreOf op.NoR clauses i.no_r.items
+  pub parts : AreParts clauses i.parts.items

@@ -1,4 +1,5 @@
 pub mod Numbers
+pub mod Codes
 pub mod Indexed
 pub mod Kept
 pub mod Written

@@ -19,11 +19,13 @@
 mod arguments;
 mod bodies;
 mod brackets;
+mod codes;
 mod faults;
 mod goals;
 mod heads;
 mod laws;
 mod leaves;
+mod parts;
 mod printing;
 mod reading;
 mod spec;

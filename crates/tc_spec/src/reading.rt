@@ -1,5 +1,5 @@
 //! From a term to a reaction.
-ghost use Rattle.std.specs.Prelude.{IsTrue, IfErr, IfOk};
+ghost use Rattle.std.specs.Prelude.{◌≡◌, IsTrue, IfErr, IfOk};
 ghost use Rattle.tc_term.specs.NameBytes.{has_read_names};
 ghost use Rattle.tc_model.specs.Reactions.{Rule};
 ghost use Rattle.tc_model.specs.declared.faults.SpecCause.{SpecCause};
@@ -28,6 +28,7 @@ pub fn reaction_of(alloc: Global, p: &Pattern) -> Result<Reaction, ReactionFault
 
     // Each answer comes exactly where it is due, but for want of memory.
     ensures written { (r : Rule) → IsWrittenAs p.now r → IfErr result IsWant }
+    ensures same { (r : Rule) → IsWrittenAs p.now r → IfOk result (λ read. read ≡ r) }
     ensures refused { (why : SpecCause) → IsCausedBy p.now why → IfOk result (λ _. ⊥) }
     ensures caused { (why : SpecCause) → IsCausedBy p.now why → IfErr result (IsThisFault why) }
 {

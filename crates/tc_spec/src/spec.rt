@@ -1,8 +1,9 @@
-//! Clauses with an index by operation.
-ghost use Rattle.std.specs.Prelude.{◌≡◌, ◌↔◌, IsTrue, IfOk, List};
+//! Clauses with an index by operation and by the code of the head.
+ghost use Rattle.std.specs.Prelude.{◌≡◌, ◌<◌, ◌↔◌, IsTrue, IfOk, List, length};
 ghost use Rattle.tc_model.specs.Reactions.{Rule};
-ghost use Rattle.tc_spec.specs.Indexed.{AreOf, IsIndex};
+ghost use Rattle.tc_spec.specs.Indexed.{AreEnough, AreOf, IsIndex};
 
+use crate::parts::{part_for, parts_of};
 use crate::triggers::{numbers_of, triggered_of};
 use std::alloc::Global;
 use std::marker::Model;
@@ -10,7 +11,7 @@ use tc_lists::NoMemory;
 use tc_model::{Clauses, Event, EventOp};
 use tc_unify::Store;
 
-// The numbers of the clauses of each operation, rising.
+// The numbers of the clauses of each operation, and of the clauses in parts by their codes; rising.
 #[derive(Drop)]
 pub struct Index {
     out: Vec<u32>,
@@ -22,9 +23,10 @@ pub struct Index {
     in_r: Vec<u32>,
     rd_r: Vec<u32>,
     no_r: Vec<u32>,
+    parts: Vec<Vec<u32>>,
 }
 
-/// The clauses of a centre, with an index by operation.
+/// The clauses of a centre, with an index by operation and by the code of the head.
 #[derive(Drop)]
 pub struct Spec {
     clauses: Clauses,
@@ -52,7 +54,7 @@ impl Spec {
     ghost use Rattle.tc_model.specs.Triggers.{AreTriggered};
     ghost use Rattle.tc_spec.specs.Indexed.{HasOp};
 
-    /// The clauses with their index. Takes the time of the clauses.
+    /// The clauses with their index. Takes the time of their heads, and up to 256 steps for each.
     pub fn of(alloc: Global, clauses: Clauses) -> Result<Spec, NoMemory>
         ensures { IfOk result (λ spec. spec ≡ clauses) }
     {
@@ -67,6 +69,7 @@ impl Spec {
             in_r: numbers_of(alloc, items, EventOp::InR)?,
             rd_r: numbers_of(alloc, items, EventOp::RdR)?,
             no_r: numbers_of(alloc, items, EventOp::NoR)?,
+            parts: parts_of(alloc, items)?,
         };
         Ok(Spec { clauses, index })
     }
@@ -89,8 +92,9 @@ impl Spec {
     /// The numbers of the clauses that the event triggers, rising. Clauses count from 1.
     ///
     /// The store is scratch: it may hold anything before, and nothing is said of it afterwards.
-    /// Only clauses of the event's operation are tried, each in the time of its head and the event's
-    /// term.
+    /// Only clauses whose heads have the operation, the name and the number of arguments of the event,
+    /// or a variable, are tried, each in the time of its head and the event's term; few others are
+    /// looked at.
     pub fn triggered(
         &self,
         alloc: Global,
@@ -99,8 +103,7 @@ impl Spec {
     ) -> Result<Vec<u32>, NoMemory>
         ensures { IfOk result (λ numbers. AreTriggered self.now e.now numbers.items) }
     {
-        let op = e.op();
-        let numbers = numbers_in(&self.index, op);
+        let numbers = numbers_for(&self.index, e);
         let items = self.clauses.items();
         let found = triggered_of(alloc, store, items, numbers, e)?;
         Ok(found)
@@ -121,5 +124,18 @@ fn numbers_in(index: &Index, o: EventOp) -> &[u32]
         EventOp::InR => &index.in_r,
         EventOp::RdR => &index.rd_r,
         EventOp::NoR => &index.no_r,
+    }
+}
+
+// The numbers of the clauses that an event may trigger.
+fn numbers_for<'i>(index: &'i Index, e: &Event) -> &'i [u32]
+    requires { 0 < length index.now.parts.items }
+    ensures { (clauses : List Rule) → IsIndex clauses index.now → AreEnough clauses e.now result.now }
+{
+    let op = e.op();
+    let term = e.term();
+    match part_for(op, term.term(), index.parts.len()) {
+        None => numbers_in(index, op),
+        Some(part) => &index.parts[part],
     }
 }

@@ -1,14 +1,17 @@
 //! The clauses of an operation, and those of them whose heads meet an event.
-ghost use Rattle.std.specs.Prelude.{◌≡◌, ◌≤◌, ◌+◌, ◌↔◌, ◌++◌, ◌∷◌, [], if◌then◌else◌, length, false, IsTrue, IfOk, OnOk};
+ghost use Rattle.std.specs.Prelude.{◌≡◌, ◌≤◌, ◌+◌, ◌↔◌, ◌++◌, ◌∷◌, [], if◌then◌else◌, length, false, ℕ, List, IsTrue, IfOk, OnOk};
 ghost use Rattle.tc_term.specs.Variables.{var_bound, raised};
-ghost use Rattle.tc_term.specs.Equations.{Solvable};
-ghost use Rattle.tc_model.specs.Triggers.{AreTriggered};
+ghost use Rattle.tc_term.specs.Equations.{Solvable, under};
+ghost use Rattle.tc_term.specs.Tree.{Tree};
+ghost use Rattle.tc_term.specs.TreeView.{tree_of};
+ghost use Rattle.tc_model.specs.Triggers.{AreTriggered, IsTriggered};
 ghost use Rattle.tc_model.specs.declared.limits.TheConstants.{MOST_CLAUSES};
-ghost use Rattle.tc_spec.specs.Indexed.{AreOf};
+ghost use Rattle.tc_spec.specs.Indexed.{AreEnough, AreOf};
 
 use std::alloc::Global;
 use tc_lists::NoMemory;
 use tc_model::{Event, EventOp, Reaction};
+use tc_term::Term;
 use tc_unify::{Part, Store};
 
 /// The numbers of the clauses of an operation, from 1, rising.
@@ -24,7 +27,7 @@ pub fn numbers_of(alloc: Global, clauses: &[Reaction], o: EventOp) -> Result<Vec
     Ok(numbers)
 }
 
-/// Those of an operation's clauses that the event of the operation triggers.
+/// Those of the numbers whose clauses the event triggers; there are none besides.
 pub fn triggered_of(
     alloc: Global,
     store: &mut Store,
@@ -32,14 +35,14 @@ pub fn triggered_of(
     numbers: &[u32],
     e: &Event,
 ) -> Result<Vec<u32>, NoMemory>
-    requires { AreOf e.now.op clauses.now numbers.now }
+    requires { AreEnough clauses.now e.now numbers.now }
     ensures { IfOk result (λ found. AreTriggered clauses.now e.now found.items) }
 {
     let mut found = Vec::new(alloc);
     for i in 0..numbers.len() {
         let number = numbers[i];
-        let meets = does_meet(store, &clauses[number as usize - 1], e)?;
-        keep_if(&mut found, meets, number)?;
+        let triggers = is_triggered(store, &clauses[number as usize - 1], e)?;
+        keep_if(&mut found, triggers, number)?;
     }
     Ok(found)
 }
@@ -51,8 +54,8 @@ fn has_op(r: &Reaction, o: EventOp) -> bool
     r.op() == o
 }
 
-// Appends a number, if it is to be kept.
-fn keep_if(numbers: &mut Vec<u32>, keep: bool, number: u32) -> Result<(), NoMemory>
+/// Appends a number, if it is to be kept.
+pub fn keep_if(numbers: &mut Vec<u32>, keep: bool, number: u32) -> Result<(), NoMemory>
     ensures { OnOk result (numbers.new.items
         ≡ (if keep then numbers.old.items ++ number ∷ [] else numbers.old.items)) }
 {
@@ -60,6 +63,40 @@ fn keep_if(numbers: &mut Vec<u32>, keep: bool, number: u32) -> Result<(), NoMemo
         numbers.push(number)?;
     }
     Ok(())
+}
+
+// Whether an event triggers a reaction.
+fn is_triggered(store: &mut Store, r: &Reaction, e: &Event) -> Result<bool, NoMemory>
+    ensures yes { IfOk result (λ y. IsTrue y → IsTriggered r.now e.now) }
+    ensures no { IfOk result (λ y. y ≡ false → IsTriggered r.now e.now → ⊥) }
+{
+    if !has_op(r, e.op()) {
+        return Ok(false);
+    }
+    let term = e.term();
+    if !could_meet(r.head(), term.term()) {
+        return Ok(false);
+    }
+    let meets = does_meet(store, r, e)?;
+    Ok(meets)
+}
+
+// Whether two terms are alike without their arguments, or one is a variable. Else no valuation makes
+// them equal.
+fn could_meet(head: &Term, term: &Term) -> bool
+    ensures { result ≡ false → (v : List Tree) (k : ℕ)
+        → under v (tree_of head.now) ≡ under v (raised k (tree_of term.now)) → ⊥ }
+{
+    match (head, term) {
+        (Term::Var(_), _) => true,
+        (_, Term::Var(_)) => true,
+        (Term::Atom(m), Term::Atom(n)) => m.bytes() == n.bytes(),
+        (Term::Int(m), Term::Int(n)) => m == n,
+        (Term::Comp(m, xs), Term::Comp(n, ys)) => {
+            xs.items().len() == ys.items().len() && m.bytes() == n.bytes()
+        }
+        _ => false,
+    }
 }
 
 // Whether the head of a reaction can be made equal to an event's term.

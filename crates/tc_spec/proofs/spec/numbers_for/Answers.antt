@@ -1,0 +1,24 @@
+use Rattle.std.proofs.Common.{◌≡◌, ◌<◌, length, sym, subst, ◌∙◌, arith}
+use Rattle.tc_term.specs.TreeView.{tree_of}
+use Rattle.tc_spec.proofs.Parted.{part_enough, part_found}
+use Rattle.tc_spec.proofs.Sifting.{of_enough}
+use Rattle.tc_spec.specs.Indexed.{AreInPart}
+use Rattle.tc_spec.proofs.spec.numbers_for.Goals as goal
+
+pub returns-in-None : goal.returns-in-None
+returns-in-None c clauses index =
+    of_enough clauses c.args.e.now c.op-op.result c.numbers_in.result.now c.op-op.ensures (c.numbers_in.ensures clauses index)
+
+pub returns-in-Some : goal.returns-in-Some
+returns-in-Some c clauses index =
+    let count = length c.args.index.now.parts.items in
+    let len : c.len.result ≡ count = omega (arith, c.len.ensures, c.args.index.now.parts.ok.0) in
+    let inside : c.in-Some.part < count = omega (arith, c.in-Some.ensures.inside, len) in
+    let numbers = c.deref.ensures.value in
+    let those : AreInPart count c.in-Some.part clauses c.index.result.now.items =
+    subst (λ v. AreInPart count c.in-Some.part clauses v.items) (sym c.index.ensures)
+    (index.parts.each c.in-Some.part c.index.result.now inside) in
+    part_enough count c.in-Some.part clauses c.args.e.now c.deref.result.now
+    (subst (AreInPart count c.in-Some.part clauses) (sym numbers) those)
+    (part_found count c.len.result c.in-Some.part c.op-op.result c.args.e.now (tree_of c.term.result.now) len c.op-op.ensures
+    (c.term.ensures.term ∙ c.term-term.ensures.term) c.in-Some.ensures.part)

@@ -1,0 +1,61 @@
+//! Codes of heads, by which an event finds the clauses whose heads it could meet.
+ghost use Rattle.std.specs.Prelude.{◌≡◌, ◌+◌, ◌*◌, ◌%◌, ◌^◌};
+ghost use Rattle.std.specs.List.{fold};
+ghost use Rattle.tc_term.specs.TreeView.{tree_of};
+ghost use Rattle.tc_spec.specs.Codes.{code_of, mixed, op_code};
+
+use tc_model::EventOp;
+use tc_term::Term;
+
+/// The code of an operation and of a term without its arguments; `None` where that is a variable.
+///
+/// Takes the time of the term's name.
+pub fn code_of(op: EventOp, t: &Term) -> Option<u64>
+    ensures { result ≡ code_of op (tree_of t.now) }
+{
+    let first = op_code(op);
+    match t {
+        Term::Var(_) => None,
+        Term::Atom(name) => Some(mix_all(first, name.bytes())),
+        Term::Int(n) => Some(mix(first, n.unsigned_abs())),
+        Term::Comp(name, args) => {
+            let count = args.items().len() as u64;
+            Some(mix_all(mix(first, count), name.bytes()))
+        }
+    }
+}
+
+// The code of an operation.
+fn op_code(op: EventOp) -> u64
+    ensures { result ≡ op_code op }
+{
+    match op {
+        EventOp::Out => 1,
+        EventOp::In => 2,
+        EventOp::Rd => 3,
+        EventOp::Inp => 4,
+        EventOp::Rdp => 5,
+        EventOp::OutR => 6,
+        EventOp::InR => 7,
+        EventOp::RdR => 8,
+        EventOp::NoR => 9,
+    }
+}
+
+// A code and bytes behind it.
+fn mix_all(code: u64, bytes: &[u8]) -> u64
+    ensures { result ≡ fold mixed code bytes.now }
+{
+    let mut all = code;
+    for byte in bytes {
+        all = mix(all, u64::from(*byte));
+    }
+    all
+}
+
+// A code and a number behind it.
+fn mix(code: u64, n: u64) -> u64
+    ensures { result ≡ mixed code n }
+{
+    code.wrapping_mul(0x9e37_79b9_7f4a_7c15).wrapping_add(n)
+}
