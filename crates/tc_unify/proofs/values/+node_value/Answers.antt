@@ -2,6 +2,7 @@ use Rattle.std.proofs.Common.{◌≤◌, ◌≡◌, ◌∙◌, sym, ap, [], subs
 use Rattle.std.specs.Prelude.{Some}
 use Rattle.std.proofs.lemmas.List.Elements.{All-pop}
 use Rattle.tc_lists.proofs.Options.{IfSome-at, IfNone-at}
+use Rattle.tc_term.specs.Letters.{bytes_of}
 use Rattle.tc_term.specs.Tree.{Number}
 use Rattle.tc_term.specs.Equations.{at}
 use Rattle.tc_term.specs.declared.terms.Term.TheVariants.{Int}
@@ -72,7 +73,7 @@ returns-then-not-take-2 t c =
     let a = c.args.arena.now in
     let l = c.args.links.now in
     let spine = c.in_ok-spine.ensures in
-    let name = c.name.inside.bytes.items in
+    let name = bytes_of c.name.inside.letters in
     let shape : shape_of a c.in_ok-spine.spine.atom ≡ AtomNode name = IfSome-at _ c.in_ok-name.field-0 c.in-Some.name c.in-Some.is c.in_ok-name.ensures.name ∙ ap AtomNode (sym c.name.view_is) in
     full_value a l c.requires.solved (of_node a c.args.node) c.args.depth c.args.room.now c.take-2.new.self (length name)
     (name_least a l c.requires.solved (λ v. label (shape_of a) (at v)) (of_node a c.args.node) name (reverse c.in_ok-spine.spine.arguments.items) (length name) refl
@@ -85,7 +86,7 @@ loop-argument-init t c =
     let a = c.args.arena.now in
     let l = c.args.links.now in
     let spine = c.in_ok-spine.ensures in
-    let name = c.name.inside.bytes.items in
+    let name = bytes_of c.name.inside.letters in
     let shape : shape_of a c.in_ok-spine.spine.atom ≡ AtomNode name = IfSome-at _ c.in_ok-name.field-0 c.in-Some.name c.in-Some.is c.in_ok-name.ensures.name ∙ ap AtomNode (sym c.name.view_is) in
     record {
       deep = c.take-2.ensures.depth c.if-not-take-2.false;
@@ -118,9 +119,9 @@ loop-argument-preserved t c =
     record {
       deep = inv.deep;
       arguments = (All-pop (IsNodeOf a) c.loop-argument.spine.arguments.items rest (Some c.in-Some-pop.argument) c.in-Some-pop.ensures.items inv.arguments).0;
-      spent = spent_next a l c.requires.solved (λ v. label (shape_of a) (at v)) (of_node a c.args.node) c.name.inside.bytes.items c.loop-argument.values.items c.in-Some-pop.argument (reverse c.loop-argument.spine.arguments.items) (reverse rest) c.args.depth c.args.room.now c.loop-argument.room
+      spent = spent_next a l c.requires.solved (λ v. label (shape_of a) (at v)) (of_node a c.args.node) (bytes_of c.name.inside.letters) c.loop-argument.values.items c.in-Some-pop.argument (reverse c.loop-argument.spine.arguments.items) (reverse rest) c.args.depth c.args.room.now c.loop-argument.room
           next inv.deep inv.spent inv.value c.in_ok-value.field-0 c.node_value.new.room c.in-Some-2.value c.push.new.self.items c.in-Some-2.is c.in_ok-value.ensures c.in_ok-push-in-Some-2.ensures.items;
-      value = builds_next a l c.requires.solved (λ v. label (shape_of a) (at v)) (of_node a c.args.node) c.name.inside.bytes.items c.loop-argument.values.items c.in-Some-pop.argument (reverse c.loop-argument.spine.arguments.items) (reverse rest) c.args.depth c.args.room.now c.loop-argument.room
+      value = builds_next a l c.requires.solved (λ v. label (shape_of a) (at v)) (of_node a c.args.node) (bytes_of c.name.inside.letters) c.loop-argument.values.items c.in-Some-pop.argument (reverse c.loop-argument.spine.arguments.items) (reverse rest) c.args.depth c.args.room.now c.loop-argument.room
           next inv.deep inv.spent inv.value c.in_ok-value.field-0 c.node_value.new.room c.in-Some-2.value c.push.new.self.items c.in-Some-2.is c.in_ok-value.ensures c.in_ok-push-in-Some-2.ensures.items;
     }
 
@@ -132,5 +133,5 @@ returns-in-None t c =
     let rest = c.pop.new.self.items in
     let next = ap reverse c.in-Some-pop.ensures.items ∙ reverse_push rest c.in-Some-pop.argument in
     none_value a l c.requires.solved (of_node a c.args.node) c.args.depth c.args.room.now c.node_value.new.room
-    (none_next a l c.requires.solved (λ v. label (shape_of a) (at v)) (of_node a c.args.node) c.name.inside.bytes.items c.loop-argument.values.items c.in-Some-pop.argument (reverse c.loop-argument.spine.arguments.items) (reverse rest) c.args.depth c.args.room.now c.loop-argument.room
+    (none_next a l c.requires.solved (λ v. label (shape_of a) (at v)) (of_node a c.args.node) (bytes_of c.name.inside.letters) c.loop-argument.values.items c.in-Some-pop.argument (reverse c.loop-argument.spine.arguments.items) (reverse rest) c.args.depth c.args.room.now c.loop-argument.room
     next inv.deep inv.spent inv.value c.in_ok-value.field-0 c.node_value.new.room c.in-None.is c.in_ok-value.ensures)
