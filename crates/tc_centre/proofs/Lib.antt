@@ -1,6 +1,6 @@
 pub mod Budgets
 pub mod Entries
-pub mod Performed
+pub mod Given
 pub mod Answered
 pub mod FreshReplies
 pub mod Room

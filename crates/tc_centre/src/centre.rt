@@ -51,7 +51,8 @@ impl Model for Core {
 }
 
 impl Core {
-    ghost use Rattle.std.specs.Prelude.{◌≡◌, ◌≤◌, ◌↔◌, ◌^◌, ◌<◌, ℕ, All, length, slice_get, map, IsTrue, IfOk, IfErr, OnErr};
+    ghost use Rattle.std.specs.Prelude.{◌≡◌, ◌≤◌, ◌↔◌, ◌<◌, ℕ, All, length, slice_get, IsTrue};
+    ghost use Rattle.std.specs.Prelude.{IfOk, IfErr, OnErr};
     ghost use Rattle.std.specs.Option.{option_copied};
     ghost use Rattle.tc_model.specs.Replies.{reply_in};
     ghost use Rattle.tc_model.specs.declared.limits.TheConstants.{MOST_WEIGHT};

@@ -1,5 +1,6 @@
 //! Where the history tells what became of each of its calls.
-ghost use Rattle.std.specs.Prelude.{◌≡◌, ◌↔◌, ◌+◌, ◌<◌, ◌≤◌, if◌then◌else◌, Some, None, List, All, length, take, drop, slice_get, IfOk, IfSome, IfNone, IsTrue};
+ghost use Rattle.std.specs.Prelude.{◌≡◌, ◌↔◌, ◌+◌, ◌<◌, ◌≤◌, if◌then◌else◌, Some, None, List, All, length};
+ghost use Rattle.std.specs.Prelude.{take, drop, slice_get, IfOk, IfSome, IfNone, IsTrue};
 ghost use Rattle.std.specs.HashMap.{spare};
 ghost use Rattle.tc_model.specs.Calls.{same_id, IsCallOf};
 ghost use Rattle.tc_model.specs.Replies.{reply_in};

@@ -1,4 +1,4 @@
--- The reactions of a phase are those that the tables of calls and of answers ask for.
+-- The reactions of an answer are those that the table of answers asks for.
 use Rattle.std.proofs.Common.{◌≡◌, ◌+◌, ◌*◌, ◌≤◌, ℕ, List, Some, get_or, slice_get, length, refl, sym, ap, subst, ◌∙◌}
 use Rattle.std.proofs.lemmas.Option.{same_Some, get_or_from_slice_get}
 use Rattle.tc_lists.specs.Firsts.{IsFirst}
