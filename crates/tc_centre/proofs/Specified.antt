@@ -4,7 +4,6 @@ use Rattle.std.proofs.lemmas.List.Elements.{All-nil}
 use Rattle.tc_bag.specs.Stock.{Stock}
 use Rattle.tc_pending.specs.Waiting.{Waiting}
 use Rattle.tc_model.specs.Choices.{TheFirst}
-use Rattle.tc_model.specs.Reactions.{Rule}
 use Rattle.tc_model.specs.Replies.{reply_of, reply_in}
 use Rattle.tc_model.specs.Run.{IsNext}
 use Rattle.tc_model.specs.State.{after_call}
@@ -14,7 +13,6 @@ use Rattle.tc_model.specs.declared.calls.CallId.{CallId}
 use Rattle.tc_model.specs.declared.calls.Op.{Op}
 use Rattle.tc_model.specs.declared.items.Item.{Item}
 use Rattle.tc_model.specs.declared.outcomes.Outcome.{Outcome}
-use Rattle.tc_model.specs.declared.entries.Entry.{Entry}
 use Rattle.tc_model.specs.declared.entries.Entry.TheVariants.{Called}
 use Rattle.tc_model.proofs.NextEntry.{reply_in-called}
 use Rattle.tc_centre.specs.Held.{origin_of, held, state_held, IsSettled, IsAtRest, HasRoom}
