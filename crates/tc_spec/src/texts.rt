@@ -102,7 +102,8 @@ fn reaction_behind(alloc: Global, clause: &Pattern, count: usize) -> Result<Reac
 // What is told of text behind so many clauses that the reader refuses.
 fn unread(fault: ReadFault, count: usize) -> SpecFault
     requires { count ≤ MOST_CLAUSES }
-    ensures { (text : List ℕ) (from : ℕ) → IsFault (Reads text from) fault → IsFaultAt text from count result }
+    ensures { (text : List ℕ) (from : ℕ) → IsFault (Reads text from) fault
+        → IsFaultAt text from count result }
 {
     match fault {
         ReadFault::Syntax(_) => bad(count, SpecCause::Syntax),
