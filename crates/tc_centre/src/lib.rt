@@ -15,8 +15,6 @@ mod operations;
 mod places;
 mod replies;
 mod serving;
-#[cfg(test)]
-mod tests;
 mod weights;
 
 pub use answers::{Answer, Poll, PollFault, TurnFault};

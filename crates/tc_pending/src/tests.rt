@@ -1,7 +1,7 @@
 //! Requests that wait, and which is answered next.
 ghost use Rattle.std.specs.Prelude.{◌<◌, length};
 
-use crate::{Known, Pending};
+use crate::Pending;
 use std::alloc::Global;
 use std::test::Fail;
 use tc_bag::Bag;
@@ -16,38 +16,23 @@ fn p(alloc: Global, t: Term) -> Result<Term, NoMemory> {
     Ok(Term::Comp(Name::new(alloc, b"p")?, Args::new(args)))
 }
 
-// The term as a tuple.
-fn ground(t: Term) -> Result<Ground, Fail> {
-    match Ground::of(t) {
-        Ok(tuple) => Ok(tuple),
-        Err(_) => Err(Fail::new("no tuple")),
-    }
-}
-
-// The bag of one tuple.
-fn bag_of(alloc: Global, tuple: Term) -> Result<Bag, Fail> {
-    let mut bag = Bag::new(alloc);
-    bag.add(ground(tuple)?)?;
-    Ok(bag)
-}
-
 // The bag of the tuples p(n).
 fn bag(alloc: Global, numbers: &[i64]) -> Result<Bag, Fail> {
     let mut bag = Bag::new(alloc);
     for number in numbers {
-        bag.add(ground(p(alloc, Term::Int(*number))?)?)?;
+        let Ok(tuple) = Ground::of(p(alloc, Term::Int(*number))?) else {
+            return Err(Fail::new("no tuple"));
+        };
+        if bag.put(tuple).is_err() {
+            return Err(Fail::new("no memory"));
+        }
     }
     Ok(bag)
 }
 
 // The request of an agent for a tuple p(t).
 fn request(alloc: Global, agent: u32, t: Term) -> Result<Request, Fail> {
-    asking(agent, p(alloc, t)?)
-}
-
-// The request of an agent for a tuple.
-fn asking(agent: u32, t: Term) -> Result<Request, Fail> {
-    let Ok(template) = Pattern::of(t) else {
+    let Ok(template) = Pattern::of(p(alloc, t)?) else {
         return Err(Fail::new("no template"));
     };
     Ok(Request {
@@ -159,76 +144,5 @@ fn removed_and_added_requests_come_back_in_order(rt: HostRuntime) -> Result<(), 
     assert!(rt; are_of(&requests, &[1, 2, 4]));
     requests.undo();
     assert!(rt; are_of(&requests, &[0, 1, 2]));
-    Ok(())
-}
-
-// The term of a name of six pairs of letters, Aa or BB, which the number chooses, with an argument.
-// All these names have one code.
-fn of_one_code(alloc: Global, number: i64, t: Term) -> Result<Term, NoMemory> {
-    let mut name = Vec::new(alloc);
-    let mut left = number;
-    for _ in 0..6 {
-        let pair: &[u8] = if left % 2 == 0 { b"Aa" } else { b"BB" };
-        name.extend_from_slice(pair)?;
-        left /= 2;
-    }
-    let mut args = Vec::new(alloc);
-    args.push(t)?;
-    Ok(Term::Comp(Name::new(alloc, &name)?, Args::new(args)))
-}
-
-// What is next where all tuples are new to all requests.
-fn next(pending: &Pending, bag: &Bag) -> Result<Option<(usize, u64)>, NoMemory> {
-    let known = Known {
-        requests: pending.list().len(),
-        age: 0,
-    };
-    pending.next_answerable(bag, known)
-}
-
-// More requests than are gone through one by one, of different names of one code.
-#[test]
-fn requests_of_one_code_are_told_apart(rt: HostRuntime) -> Result<(), Fail> {
-    let alloc = rt.alloc();
-    let mut requests = Pending::new(alloc);
-    for number in 0..64 {
-        requests.add(asking(0, of_one_code(alloc, number, Term::Int(1))?)?)?;
-    }
-    requests.mark()?;
-    for (number, place) in [(0, 0), (31, 31), (32, 32), (63, 63)] {
-        let tuple = of_one_code(alloc, number, Term::Int(1))?;
-        assert_eq!(rt; next(&requests, &bag_of(alloc, tuple)?)?, Some((place, 0)));
-    }
-    let tuple = of_one_code(alloc, 31, Term::Int(2))?;
-    assert_eq!(rt; next(&requests, &bag_of(alloc, tuple)?)?, None);
-    Ok(())
-}
-
-// The requests of forty agents, each for a tuple of its own.
-fn forty(alloc: Global) -> Result<Pending, Fail> {
-    let mut numbers = Vec::new(alloc);
-    for number in 1..41 {
-        numbers.push(number)?;
-    }
-    pending(alloc, &numbers)
-}
-
-#[test]
-fn a_request_that_came_back_is_found_and_a_removed_one_is_not(rt: HostRuntime) -> Result<(), Fail> {
-    let alloc = rt.alloc();
-    let tenth = bag(alloc, &[10])?;
-    let mut requests = forty(alloc)?;
-    requests.mark()?;
-    remove(&mut requests, 9);
-    assert_eq!(rt; next(&requests, &tenth)?, None);
-    requests.undo();
-    assert_eq!(rt; next(&requests, &tenth)?, Some((9, 0)));
-    requests.mark()?;
-    remove(&mut requests, 9);
-    requests.keep();
-    assert_eq!(rt; next(&requests, &tenth)?, None);
-    assert_eq!(rt; next(&requests, &bag(alloc, &[11])?)?, Some((9, 0)));
-    requests.add(request(alloc, 40, Term::Int(10))?)?;
-    assert_eq!(rt; next(&requests, &tenth)?, Some((39, 0)));
     Ok(())
 }

@@ -1,9 +1,7 @@
 //! What is read and printed with ample memory: each cause, and each limit.
-use crate::{Spec, SpecFault, print_spec, read_spec};
+use crate::{SpecFault, print_spec, read_spec};
 use std::alloc::{AllocError, Global};
-use tc_model::{BadSpec, Event, EventOp, Phase, Sign, SpecCause};
-use tc_read::read_term;
-use tc_unify::Store;
+use tc_model::{BadSpec, SpecCause};
 
 /// How many clauses the text is.
 fn count(alloc: Global, text: &[u8]) -> Result<usize, SpecFault> {
@@ -148,16 +146,6 @@ fn limits(rt: HostRuntime) -> Result<(), AllocError> {
             ").",
             bad(1, SpecCause::Size),
         ),
-    ] {
-        let text = repeated(rt.alloc(), start, part, times, end)?;
-        assert!(rt; count(rt.alloc(), &text) == wanted);
-    }
-    Ok(())
-}
-
-#[test]
-fn long_faulty_texts(rt: HostRuntime) -> Result<(), AllocError> {
-    for (start, part, times, end, wanted) in [
         ("", ",", 1_000_000, " .", bad(1, SpecCause::Syntax)),
         ("", "[", 1_000_000, " .", bad(1, SpecCause::Size)),
         ("", "x. ", 300_000, "", bad(1, SpecCause::Shape)),
@@ -198,40 +186,6 @@ fn printed_clauses(rt: HostRuntime) -> Result<(), SpecFault> {
         assert!(rt; once.as_slice() == wanted.as_bytes());
         let again = printed(rt.alloc(), &once)?;
         assert!(rt; again.as_slice() == wanted.as_bytes());
-    }
-    Ok(())
-}
-
-/// The numbers of the spec's clauses that an asked `in` of this template triggers.
-fn triggered(alloc: Global, spec: &Spec, template: &[u8]) -> Result<Vec<u32>, SpecFault> {
-    let Ok(template) = read_term(alloc, template) else {
-        return Err(SpecFault::NoMemory);
-    };
-    let _term = template.term();
-    let event = Event::new(EventOp::In, template, Phase::Pre, Sign::Neither);
-    let mut store = Store::new(alloc, 0)?;
-    let numbers = spec.triggered(alloc, &mut store, &event)?;
-    Ok(numbers)
-}
-
-#[test]
-fn triggered_clauses(rt: HostRuntime) -> Result<(), SpecFault> {
-    let text = b"reaction(in(p(X,X)),true). reaction(in(q(a)),true). reaction(rd(p(1,2)),true). \
-        reaction(in(Y),true). reaction(in(p(1,_)),true). reaction(in(p),true). \
-        reaction(in(7),true). reaction(in(f(X)),true).";
-    let clauses = read_spec(rt.alloc(), text)?;
-    let spec = Spec::of(rt.alloc(), clauses)?;
-    for (template, wanted) in [
-        ("p(1,2)", [4, 5].as_slice()),
-        ("p(1,1)", [1, 4, 5].as_slice()),
-        ("p(X,f(X))", [4, 5].as_slice()),
-        ("p(X,2,3)", [4].as_slice()),
-        ("p", [4, 6].as_slice()),
-        ("7", [4, 7].as_slice()),
-        ("X", [1, 2, 4, 5, 6, 7, 8].as_slice()),
-    ] {
-        let numbers = triggered(rt.alloc(), &spec, template.as_bytes())?;
-        assert!(rt; numbers.as_slice() == wanted);
     }
     Ok(())
 }
