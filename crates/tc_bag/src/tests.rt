@@ -105,7 +105,7 @@ fn names_of_one_code_are_told_apart(rt: HostRuntime) -> Result<(), Fail> {
     let alloc = rt.alloc();
     let one = Key::Atom(word(alloc, false)?);
     let other = Key::Atom(word(alloc, true)?);
-    assert_eq!(rt; code_like(&one, None), code_like(&other, None));
+    assert_eq!(rt; code_like(one.lend(), None), code_like(other.lend(), None));
     let mut bag = Bag::new(alloc);
     let tuple = Term::Atom(word(alloc, false)?);
     bag.add(Ground::of(tuple).ok().ok_or("an atom is a tuple")?)?;

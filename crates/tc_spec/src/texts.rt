@@ -72,11 +72,23 @@ fn clause_at(
     match read_clause(alloc, text, from) {
         Ok(None) => Ok(None),
         Ok(Some((clause, behind))) => {
-            let reaction = reaction_behind(alloc, &clause, count)?;
+            let reaction = reaction_from(alloc, clause, count)?;
             Ok(Some((reaction, behind)))
         }
         Err(fault) => Err(unread(fault, count)),
     }
+}
+
+// The same as `reaction_behind`, of a clause that isn't needed any more.
+fn reaction_from(alloc: Global, clause: Pattern, count: usize) -> Result<Reaction, SpecFault>
+    requires names { IsTrue (has_read_names clause) }
+    requires few { count ≤ MOST_CLAUSES }
+    ensures reaction { IfOk result (IsWrittenAs clause) }
+    ensures few { IfOk result (λ _. count < MOST_CLAUSES) }
+    ensures fault { IfErr result (IsRefusal count clause) }
+{
+    let read = reaction_behind(alloc, &clause, count);
+    read
 }
 
 // The reaction that a clause behind so many others is written as, or its first fault.
