@@ -1,10 +1,26 @@
-use Rattle.std.proofs.Common.{◌≡◌, ℕ, sym, ap, ◌∙◌, refl}
+use Rattle.std.proofs.Common.{◌≡◌, ℕ, List, Contains, sym, ap, ◌∙◌, refl, subst}
+use Rattle.std.proofs.lemmas.List.Elements.{Contains-append_left}
+use Rattle.tc_model.specs.Run.{HasCall}
 use Rattle.tc_model.specs.State.{Origin}
 use Rattle.tc_model.specs.declared.entries.Entry.{Entry}
 use Rattle.tc_turn.specs.Passes.{TurnstileState, PassState}
 use Rattle.tc_shared.proofs.Turns.{looks, sees}
 use Rattle.tc_shared.proofs.Kept.{keeps-sees}
 use Rattle.tc_shared.proofs.centre.SharedCentre.look.Goals as goal
+
+pub look-reply-requires : goal.look-reply-requires
+look-reply-requires g c =
+    let e = c.in-Ok.ensures in
+    let called = c.requires.called in
+    let same : c.number.result ≡ c.args.pass.now.number =
+    c.number.ensures ∙ ap (λ (x : PassState Entry Origin). x.number) e.entered.state in
+    let has : HasCall (record { agent = c.args.pass.now.number; number = c.args.number }) c.in-Ok.held.value.history = record {
+      entry = called.entry;
+      stands = subst (λ (h : List Entry). Contains h called.entry) e.entered.seen.1
+      (Contains-append_left c.args.pass.now.seen e.entered.seen.0 called.entry called.stands);
+      call = called.call;
+    } in
+    subst (λ (n : ℕ). HasCall (record { agent = n; number = c.args.number }) c.in-Ok.held.value.history) (sym same) has
 
 pub returns-in-Ok-reply-clause-seen : goal.returns-in-Ok-reply-clause-seen
 returns-in-Ok-reply-clause-seen g c =
