@@ -17,7 +17,7 @@ look-reply-requires g c =
     let has : HasCall (record { agent = c.args.pass.now.number; number = c.args.number }) c.in-Ok.held.value.history = record {
       entry = called.entry;
       stands = subst (λ (h : List Entry). Contains h called.entry) e.entered.seen.1
-      (Contains-append_left c.args.pass.now.seen e.entered.seen.0 called.entry called.stands);
+          (Contains-append_left c.args.pass.now.seen e.entered.seen.0 called.entry called.stands);
       call = called.call;
     } in
     subst (λ (n : ℕ). HasCall (record { agent = n; number = c.args.number }) c.in-Ok.held.value.history) (sym same) has
