@@ -11,9 +11,16 @@ use tc_lists::NoMemory;
 const SHORT: usize = 16;
 
 /// A list of bytes, of any length and in any encoding. Up to 16 lie in the name itself.
-#[derive(Debug, Drop)]
+#[derive(Debug)]
 pub struct Name {
     letters: Letters,
+}
+
+// By hand, so that a name that is let go is one case, whichever way its bytes lie.
+impl Drop for Name {
+    fn drop(self) {
+        let Name { letters: _ } = self;
+    }
 }
 
 // Where the bytes lie: in the first places of so many, or in memory of their own.
