@@ -1,14 +1,11 @@
 -- Codes of terms: numbers by which rows are looked up. Terms of one code may differ.
-use Rattle.std.specs.Prelude.{ℕ, ◌+◌, ◌*◌, ◌%◌, ◌^◌, Option, Some, None, unsigned_abs}
+use Rattle.std.specs.Prelude.{ℕ, Option, Some, None, unsigned_abs}
 use Rattle.std.specs.List.{fold}
+use Rattle.tc_lists.specs.Codes.{mixed}
 use Rattle.tc_term.specs.Tree.{Tree, Variable, Atomic, Number, Compound}
 use Rattle.tc_bag.specs.declared.key.Key.{Key}
 use Rattle.tc_bag.specs.declared.key.Key.TheVariants.{Any, Int, Atom, Comp}
 use Rattle.tc_bag.specs.Keys.{arity, first_of, key_of}
-
--- a code and a number behind it, as a number of 64 bits
-abbrev pub mixed : ℕ → ℕ → ℕ
-mixed code n = (code * 11400714819323198485 + n) % 2 ^ 64
 
 -- the code of a key
 abbrev pub key_code : Key → ℕ

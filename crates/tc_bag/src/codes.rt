@@ -1,13 +1,13 @@
 //! Codes of terms: numbers by which rows are looked up. Terms of one code may differ.
-ghost use Rattle.std.specs.Prelude.{◌≡◌, ◌+◌, ◌*◌, ◌%◌, ◌^◌};
-ghost use Rattle.std.specs.List.{fold};
+ghost use Rattle.std.specs.Prelude.{◌≡◌};
 ghost use Rattle.std.specs.Option.{option_map};
 ghost use Rattle.tc_term.specs.TreeView.{tree_of};
 ghost use Rattle.tc_bag.specs.Keys.{key_of};
 ghost use Rattle.tc_bag.specs.Lent.{lent_key};
-ghost use Rattle.tc_bag.specs.Codes.{mixed, key_code, top_code, first_code, code_like};
+ghost use Rattle.tc_bag.specs.Codes.{key_code, top_code, first_code, code_like};
 
 use crate::key::Lent;
+use tc_lists::{mix, mix_all};
 use tc_term::{Ground, Term};
 
 /// The code of a tuple's key.
@@ -63,22 +63,4 @@ fn top_code(t: &Term) -> u64
         Term::Atom(name) => mix_all(2, name.bytes()),
         Term::Comp(name, args) => mix_all(mix(3, args.items().len() as u64), name.bytes()),
     }
-}
-
-// A code and bytes behind it.
-fn mix_all(code: u64, bytes: &[u8]) -> u64
-    ensures { result ≡ fold mixed code bytes.now }
-{
-    let mut all = code;
-    for byte in bytes {
-        all = mix(all, u64::from(*byte));
-    }
-    all
-}
-
-// A code and a number behind it.
-fn mix(code: u64, n: u64) -> u64
-    ensures { result ≡ mixed code n }
-{
-    code.wrapping_mul(0x9e37_79b9_7f4a_7c15).wrapping_add(n)
 }

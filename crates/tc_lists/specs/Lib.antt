@@ -3,3 +3,4 @@ pub mod Items
 pub mod Decimals
 pub mod Firsts
 pub mod Marks
+pub mod Codes

@@ -10,9 +10,11 @@
 //! ```
 #![tactic(auto)]
 
+mod codes;
 mod numbers;
 mod seqs;
 
+pub use codes::{mix, mix_all};
 pub use numbers::{append_integer, append_number, read_integer, read_number};
 pub use seqs::Seq;
 

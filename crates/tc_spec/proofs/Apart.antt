@@ -3,6 +3,7 @@ use Rattle.std.proofs.Common.{◌≡◌, ◌<◌, ◌↔◌, ◌+◌, ◌%◌, �
 use Rattle.std.proofs.lemmas.List.Elements.{All-head}
 use Rattle.std.specs.List.{fold}
 use Rattle.std.specs.Option.{option_map}
+use Rattle.tc_lists.specs.Codes.{mixed}
 use Rattle.tc_term.specs.Equations.{Equation, at, under}
 use Rattle.tc_term.specs.Tree.{Tree, Variable, Atomic, Number, Compound, Trees, Last, More}
 use Rattle.tc_term.specs.TreeView.{trees_of}
@@ -12,7 +13,7 @@ use Rattle.tc_model.specs.Events.{Occurrence}
 use Rattle.tc_model.specs.Reactions.{Rule}
 use Rattle.tc_model.specs.Triggers.{IsTriggered}
 use Rattle.tc_model.specs.declared.events.EventOp.{EventOp}
-use Rattle.tc_spec.specs.Codes.{code_of, count_of, is_in, mixed, op_code, part_in, rule_part}
+use Rattle.tc_spec.specs.Codes.{code_of, count_of, is_in, op_code, part_in, rule_part}
 
 -- how many arguments there are
 count-instances : (f : ℕ → Tree) (ts : Trees) → count_of (instances f ts) ≡ count_of ts

@@ -1,15 +1,12 @@
 -- Codes of operations and terms: numbers by which clauses are looked up. Heads of one code may differ.
-use Rattle.std.specs.Prelude.{ℕ, ◌+◌, ◌*◌, ◌%◌, ◌^◌, ◌==◌, Bool, true, Option, Some, None, unsigned_abs}
+use Rattle.std.specs.Prelude.{ℕ, ◌+◌, ◌%◌, ◌==◌, Bool, true, Option, Some, None, unsigned_abs}
 use Rattle.std.specs.List.{fold}
 use Rattle.std.specs.Option.{option_map}
+use Rattle.tc_lists.specs.Codes.{mixed}
 use Rattle.tc_term.specs.Tree.{Tree, Variable, Atomic, Number, Compound, Trees, Last, More}
 use Rattle.tc_model.specs.Reactions.{Rule}
 use Rattle.tc_model.specs.declared.events.EventOp.{EventOp}
 use Rattle.tc_model.specs.declared.events.EventOp.TheVariants as op
-
--- a code and a number behind it, as a number of 64 bits
-abbrev pub mixed : ℕ → ℕ → ℕ
-mixed code n = (code * 11400714819323198485 + n) % 2 ^ 64
 
 -- how many arguments there are
 abbrev pub count_of : Trees → ℕ

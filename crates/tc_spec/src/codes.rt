@@ -1,9 +1,9 @@
 //! Codes of heads, by which an event finds the clauses whose heads it could meet.
-ghost use Rattle.std.specs.Prelude.{◌≡◌, ◌+◌, ◌*◌, ◌%◌, ◌^◌};
-ghost use Rattle.std.specs.List.{fold};
+ghost use Rattle.std.specs.Prelude.{◌≡◌};
 ghost use Rattle.tc_term.specs.TreeView.{tree_of};
-ghost use Rattle.tc_spec.specs.Codes.{code_of, mixed, op_code};
+ghost use Rattle.tc_spec.specs.Codes.{code_of, op_code};
 
+use tc_lists::{mix, mix_all};
 use tc_model::EventOp;
 use tc_term::Term;
 
@@ -40,22 +40,4 @@ fn op_code(op: EventOp) -> u64
         EventOp::RdR => 8,
         EventOp::NoR => 9,
     }
-}
-
-// A code and bytes behind it.
-fn mix_all(code: u64, bytes: &[u8]) -> u64
-    ensures { result ≡ fold mixed code bytes.now }
-{
-    let mut all = code;
-    for byte in bytes {
-        all = mix(all, u64::from(*byte));
-    }
-    all
-}
-
-// A code and a number behind it.
-fn mix(code: u64, n: u64) -> u64
-    ensures { result ≡ mixed code n }
-{
-    code.wrapping_mul(0x9e37_79b9_7f4a_7c15).wrapping_add(n)
 }

@@ -1,7 +1,8 @@
 use Rattle.std.proofs.Common.{◌≡◌, length, ap, sym, ◌∙◌}
 use Rattle.std.specs.List.{fold}
+use Rattle.tc_lists.specs.Codes.{mixed}
 use Rattle.tc_term.specs.TreeView.{tree_of}
-use Rattle.tc_bag.specs.Codes.{mixed, top_code}
+use Rattle.tc_bag.specs.Codes.{top_code}
 use Rattle.tc_bag.specs.Keys.{arity}
 use Rattle.tc_bag.proofs.Agreement.{arity-trees_of}
 use Rattle.tc_bag.proofs.codes.top_code.Goals as goal

@@ -1,7 +1,8 @@
 use Rattle.std.proofs.Common.{◌≡◌, Some, length, ap, ap₂, sym, ◌∙◌}
 use Rattle.std.specs.List.{fold}
+use Rattle.tc_lists.specs.Codes.{mixed}
 use Rattle.tc_term.specs.TreeView.{tree_of}
-use Rattle.tc_spec.specs.Codes.{code_of, count_of, mixed}
+use Rattle.tc_spec.specs.Codes.{code_of, count_of}
 use Rattle.tc_spec.proofs.Apart.{count-trees_of}
 use Rattle.tc_spec.proofs.codes.code_of.Goals as goal
 
