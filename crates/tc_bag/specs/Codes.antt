@@ -26,7 +26,8 @@ abbrev pub first_code : Tree → Option ℕ
 first_code (Variable n) = None
 first_code (Atomic name) = None
 first_code (Number n) = None
-first_code (Compound name args) = Some (mixed (key_code (key_of (Compound name args))) (top_code (first_of args)))
+first_code (Compound name args) =
+    Some (mixed (key_code (key_of (Compound name args))) (top_code (first_of args)))
 
 -- the code of the tuples with a key and, where one is given, a first argument
 abbrev pub code_like : Key → Option Tree → ℕ

@@ -20,4 +20,5 @@ IsEntered index s = IsTrue (is_there s) → HasRow index s.age s.tuple
 -- a search finds the row: it isn't there, or it is not older than the start, and in the index where
 -- that is whole
 abbrev pub IsFindable : ℕ → Bool → Index → Slot → Type 0
-IsFindable start whole index s = IsTrue (is_there s) → (start ≤ s.age) × (IsTrue whole → HasRow index s.age s.tuple)
+IsFindable start whole index s =
+    IsTrue (is_there s) → (start ≤ s.age) × (IsTrue whole → HasRow index s.age s.tuple)

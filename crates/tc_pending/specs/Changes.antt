@@ -53,12 +53,13 @@ pub record IsLog (requests : List Request) (changes : List Change) (marks : List
 -- the requests now, and those before each of the changes, are filed
 abbrev pub AreFiled : Index → ℕ → List Request → List ℕ → List Change → Type 0
 AreFiled index filed requests serials changes =
-    (n : ℕ) → IsFiled index filed (codes_of (rewound (drop n changes) requests)) (rewound_serials (drop n changes) serials)
+    (n : ℕ) → IsFiled index filed (codes_of (rewound (drop n changes) requests))
+    (rewound_serials (drop n changes) serials)
 
 -- a log with room for each request to be removed, and for each change to be taken back; the codes are
 -- those of the requests; and the requests that there are and may come back are filed
-pub record IsSound {W X Y Z : Type 0} (requests : Vec Request X) (codes : Vec ℕ Z) (serials : Vec ℕ W) (index : Index) (below : ℕ)
-    (changes : Vec Change Y) (marks : List ℕ) : Type 0 where
+pub record IsSound {W X Y Z : Type 0} (requests : Vec Request X) (codes : Vec ℕ Z) (serials : Vec ℕ W)
+    (index : Index) (below : ℕ) (changes : Vec Change Y) (marks : List ℕ) : Type 0 where
   pub coded : codes.items ≡ codes_of requests.items
   pub filed : AreFiled index below requests.items serials.items changes.items
   pub log : IsLog requests.items changes.items marks

@@ -28,7 +28,8 @@ pub record IsFiled (index : Index) (filed : ℕ) (codes serials : List ℕ) : Ty
 -- the index has each pair of one of these serial numbers still
 abbrev pub KeepsAll : Index → Index → List ℕ → Type 0
 KeepsAll old new serials =
-    (c k : ℕ) → k < length serials → Has old c (slice_index_or serials k 0) → Has new c (slice_index_or serials k 0)
+    (c k : ℕ) → k < length serials → Has old c (slice_index_or serials k 0)
+    → Has new c (slice_index_or serials k 0)
 
 -- from a place up to another no code is this one
 abbrev pub HasNone : List ℕ → ℕ → ℕ → ℕ → Type 0

@@ -38,10 +38,14 @@ pub(crate) fn make_room(
     ensures codes_capacity { vec_capacity codes.old ≤ vec_capacity codes.new }
     ensures serials_capacity { vec_capacity serials.old ≤ vec_capacity serials.new }
     ensures log { vec_capacity changes.old ≤ vec_capacity changes.new }
-    ensures list_room { OnOk result (vec_len requests.new + vec_len changes.new + 2 ≤ vec_capacity requests.new) }
-    ensures codes_room { OnOk result (vec_len codes.new + vec_len changes.new + 2 ≤ vec_capacity codes.new) }
-    ensures serials_room { OnOk result (vec_len serials.new + vec_len changes.new + 2 ≤ vec_capacity serials.new) }
-    ensures log_room { OnOk result (vec_len requests.new + vec_len changes.new + 2 ≤ vec_capacity changes.new) }
+    ensures list_room { OnOk result
+        (vec_len requests.new + vec_len changes.new + 2 ≤ vec_capacity requests.new) }
+    ensures codes_room { OnOk result
+        (vec_len codes.new + vec_len changes.new + 2 ≤ vec_capacity codes.new) }
+    ensures serials_room { OnOk result
+        (vec_len serials.new + vec_len changes.new + 2 ≤ vec_capacity serials.new) }
+    ensures log_room { OnOk result
+        (vec_len requests.new + vec_len changes.new + 2 ≤ vec_capacity changes.new) }
 {
     requests.reserve(changes.len() + 2)?;
     codes.reserve(changes.len() + 2)?;
@@ -53,7 +57,8 @@ pub(crate) fn make_room(
 /// Notes a change where there is a mark. No memory is taken.
 pub(crate) fn note(changes: &mut Vec<Change>, is_marked: bool, change: Change)
     requires { vec_len changes.old < vec_capacity changes.old }
-    ensures noted { changes.new.items ≡ (if is_marked then changes.old.items ++ change ∷ [] else changes.old.items) }
+    ensures noted { changes.new.items
+        ≡ (if is_marked then changes.old.items ++ change ∷ [] else changes.old.items) }
     ensures capacity { vec_capacity changes.old ≤ vec_capacity changes.new }
 {
     if is_marked {
@@ -124,7 +129,8 @@ pub(crate) fn go_back(
     ensures serials_capacity { vec_capacity serials.old ≤ vec_capacity serials.new }
     ensures list { vec_capacity requests.old ≤ vec_capacity requests.new }
     ensures log { vec_capacity changes.new ≡ vec_capacity changes.old }
-    ensures fewer { vec_len requests.new + vec_len changes.new ≤ vec_len requests.old + vec_len changes.old }
+    ensures fewer { vec_len requests.new + vec_len changes.new
+        ≤ vec_len requests.old + vec_len changes.old }
 {
     while changes.len() > count {
         if let Some(change) = changes.pop() {

@@ -25,11 +25,6 @@ impl Index {
         }
     }
 
-    /// How many pairs there are.
-    pub(crate) fn len(&self) -> usize {
-        self.pairs.len()
-    }
-
     /// The least serial number of this code that is at least `from`.
     pub(crate) fn next(&self, code: u64, from: u64) -> Option<u64>
         ensures found { IfSome result (λ serial. (from ≤ serial)
