@@ -8,7 +8,7 @@ ghost use Rattle.tc_pending.specs.Codes.{codes_of};
 ghost use Rattle.tc_pending.specs.Filed.{IsFiled};
 
 use crate::asking::oldest_asking;
-use crate::index::Index;
+use crate::waiters::Waiters;
 use std::alloc::Global;
 use tc_bag::{Bag, Key};
 use tc_lists::NoMemory;
@@ -55,22 +55,16 @@ impl Known {
 /// answer, and that tuple's age, where none of them can be answered by an older one.
 ///
 /// No memory is taken.
-pub fn newly_answerable(
-    requests: &[Request],
-    codes: &[u64],
-    serials: &[u64],
-    index: &Index,
-    filed: u64,
-    bag: &Bag,
-    known: Known,
-) -> Option<(usize, u64)>
-    requires codes { codes.now ≡ codes_of requests.now }
-    requires filed { IsFiled index.now filed codes.now serials.now }
-    requires known { IsKnown known bag.now.now requests.now }
-    requires inside { known.requests ≤ length requests.now }
-    ensures found { IfSome result (λ r. IsNextAnswer bag.now.now requests.now r.0 r.1) }
-    ensures none { IfNone result
-        (NoneOf (IsAnswerable (tuples_of bag.now.now)) (take known.requests requests.now)) }
+pub(crate) fn newly_answerable(waiters: &Waiters, bag: &Bag, known: Known) -> Option<(usize, u64)>
+    requires codes { waiters.now.codes.now ≡ codes_of waiters.now.requests.now }
+    requires filed { IsFiled waiters.now.index.now waiters.now.filed waiters.now.codes.now
+        waiters.now.serials.now }
+    requires known { IsKnown known bag.now.now waiters.now.requests.now }
+    requires inside { known.requests ≤ length waiters.now.requests.now }
+    ensures found { IfSome result
+        (λ r. IsNextAnswer bag.now.now waiters.now.requests.now r.0 r.1) }
+    ensures none { IfNone result (NoneOf (IsAnswerable (tuples_of bag.now.now))
+        (take known.requests waiters.now.requests.now)) }
 {
     if known.requests == 0 {
         return None;
@@ -82,7 +76,7 @@ pub fn newly_answerable(
         if count == 0 {
             return next;
         }
-        if let Some(place) = oldest_asking(requests, codes, serials, index, filed, count, tuple) {
+        if let Some(place) = oldest_asking(waiters, count, tuple) {
             next = Some((place, age));
             count = place;
         }

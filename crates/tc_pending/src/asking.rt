@@ -10,91 +10,80 @@ ghost use Rattle.tc_pending.specs.Filed.{IsFiled, HasFirst, HasNone, IsAsking, N
 use crate::codes::{code_of, top_code};
 use crate::index::Index;
 use crate::numbers::{count_below, place_of};
+use crate::waiters::Waiters;
 use tc_model::Request;
 use tc_search::does_match;
 use tc_term::Ground;
 
 /// The place of the oldest of the first `count` requests that asks for a tuple.
-pub(crate) fn oldest_asking(
-    requests: &[Request],
-    codes: &[u64],
-    serials: &[u64],
-    index: &Index,
-    filed: u64,
-    count: usize,
-    tuple: &Ground,
-) -> Option<usize>
-    requires codes { codes.now ≡ codes_of requests.now }
-    requires filed { IsFiled index.now filed codes.now serials.now }
-    requires inside { count ≤ length requests.now }
-    ensures found { IfSome result (IsOldestAsking tuple.now requests.now) }
+pub(crate) fn oldest_asking(waiters: &Waiters, count: usize, tuple: &Ground) -> Option<usize>
+    requires codes { waiters.now.codes.now ≡ codes_of waiters.now.requests.now }
+    requires filed { IsFiled waiters.now.index.now waiters.now.filed waiters.now.codes.now
+        waiters.now.serials.now }
+    requires inside { count ≤ length waiters.now.requests.now }
+    ensures found { IfSome result (IsOldestAsking tuple.now waiters.now.requests.now) }
     ensures inside { IfSome result (λ place. place < count) }
-    ensures none { IfNone result (NoneOf (AsksFor tuple.now) (take count requests.now)) }
+    ensures none { IfNone result
+        (NoneOf (AsksFor tuple.now) (take count waiters.now.requests.now)) }
 {
     let top = top_code(tuple.term());
     let whole = code_of(tuple.term());
-    let start = count_below(serials, filed).min(count);
-    let place = looked_up(requests, codes, serials, index, start, top, whole, tuple);
+    let start = count_below(waiters.serials, waiters.filed).min(count);
+    let place = looked_up(waiters, start, top, whole, tuple);
     if place < start {
         return Some(place);
     }
-    gone_through(requests, codes, start, count, top, whole, tuple)
+    gone_through(waiters, start, count, top, whole, tuple)
 }
 
 // The place of the oldest of the first `count` requests that asks for a tuple, where the index has
 // them; `count` where there is none.
-fn looked_up(
-    requests: &[Request],
-    codes: &[u64],
-    serials: &[u64],
-    index: &Index,
-    count: usize,
-    top: u64,
-    whole: u64,
-    tuple: &Ground,
-) -> usize
-    requires codes { codes.now ≡ codes_of requests.now }
-    requires each { length serials.now ≡ length codes.now }
-    requires rises { Rises serials.now }
-    requires has { HasFirst index.now codes.now serials.now count }
-    requires inside { count ≤ length requests.now }
+fn looked_up(waiters: &Waiters, count: usize, top: u64, whole: u64, tuple: &Ground) -> usize
+    requires codes { waiters.now.codes.now ≡ codes_of waiters.now.requests.now }
+    requires each { length waiters.now.serials.now ≡ length waiters.now.codes.now }
+    requires rises { Rises waiters.now.serials.now }
+    requires has { HasFirst waiters.now.index.now waiters.now.codes.now waiters.now.serials.now
+        count }
+    requires inside { count ≤ length waiters.now.requests.now }
     requires top { top ≡ top_code tuple.now }
     requires whole { whole ≡ code_of tuple.now }
     requires tuple { IsTuple tuple.now }
     ensures inside { result ≤ count }
-    ensures asks { result < count → IsAsking tuple.now requests.now result }
-    ensures none { NoneOf (AsksFor tuple.now) (take result requests.now) }
+    ensures asks { result < count → IsAsking tuple.now waiters.now.requests.now result }
+    ensures none { NoneOf (AsksFor tuple.now) (take result waiters.now.requests.now) }
 {
     if count == 0 {
         return 0;
     }
-    let any = asking_by(requests, codes, serials, index, 0, count, tuple);
-    let same = asking_by(requests, codes, serials, index, top, any, tuple);
-    asking_by(requests, codes, serials, index, whole, same, tuple)
+    let any = asking_by(waiters, 0, count, tuple);
+    let same = asking_by(waiters, top, any, tuple);
+    asking_by(waiters, whole, same, tuple)
 }
 
 // The place of the oldest of the first `count` requests that asks for a tuple, by their codes, where
 // none before `start` does.
 fn gone_through(
-    requests: &[Request],
-    codes: &[u64],
+    waiters: &Waiters,
     start: usize,
     count: usize,
     top: u64,
     whole: u64,
     tuple: &Ground,
 ) -> Option<usize>
-    requires codes { codes.now ≡ codes_of requests.now }
-    requires inside { count ≤ length requests.now }
+    requires codes { waiters.now.codes.now ≡ codes_of waiters.now.requests.now }
+    requires inside { count ≤ length waiters.now.requests.now }
     requires start { start ≤ count }
-    requires none { NoneOf (AsksFor tuple.now) (take start requests.now) }
+    requires none { NoneOf (AsksFor tuple.now) (take start waiters.now.requests.now) }
     requires top { top ≡ top_code tuple.now }
     requires whole { whole ≡ code_of tuple.now }
     requires tuple { IsTuple tuple.now }
-    ensures found { IfSome result (IsOldestAsking tuple.now requests.now) }
+    ensures found { IfSome result (IsOldestAsking tuple.now waiters.now.requests.now) }
     ensures inside { IfSome result (λ place. place < count) }
-    ensures none { IfNone result (NoneOf (AsksFor tuple.now) (take count requests.now)) }
+    ensures none { IfNone result
+        (NoneOf (AsksFor tuple.now) (take count waiters.now.requests.now)) }
 {
+    let requests = waiters.requests;
+    let codes = waiters.codes;
     for place in start..count {
         if asks(&requests[place], codes[place], top, whole, tuple) {
             return Some(place);
@@ -119,27 +108,28 @@ fn asks(request: &Request, code: u64, top: u64, whole: u64, tuple: &Ground) -> b
 
 // The place of the oldest of the first `count` requests that has this code and asks for a tuple,
 // where the index has them; `count` where there is none.
-fn asking_by(
-    requests: &[Request],
-    codes: &[u64],
-    serials: &[u64],
-    index: &Index,
-    code: u64,
-    count: usize,
-    tuple: &Ground,
-) -> usize
-    requires codes { codes.now ≡ codes_of requests.now }
-    requires each { length serials.now ≡ length codes.now }
-    requires rises { Rises serials.now }
-    requires has { HasFirst index.now codes.now serials.now count }
-    requires inside { count ≤ length requests.now }
+fn asking_by(waiters: &Waiters, code: u64, count: usize, tuple: &Ground) -> usize
+    requires codes { waiters.now.codes.now ≡ codes_of waiters.now.requests.now }
+    requires each { length waiters.now.serials.now ≡ length waiters.now.codes.now }
+    requires rises { Rises waiters.now.serials.now }
+    requires has { HasFirst waiters.now.index.now waiters.now.codes.now waiters.now.serials.now
+        count }
+    requires inside { count ≤ length waiters.now.requests.now }
     requires tuple { IsTuple tuple.now }
     ensures inside { result ≤ count }
-    ensures asks { result < count → IsAsking tuple.now requests.now result }
-    ensures none { NoneAsks tuple.now requests.now code result }
+    ensures asks { result < count → IsAsking tuple.now waiters.now.requests.now result }
+    ensures none { NoneAsks tuple.now waiters.now.requests.now code result }
 {
+    let requests = waiters.requests;
     let mut at = 0;
-    while let Some(place) = next_by(codes, serials, index, code, at, count) {
+    while let Some(place) = next_by(
+        waiters.codes,
+        waiters.serials,
+        waiters.index,
+        code,
+        at,
+        count,
+    ) {
         if does_match(&requests[place].template, tuple) {
             return place;
         }

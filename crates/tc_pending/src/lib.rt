@@ -20,6 +20,7 @@ mod numbers;
 mod pending;
 #[cfg(test)]
 mod tests;
+mod waiters;
 
 pub use answering::Known;
 pub use pending::Pending;

@@ -4,6 +4,7 @@ use crate::changes::{Change, forget_removed, go_back, make_room, note};
 use crate::codes::code_of;
 use crate::index::{Index, file};
 use crate::numbers::{append, number_behind};
+use crate::waiters::Waiters;
 use std::alloc::Global;
 use std::marker::Model;
 use tc_bag::Bag;
@@ -108,15 +109,14 @@ impl Pending {
         ensures none { IfOk result (λ found. IfNone found
             (NoneOf (IsAnswerable (tuples_of bag.now.now)) self.now.now)) }
     {
-        if let Some(next) = newly_answerable(
-            &self.requests,
-            &self.request_codes,
-            &self.serials,
-            &self.index,
-            self.filed,
-            bag,
-            known,
-        ) {
+        let waiters = Waiters {
+            requests: &self.requests,
+            codes: &self.request_codes,
+            serials: &self.serials,
+            index: &self.index,
+            filed: self.filed,
+        };
+        if let Some(next) = newly_answerable(&waiters, bag, known) {
             return Ok(Some(next));
         }
         answerable_from(self.alloc, &self.requests, bag, known.requests)

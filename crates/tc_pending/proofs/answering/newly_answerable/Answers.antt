@@ -22,7 +22,7 @@ loop-age-smaller c = omega (arith, below c, c.in-Some.ensures.found.has.0)
 pub loop-age-preserved : goal.loop-age-preserved
 loop-age-preserved c =
     let rows = c.args.bag.now.now in
-    let requests = c.args.requests.now in
+    let requests = c.args.waiters.now.requests.now in
     let most = c.args.known.requests in
     let age = c.in-Some.age in
     let far = c.loop-age.invariant in
@@ -44,10 +44,10 @@ loop-age-preserved c =
 
 pub returns-clause-found : goal.returns-clause-found
 returns-clause-found c =
-    far-next c.args.bag.now.now c.args.requests.now c.args.known.requests c.loop-age.next c.loop-age.count c.loop-age.from
+    far-next c.args.bag.now.now c.args.waiters.now.requests.now c.args.known.requests c.loop-age.next c.loop-age.count c.loop-age.from
     c.loop-age.invariant c.in_default.ensures.none
 
 pub returns-clause-none : goal.returns-clause-none
 returns-clause-none c =
-    far-no c.args.bag.now.now c.args.requests.now c.args.known.requests c.loop-age.next c.loop-age.count c.loop-age.from
+    far-no c.args.bag.now.now c.args.waiters.now.requests.now c.args.known.requests c.loop-age.next c.loop-age.count c.loop-age.from
     c.loop-age.invariant c.in_default.ensures.none

@@ -5,7 +5,7 @@ use Rattle.tc_pending.proofs.asking.asking_by.Given as goal
 abbrev pub invariant-loop-place : goal.invariant-loop-place
 invariant-loop-place l = record {
   inside : l.at ≤ l.count;
-  none : NoneAsks l.tuple l.requests l.code l.at;
+  none : NoneAsks l.tuple l.waiters.requests.now l.code l.at;
 }
 
 abbrev pub decreases-loop-place : goal.decreases-loop-place

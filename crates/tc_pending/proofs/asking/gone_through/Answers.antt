@@ -8,7 +8,7 @@ use Rattle.tc_pending.proofs.asking.gone_through.Goals as goal
 
 pub loop-place-preserved : goal.loop-place-preserved
 loop-place-preserved c =
-    let requests = c.args.requests.now in
+    let requests = c.args.waiters.now.requests.now in
     let place = c.loop-place.place in
     let r = c.index-requests-place.result in
     subst (NoneOf (AsksFor c.args.tuple.now))

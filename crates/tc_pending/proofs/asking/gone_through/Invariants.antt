@@ -4,4 +4,4 @@ use Rattle.tc_pending.specs.Answers.{AsksFor}
 use Rattle.tc_pending.proofs.asking.gone_through.Given as goal
 
 abbrev pub invariant-loop-place : goal.invariant-loop-place
-invariant-loop-place l = NoneOf (AsksFor l.tuple) (take l.place l.requests)
+invariant-loop-place l = NoneOf (AsksFor l.tuple) (take l.place l.waiters.requests.now)

@@ -13,7 +13,7 @@ asking_by-requires-clause-has c = λ k before.
 
 pub returns-clause-asks : goal.returns-clause-asks
 returns-clause-asks c = λ inside.
-    let Asks = IsAsking c.args.tuple.now c.args.requests.now in
+    let Asks = IsAsking c.args.tuple.now c.args.waiters.now.requests.now in
     let any = c.asking_by-any in
     let same = c.asking_by-same in
     let whole = c.asking_by in
@@ -31,7 +31,7 @@ returns-clause-asks c = λ inside.
 pub returns-clause-none : goal.returns-clause-none
 returns-clause-none c =
     let tuple = c.args.tuple.now in
-    let requests = c.args.requests.now in
+    let requests = c.args.waiters.now.requests.now in
     let place = c.asking_by.result in
     none-of tuple requests c.requires.tuple place
     (NoneAsks-less tuple requests 0 place c.asking_by-any.result
