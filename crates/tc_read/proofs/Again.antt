@@ -1,5 +1,5 @@
 -- The text of a term is read as that term, where there is room for it and nothing goes on it.
-use Rattle.std.proofs.Common.{◌≡◌, ◌∙◌, ◌⊎◌, ◌<◌, ◌≤◌, ◌+◌, ◌==◌, ◌&&◌, ℕ, zero, suc, ℤ, pos, negsuc, Bool, true, false, cond, min, nat_lt, if◌then◌else◌, List, [], ◌∷◌, ◌++◌, codes, length, take, drop, FitsSigned, Some, None, refl, sym, ap, ap₂, inl, inr, subst, append_assoc, arith}
+use Rattle.std.proofs.Common.{◌≡◌, ◌∙◌, ◌⊎◌, ◌≤◌, ◌+◌, ◌==◌, ◌&&◌, ℕ, zero, suc, ℤ, pos, negsuc, Bool, true, false, cond, min, nat_lt, if◌then◌else◌, List, [], ◌∷◌, ◌++◌, codes, length, take, drop, FitsSigned, Some, None, refl, sym, ap, ap₂, inl, inr, subst, append_assoc, arith}
 use Rattle.tc_term.specs.Bytes.{is_word, is_name_start}
 use Rattle.tc_term.specs.Tree.{HasIntegers, HaveIntegers}
 use Rattle.std.proofs.Math.Seq.{take-append_seam, drop-append_seam}
@@ -11,8 +11,7 @@ use Rattle.std.specs.List.{list_all, prefix_len}
 use mir.Syntax.{w64}
 use Rattle.tc_lists.proofs.Decimals.{decimal-first, decimal-not_nil, integer_at-again, number_at-again}
 use Rattle.tc_lists.specs.Decimals.{StartsWithNoDigit, integer_at, number_at}
-use Rattle.tc_term.specs.Text as text
-use Rattle.tc_term.specs.Text.{Place, Alone, Behind, applied, before_element, empty_list, is_dot, is_name, is_nil, name_text, placed, quoted, text_in, texts_of}
+use Rattle.tc_term.specs.Text.{Alone, Behind, applied, is_name, is_nil, name_text, quoted, text_in, texts_of}
 use Rattle.tc_term.specs.Tree.{Tree, Variable, Atomic, Number, Compound, Trees, Last, More, nodes, nodes_of_all}
 use Rattle.tc_read.proofs.QuotedFront.{quoted_at-there}
 use Rattle.tc_read.proofs.Spent.{numbered-few, paid-some, spent_all-takes, then_in-some}

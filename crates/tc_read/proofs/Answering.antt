@@ -1,4 +1,4 @@
-use Rattle.std.proofs.Common.{◌≡◌, ℕ, ◌+◌, ◌<◌, ◌≤◌, inl, inr, Bool, true, false, List, [], ◌∷◌, map, length, Option, Some, None, Result, Ok, Err, refl, sym, ◌∙◌, ap, subst, arith, ◌↔◌, MatchOption}
+use Rattle.std.proofs.Common.{◌≡◌, ℕ, ◌+◌, ◌<◌, ◌≤◌, inl, inr, Bool, true, false, List, [], ◌∷◌, map, length, None, Result, Ok, Err, refl, sym, ◌∙◌, ap, subst, arith, ◌↔◌, MatchOption}
 use Rattle.std.specs.List.{range_with_len}
 use Rattle.tc_term.specs.Variables.{variables}
 use Rattle.tc_term.specs.Layouts.{At, Stop, ClauseEnd, Scan, at_clause_end, token}

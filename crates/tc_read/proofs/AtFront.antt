@@ -14,7 +14,6 @@ use Rattle.tc_lists.proofs.Decimals.{IsIntegerRead, integer_at-read}
 use Rattle.tc_lists.proofs.Prefixes.{append-same}
 use Rattle.std.proofs.Math.Seq.{drop-append_seam}
 use Rattle.tc_lists.specs.Decimals.{integer_at, number_at}
-use Rattle.tc_term.specs.Text as text
 use Rattle.tc_term.specs.Text.{Alone, canonical, is_name, is_nil, name_text, text_in, text_of, texts_of}
 use Rattle.tc_term.specs.Tree.{Tree, Variable, Atomic, Number, Compound, Trees}
 use Rattle.tc_term.specs.Variables.{IsPattern, renumbered}
@@ -29,7 +28,6 @@ use Rattle.tc_read.specs.Canonical.{EndsTerm, IsCanonicalAt, IsLongestCanonicalA
 use Rattle.tc_read.specs.Front.{Read, arguments, atom, called, canonical_at, compound, head, is_cell, leaf, name_at, named, number, or_head, quoted_at, reads, unplain, word_at}
 use Rattle.tc_read.specs.declared.budget.Budget.{Budget}
 use Rattle.std.proofs.lemmas.Option.{same_Some}
-use Rattle.tc_lists.proofs.Parts.{append_parts}
 use Rattle.tc_lists.proofs.Bools.{and_parts}
 
 -- the text of this template stands at the front

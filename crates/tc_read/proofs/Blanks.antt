@@ -1,5 +1,4 @@
-use Rattle.std.proofs.Common.{◌≡◌, ◌≢◌, ℕ, ◌<◌, ◌≤◌, true, false, ◌==◌, List, [], ◌∷◌, length, refl, sym, subst, arith, ◌↔◌}
-use Rattle.std.proofs.lemmas.Bool.Decides.{nat_tests}
+use Rattle.std.proofs.Common.{◌≡◌, ◌≢◌, ℕ, ◌<◌, ◌≤◌, false, List, [], ◌∷◌, length, refl, sym, subst, arith, ◌↔◌}
 use Rattle.tc_term.specs.Layouts.{is_blank, ToLineEnd, at_end, at_line_feed, in_line, ClosesBlock, ToBlockEnd, at_block_end, in_block, Piece, blank, line, block, NoPiece, Layout, no_layout, layout}
 
 -- Layout.

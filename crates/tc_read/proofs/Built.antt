@@ -1,5 +1,4 @@
-use Rattle.std.proofs.Common.{◌≡◌, ℕ, ◌<◌, List, [], ◌∷◌, ◌++◌, map, reverse, length, refl, sym, ◌∙◌, ap, arith, false}
-use Rattle.std.proofs.lemmas.List.{map-append, reverse-append}
+use Rattle.std.proofs.Common.{◌≡◌, ℕ, ◌<◌, List, [], ◌∷◌, ◌++◌, map, length, refl, sym, ◌∙◌, ap, arith, false}
 use Rattle.std.proofs.lemmas.Bool.Decides.{nat_tests}
 use Rattle.tc_term.specs.Tree.{Tree, Trees, More, Compound, nodes, depth, nodes_of_all, depth_of_all, name_bytes_of_all, name_bytes}
 use Rattle.tc_term.specs.TreeView.{tree_of, trees_of}
@@ -9,7 +8,7 @@ use Rattle.tc_read.specs.declared.measured.Item.{Item}
 use Rattle.tc_read.specs.Kept.{Large, all_nodes, all_depth, all_name_bytes, fits_by, fits, small_if, whole}
 use Rattle.tc_read.specs.Items.{kept_item, done_of}
 use Rattle.tc_read.proofs.Meanings.{nodes_of_trees, depth_of_trees, name_bytes_of_trees}
-use Rattle.tc_lists.proofs.Reversals.{reverse_push, reverse-map_push}
+use Rattle.tc_lists.proofs.Reversals.{reverse-map_push}
 
 pub trees_same : (t : Term) (ts : List Term) → trees_of (t ∷ ts) ≡ trees (tree_of t) (map tree_of ts)
 trees_same t [] = refl

@@ -1,7 +1,5 @@
 -- What stands open: so many last items, and the innermost frame.
-use Rattle.std.proofs.Common.{◌≡◌, ◌<◌, ◌-◌, ℕ, zero, suc, List, [], ◌∷◌, ◌++◌, length, reverse, Some, refl, ◌∙◌, ap, arith}
-use Rattle.std.specs.List.{slice_get}
-use Rattle.std.proofs.lemmas.List.{reverse-append}
+use Rattle.std.proofs.Common.{◌≡◌, ◌<◌, ◌-◌, ℕ, suc, List, [], ◌∷◌, refl, ap, arith}
 use Rattle.tc_read.specs.Frames.{below, top, tops, under}
 use Rattle.tc_read.specs.Kept.{Kept, finished, kept, parts}
 use Rattle.tc_read.specs.Machine.{applied, turned}

@@ -1,12 +1,11 @@
 use Rattle.std.proofs.Common.{◌≡◌, ℕ, ◌<◌, ◌≤◌, ◌⊎◌, inr, Bool, true, false, nat_lt, length, Option, Some, None, refl, sym, ◌∙◌, ap, subst, arith, MatchOption}
-use Rattle.std.proofs.lemmas.Bool.Decides.{nat_tests}
 use Rattle.std.specs.List.{range_with_len}
 use Rattle.std.proofs.lemmas.List.FromFn.{length-range_with_len}
-use Rattle.tc_term.specs.Tree.{Tree, Fits, nodes, depth, name_bytes}
+use Rattle.tc_term.specs.Tree.{Tree, Fits}
 use Rattle.tc_term.specs.Variables.{variables, renumbered, IsPattern}
 use Rattle.tc_term.specs.Faults.{Reading, Found, TooMany, TooBig, WideInt, When, Judged}
 use Rattle.tc_term.proofs.Numbered.{renumbered-pattern}
-use Rattle.tc_read.specs.Kept.{Small, fits, fits_by, kept_by, kept_of, small_if}
+use Rattle.tc_read.specs.Kept.{Small, fits, kept_by, kept_of, small_if}
 use Rattle.std.proofs.lemmas.Bool.{le-ltb}
 
 record IsSmall (r : Reading) (t : Tree) : Type 0 where

@@ -8,7 +8,7 @@ use Rattle.tc_read.specs.Lexing.{is_mark}
 use Rattle.tc_read.specs.Views.{unquoted}
 use Rattle.tc_read.proofs.Lexemes.{empty_spells, sign_of, none_sign}
 use Rattle.tc_read.proofs.Quotes.{between}
-use Rattle.tc_lists.proofs.Parts.{cons_head, cons_tail, append_parts}
+use Rattle.tc_lists.proofs.Parts.{cons_head, append_parts}
 
 -- One token at most is the longest.
 

@@ -14,8 +14,7 @@ use Rattle.tc_term.specs.Faults.{Reading, all_known, first_wide, is_wide, known_
 use Rattle.tc_term.specs.Grammar as grammar
 use Rattle.tc_term.specs.Grammar.{Arguments, Derives, Items, NotCalled, Operand, Token, operand, variable, integer, negative, atom, compound, no_items, items, last_argument, more_arguments, last_item, list_tail, more_items}
 use Rattle.tc_term.specs.Layouts.{At, NoPiece, Scan, Stop, no_layout, token}
-use Rattle.tc_term.specs.Text as text
-use Rattle.tc_term.specs.Text.{Alone, Behind, applied, is_dot, is_name, is_nil, name_text, quoted, text_in, texts_of}
+use Rattle.tc_term.specs.Text.{Alone, Behind, is_dot, is_name, is_nil, name_text, quoted, text_in, texts_of}
 use Rattle.tc_term.specs.Tokens as spelled
 use Rattle.tc_term.specs.Tokens.{Lexeme, Word, Quoted, Symbol, Punctuation, Minus, OpenList, CloseList, Comma, Bar, mark_byte}
 use Rattle.tc_term.specs.Tree.{Tree, Variable, Atomic, Number, Compound, Trees, Last, More}

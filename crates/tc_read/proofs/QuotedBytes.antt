@@ -3,7 +3,6 @@ use Rattle.std.specs.Prelude.{is_some, codes}
 use Rattle.std.specs.List.{flat_map}
 use Rattle.std.proofs.lemmas.Grind.{flat_map-append}
 use Rattle.std.proofs.lemmas.List.{append_assoc, append-nil, length-append, length-drop}
-use Rattle.std.proofs.lemmas.Bool.Decides.{nat_tests}
 use Rattle.tc_term.specs.Tokens.{escape}
 use Rattle.tc_term.specs.Text.{quoted, quoted_byte}
 use Rattle.tc_read.specs.Views.{meant}

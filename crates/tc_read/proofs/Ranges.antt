@@ -1,15 +1,14 @@
 -- Variables that are numbered 0, 1, .. so far.
-use Rattle.std.proofs.Common.{◌≡◌, ◌∙◌, ◌⊎◌, ◌<◌, ◌+◌, ℕ, List, [], ◌∷◌, ◌++◌, length, get_or, map, refl, sym, ap, inl, inr, subst, arith, length-append}
-use Rattle.std.proofs.lemmas.Bool.{cases_lt}
-use Rattle.std.proofs.lemmas.List.{get_or_append_left, get_or_push}
-use Rattle.std.proofs.lemmas.List.FromFn.{get_or-range_with_len, length-range_with_len}
+use Rattle.std.proofs.Common.{◌≡◌, ◌∙◌, ◌⊎◌, ◌<◌, ◌+◌, ℕ, List, [], ◌∷◌, ◌++◌, length, get_or, sym, ap, inl, inr, subst, arith, length-append}
+use Rattle.std.proofs.lemmas.List.{get_or_push}
+use Rattle.std.proofs.lemmas.List.FromFn.{length-range_with_len}
 use Rattle.std.specs.List.{range_with_len}
 use mathlib.Core.List.{IsPrefix}
-use Rattle.tc_lists.proofs.Prefixes.{IsPrefix-append, IsPrefix-trans, IsPrefix-whole, get_or-IsPrefix, length-IsPrefix}
+use Rattle.tc_lists.proofs.Prefixes.{IsPrefix-append, IsPrefix-trans, IsPrefix-whole}
 use Rattle.tc_term.proofs.Places.{Stands-range, place_in-range, with_number_cases}
 use Rattle.tc_term.specs.Tree.{Tree, Variable, Atomic, Number, Compound, Trees, Last, More}
 use Rattle.tc_term.specs.Variables.{with_number, variables_after, variables_after_all}
-use Rattle.tc_lists.proofs.Ranges.{range_with_len_more, is_range, get_or-range, range_with_len_same}
+use Rattle.tc_lists.proofs.Ranges.{range_with_len_more, get_or-range, range_with_len_same}
 
 -- a number below the end is there
 pub with_number-old : (v n : ℕ) → n < v → with_number (range_with_len 0 v) n ≡ range_with_len 0 v

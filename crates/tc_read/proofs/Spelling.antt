@@ -19,7 +19,6 @@ use Rattle.std.specs.Str.{bytes_eq}
 use Rattle.std.specs.Str.Parse.{digits_value_after}
 use Rattle.tc_term.proofs.Places.{Stands-range, place_in-range, place_in_cases}
 use Rattle.tc_term.specs.Faults.{is_anonymous, known_after, known_by, learned, number_by, number_of}
-use Rattle.tc_term.specs.Text as text
 use Rattle.tc_term.specs.Text.{is_name, name_text, quoted, quoted_byte}
 use Rattle.tc_term.specs.Tokens.{Lexeme, Word, Number, Quoted, Symbol, Punctuation, Minus, Mark, decimal_from, escape, mark_byte}
 use Rattle.tc_term.specs.Tokens as spelled

@@ -1,5 +1,5 @@
 -- What is read at the front stands there, and what is left of the room is what its nodes leave.
-use Rattle.std.proofs.Common.{◌≡◌, ◌∙◌, ℕ, zero, suc, ℤ, Bool, true, false, ◌==◌, ◌&&◌, nat_lt, if◌then◌else◌, List, [], ◌∷◌, ◌++◌, codes, length, Some, None, refl, sym, ap, append_assoc, arith, min, take-append-drop, subst}
+use Rattle.std.proofs.Common.{◌≡◌, ◌∙◌, ℕ, zero, suc, ℤ, true, false, ◌==◌, ◌&&◌, nat_lt, if◌then◌else◌, List, [], ◌∷◌, ◌++◌, codes, length, Some, None, refl, sym, ap, append_assoc, arith, min, take-append-drop, subst}
 use Rattle.tc_term.specs.Bytes.{is_word, is_name_start}
 use Rattle.tc_term.specs.Tree.{HasIntegers, HaveIntegers}
 use Rattle.std.specs.declared.option.Option.{Option}

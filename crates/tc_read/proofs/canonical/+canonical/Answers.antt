@@ -1,4 +1,4 @@
-use Rattle.std.proofs.Common.{◌≡◌, ◌≤◌, ℕ, ◌∙◌, ◌-◌, ◌+◌, sym, ap, subst, IfOk, arith, ◌∷◌, Some}
+use Rattle.std.proofs.Common.{◌≡◌, ◌∙◌, ◌-◌, ◌+◌, sym, ap, subst, IfOk, arith, ◌∷◌, Some}
 use Rattle.std.proofs.Math.Nat.{sub-eq-zero_of_le}
 use Rattle.tc_term.specs.Text.{Alone}
 use Rattle.tc_read.proofs.ArgumentLoop.{none_next, end_next, other_next, last_next, more_next}

@@ -1,10 +1,9 @@
-use Rattle.std.proofs.Common.{◌≡◌, ◌∙◌, ℕ, List, ◌++◌, Some, None, IfSome, IfNone, if◌then◌else◌, sym, ap, subst}
+use Rattle.std.proofs.Common.{◌≡◌, ◌∙◌, ℕ, List, ◌++◌, Some, None, IfNone, if◌then◌else◌, sym, ap, subst}
 use Rattle.tc_read.proofs.QuotedFront.{quoted_at-none, unplain-found}
 use Rattle.tc_lists.proofs.Options.{IfSome-at, none_from_never}
 use Rattle.tc_read.specs.Front.{unplain}
 use Rattle.tc_read.specs.Written.{IsQuotedAt}
 use Rattle.tc_term.specs.Text.{is_name, quoted}
-use Rattle.std.specs.declared.option.Option.{Option}
 use Rattle.tc_read.proofs.printed_names.quoted_name.Goals as goal
 use Rattle.tc_lists.proofs.Parts.{drop_behind}
 
