@@ -2,7 +2,6 @@ use Rattle.std.proofs.Common.{◌≤◌, ◌≡◌, ◌∙◌, sym, ap, [], subs
 use Rattle.std.specs.Prelude.{Some}
 use Rattle.std.proofs.lemmas.List.Elements.{All-pop}
 use Rattle.tc_lists.proofs.Options.{IfSome-at, IfNone-at}
-use Rattle.tc_term.specs.Letters.{bytes_of}
 use Rattle.tc_term.specs.Tree.{Number}
 use Rattle.tc_term.specs.Equations.{at}
 use Rattle.tc_term.specs.declared.terms.Term.TheVariants.{Int}
@@ -73,26 +72,26 @@ returns-then-not-take-2 t c =
     let a = c.args.arena.now in
     let l = c.args.links.now in
     let spine = c.in_ok-spine.ensures in
-    let name = bytes_of c.name.inside.letters in
-    let shape : shape_of a c.in_ok-spine.spine.atom ≡ AtomNode name = IfSome-at _ c.in_ok-name.field-0 c.in-Some.name c.in-Some.is c.in_ok-name.ensures.name ∙ ap AtomNode (sym c.name.view_is) in
+    let name = c.in-Some.name in
+    let shape : shape_of a c.in_ok-spine.spine.atom ≡ AtomNode name = IfSome-at _ c.in_ok-name.field-0 c.in-Some.name c.in-Some.is c.in_ok-name.ensures.name in
     full_value a l c.requires.solved (of_node a c.args.node) c.args.depth c.args.room.now c.take-2.new.self (length name)
     (name_least a l c.requires.solved (λ v. label (shape_of a) (at v)) (of_node a c.args.node) name (reverse c.in_ok-spine.spine.arguments.items) (length name) refl
     (spine_builds a l c.requires.solved c.args.node c.end-end.result name [] c.in_ok-spine.spine.arguments.items name c.end-end.ensures refl refl
     (λ v. named_spine a v (label (shape_of a) v c.end-end.result) c.in_ok-spine.spine.atom name (reverse c.in_ok-spine.spine.arguments.items) c.requires.solved.linked.arena shape (spine.tree v))))
-    (λ one two three. c.take-2.ensures.full c.if-not-take-2.true one two (subst (λ bytes. length bytes ≤ c.args.room.now.name_bytes) (sym (c.bytes.ensures ∙ sym c.name.view_is)) three))
+    (λ one two three. c.take-2.ensures.full c.if-not-take-2.true one two (subst (λ bytes. length bytes ≤ c.args.room.now.name_bytes) (sym c.bytes.ensures) three))
 
 pub loop-argument-init : goal.loop-argument-init
 loop-argument-init t c =
     let a = c.args.arena.now in
     let l = c.args.links.now in
     let spine = c.in_ok-spine.ensures in
-    let name = bytes_of c.name.inside.letters in
-    let shape : shape_of a c.in_ok-spine.spine.atom ≡ AtomNode name = IfSome-at _ c.in_ok-name.field-0 c.in-Some.name c.in-Some.is c.in_ok-name.ensures.name ∙ ap AtomNode (sym c.name.view_is) in
+    let name = c.in-Some.name in
+    let shape : shape_of a c.in_ok-spine.spine.atom ≡ AtomNode name = IfSome-at _ c.in_ok-name.field-0 c.in-Some.name c.in-Some.is c.in_ok-name.ensures.name in
     record {
       deep = c.take-2.ensures.depth c.if-not-take-2.false;
       arguments = spine.arguments;
       spent = IsSpent-head a l c.requires.solved name c.new-values.result.items c.args.depth c.args.room.now c.take-2.new.self (length c.bytes.result.now) c.new-values.ensures.items
-          (ap length (c.bytes.ensures ∙ sym c.name.view_is))
+          (ap length c.bytes.ensures)
           (c.take-2.ensures.depth c.if-not-take-2.false) (c.take-2.ensures.nodes c.if-not-take-2.false) (c.take-2.ensures.bytes c.if-not-take-2.false);
       value = spine_builds a l c.requires.solved c.args.node c.end-end.result name c.new-values.result.items c.in_ok-spine.spine.arguments.items name c.end-end.ensures refl c.new-values.ensures.items
           (λ v. named_spine a v (label (shape_of a) v c.end-end.result) c.in_ok-spine.spine.atom name (reverse c.in_ok-spine.spine.arguments.items) c.requires.solved.linked.arena shape (spine.tree v));
@@ -119,9 +118,9 @@ loop-argument-preserved t c =
     record {
       deep = inv.deep;
       arguments = (All-pop (IsNodeOf a) c.loop-argument.spine.arguments.items rest (Some c.in-Some-pop.argument) c.in-Some-pop.ensures.items inv.arguments).0;
-      spent = spent_next a l c.requires.solved (λ v. label (shape_of a) (at v)) (of_node a c.args.node) (bytes_of c.name.inside.letters) c.loop-argument.values.items c.in-Some-pop.argument (reverse c.loop-argument.spine.arguments.items) (reverse rest) c.args.depth c.args.room.now c.loop-argument.room
+      spent = spent_next a l c.requires.solved (λ v. label (shape_of a) (at v)) (of_node a c.args.node) c.in-Some.name c.loop-argument.values.items c.in-Some-pop.argument (reverse c.loop-argument.spine.arguments.items) (reverse rest) c.args.depth c.args.room.now c.loop-argument.room
           next inv.deep inv.spent inv.value c.in_ok-value.field-0 c.node_value.new.room c.in-Some-2.value c.push.new.self.items c.in-Some-2.is c.in_ok-value.ensures c.in_ok-push-in-Some-2.ensures.items;
-      value = builds_next a l c.requires.solved (λ v. label (shape_of a) (at v)) (of_node a c.args.node) (bytes_of c.name.inside.letters) c.loop-argument.values.items c.in-Some-pop.argument (reverse c.loop-argument.spine.arguments.items) (reverse rest) c.args.depth c.args.room.now c.loop-argument.room
+      value = builds_next a l c.requires.solved (λ v. label (shape_of a) (at v)) (of_node a c.args.node) c.in-Some.name c.loop-argument.values.items c.in-Some-pop.argument (reverse c.loop-argument.spine.arguments.items) (reverse rest) c.args.depth c.args.room.now c.loop-argument.room
           next inv.deep inv.spent inv.value c.in_ok-value.field-0 c.node_value.new.room c.in-Some-2.value c.push.new.self.items c.in-Some-2.is c.in_ok-value.ensures c.in_ok-push-in-Some-2.ensures.items;
     }
 
@@ -133,5 +132,5 @@ returns-in-None t c =
     let rest = c.pop.new.self.items in
     let next = ap reverse c.in-Some-pop.ensures.items ∙ reverse_push rest c.in-Some-pop.argument in
     none_value a l c.requires.solved (of_node a c.args.node) c.args.depth c.args.room.now c.node_value.new.room
-    (none_next a l c.requires.solved (λ v. label (shape_of a) (at v)) (of_node a c.args.node) (bytes_of c.name.inside.letters) c.loop-argument.values.items c.in-Some-pop.argument (reverse c.loop-argument.spine.arguments.items) (reverse rest) c.args.depth c.args.room.now c.loop-argument.room
+    (none_next a l c.requires.solved (λ v. label (shape_of a) (at v)) (of_node a c.args.node) c.in-Some.name c.loop-argument.values.items c.in-Some-pop.argument (reverse c.loop-argument.spine.arguments.items) (reverse rest) c.args.depth c.args.room.now c.loop-argument.room
     next inv.deep inv.spent inv.value c.in_ok-value.field-0 c.node_value.new.room c.in-None.is c.in_ok-value.ensures)

@@ -1,5 +1,4 @@
 use Rattle.std.proofs.Common.{◌<◌, length, reverse, All}
-use Rattle.tc_term.specs.Letters.{bytes_of}
 use Rattle.tc_term.specs.Tree.{Atomic}
 use Rattle.tc_term.specs.TreeView.{tree_of}
 use Rattle.tc_term.specs.Equations.{at}
@@ -17,8 +16,8 @@ abbrev pub invariant-loop-argument : goal.invariant-loop-argument
 invariant-loop-argument l = record {
   deep : 0 < l.depth;
   arguments : All (IsNodeOf l.arena) l.spine.arguments.items;
-  spent : IsSpent (applied_over tree_of (Atomic (bytes_of l.name-inside.letters)) l.values.items) l.depth l.fn.room l.room;
-  value : Builds l.arena l.links (λ v. label (shape_of l.arena) (at v)) (of_node l.arena l.node) (bytes_of l.name-inside.letters) l.values.items (reverse l.spine.arguments.items);
+  spent : IsSpent (applied_over tree_of (Atomic l.name) l.values.items) l.depth l.fn.room l.room;
+  value : Builds l.arena l.links (λ v. label (shape_of l.arena) (at v)) (of_node l.arena l.node) l.name l.values.items (reverse l.spine.arguments.items);
 }
 
 abbrev pub decreases-loop-argument : goal.decreases-loop-argument
