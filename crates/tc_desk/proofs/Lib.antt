@@ -1,0 +1,4 @@
+pub mod Operations
+pub mod Filling
+pub mod Histories
+pub mod Texts

@@ -1,0 +1,68 @@
+//! What holds of asks, of rows and of their text, for callers to cite.
+ghost use Rattle.std.specs.Prelude.{◌≡◌, ◌<◌, ◌++◌, ◌∷◌, [], ℕ, List, All, length};
+ghost use Rattle.tc_model.specs.Asks.{primitive_of};
+ghost use Rattle.tc_model.specs.Calls.{id_of, calls_of};
+ghost use Rattle.tc_model.specs.Scripts.{Lines};
+ghost use Rattle.tc_model.specs.State.{Origin};
+ghost use Rattle.tc_model.specs.declared.asks.Ask.{Ask};
+ghost use Rattle.tc_model.specs.declared.calls.CallId.{CallId};
+ghost use Rattle.tc_model.specs.declared.entries.Entry.{Entry};
+ghost use Rattle.tc_desk.specs.Asks.{ScriptStep, IsAsk};
+ghost use Rattle.tc_desk.specs.Operands.{Operand, OpOf};
+ghost use Rattle.tc_desk.specs.Served.{IsServedAs};
+ghost use Rattle.tc_desk.specs.Text.{Version, agent_heading, centre_heading, entry_text, histories_text};
+ghost use Rattle.tc_desk.specs.Text.{history_text, log_text, logs_text, row_text};
+ghost use Rattle.tc_desk.specs.declared.rows.LogResult.{LogResult};
+ghost use Rattle.tc_desk.specs.declared.rows.LogRow.{LogRow};
+
+/// An ask is one operation, or one thing is wrong with its operand first.
+pub fn ask_is_one_operation()
+    ensures { (ask : Ask) (o other : Operand) → OpOf ask o → OpOf ask other → o ≡ other }
+{}
+
+/// Scripts ask one thing at each place.
+pub fn scripts_ask_one_thing()
+    ensures step { (scripts : List Lines) (k : ℕ) (results : List LogResult) (step other : ScriptStep)
+        (ask asked : Ask) → IsAsk scripts k results step ask → IsAsk scripts k results other asked
+        → step ≡ other }
+    ensures ask { (scripts : List Lines) (k : ℕ) (results : List LogResult) (step other : ScriptStep)
+        (ask asked : Ask) → IsAsk scripts k results step ask → IsAsk scripts k results other asked
+        → ask ≡ asked }
+{}
+
+/// What has to be permitted for an ask, the script alone says.
+pub fn scripts_fix_what_they_need()
+    ensures { (scripts : List Lines) (k : ℕ) (results : List LogResult) (step : ScriptStep) (ask : Ask)
+        → IsAsk scripts k results step ask → primitive_of ask ≡ primitive_of step.item.ask }
+{}
+
+/// What an ask has come to stays so, however the history goes on, if its agent's later calls have
+/// greater numbers. One that is pending stays a call that was made: it may have a reply then.
+pub fn results_stay()
+    ensures { (origin : Origin) (history more : List Entry) (id : CallId) (ask : Ask)
+        (result : LogResult)
+        → All (λ e. id.number < (id_of e).number) (calls_of id.agent more)
+        → IsServedAs origin history id ask result → IsServedAs origin (history ++ more) id ask result }
+{}
+
+/// The text of histories goes on with a heading, and then with one entry after another; and so does
+/// that of logs, with rows.
+pub fn text_grows_by_parts()
+    ensures history { (agents : List (List ℕ)) (name : List ℕ)
+        → history_text agents name [] ≡ centre_heading name }
+    ensures entry { (agents : List (List ℕ)) (name : List ℕ) (history : List Entry) (e : Entry)
+        → history_text agents name (history ++ e ∷ [])
+        ≡ history_text agents name history ++ entry_text agents e }
+    ensures histories { (agents names : List (List ℕ)) (histories : List (List Entry))
+        (name : List ℕ) (history : List Entry) → length names ≡ length histories
+        → histories_text agents (names ++ name ∷ []) (histories ++ history ∷ [])
+        ≡ histories_text agents names histories ++ history_text agents name history }
+
+    ensures log { (v : Version) (name : List ℕ) → log_text v name [] ≡ agent_heading name }
+    ensures row { (v : Version) (name : List ℕ) (log : List LogRow) (r : LogRow)
+        → log_text v name (log ++ r ∷ []) ≡ log_text v name log ++ row_text v r }
+    ensures logs { (v : Version) (names : List (List ℕ)) (logs : List (List LogRow)) (name : List ℕ)
+        (log : List LogRow) → length names ≡ length logs
+        → logs_text v (names ++ name ∷ []) (logs ++ log ∷ [])
+        ≡ logs_text v names logs ++ log_text v name log }
+{}

@@ -1,0 +1,23 @@
+//! What an agent asks, and what becomes of it: the rows of logs, and the text of histories and logs.
+//!
+//! Here are types and definitions: which ask a script makes next, which operation an ask is, what it
+//! may have come to, and how all that is written. Nothing here knows how a centre serves a call.
+//!
+//! ```
+//! let centre = Name::new(alloc, b"c")?;
+//! let result = LogResult::Refused(Refusal::Denied);
+//! let row = LogRow { number: 1, centre, ask: Some(Ask::GetSpec), result };
+//! assert!(rt; !has_pending(&[row]));
+//! ```
+#![tactic(auto)]
+
+mod gates;
+mod laws;
+mod rows;
+
+pub use gates::{Gate, NoGate};
+pub use laws::{
+    ask_is_one_operation, results_stay, scripts_ask_one_thing, scripts_fix_what_they_need,
+    text_grows_by_parts,
+};
+pub use rows::{LogResult, LogRow, Refusal, has_pending};
