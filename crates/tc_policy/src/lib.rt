@@ -1,0 +1,23 @@
+//! What roles may do at centres.
+//!
+//! Grants stand in order, and each may stand more than once: the first that says so permits. Roles
+//! and centres are numbers here. Nothing here knows of their names.
+//!
+//! ```
+//! let mut roles = Roles::new(alloc);
+//! roles.add(Grant { role: 0, centre: 2, primitive: Primitive::Out })?;
+//! assert!(rt; roles.permits(0, 2, Primitive::Out) == Some(1)); // the first grant
+//! assert!(rt; roles.permits(0, 2, Primitive::In).is_none());
+//! ```
+#![tactic(auto)]
+
+mod grants;
+mod places;
+mod roles;
+
+pub use grants::{Grant, MOST_GRANTS};
+pub use roles::Roles;
+pub use tc_lists::NoMemory;
+
+#[cfg(test)]
+mod tests;
