@@ -1,0 +1,40 @@
+//! The text of histories and logs, line by line: headings, entries with their reactions, and rows.
+//!
+//! What is appended is the text that tc_desk defines, in its first version. After want of memory the
+//! lent text is as before. The parts, one behind another, are the text of a run, so a caller may write
+//! it away in pieces as it grows.
+//!
+//! ```
+//! let mut text = Vec::new(alloc);
+//! print_version(&mut text)?;
+//! print_heading(alloc, Heading::Centre, core.name(), &mut text)?;
+//! for entry in core.history() {
+//!     print_entry(alloc, core.agents(), entry, &mut text)?; // call a 1 out(p(1)) = done
+//! }
+//! print_heading(alloc, Heading::Agent, &agent, &mut text)?;
+//! for row in log {
+//!     print_row(alloc, row, &mut text)?; // 1 c done
+//! }
+//! print_end(false, &mut text)?;
+//! ```
+#![tactic(auto)]
+
+mod answers;
+mod cut;
+mod entries;
+mod headings;
+mod items;
+mod laws;
+mod operations;
+mod rows;
+
+pub use entries::print_entry;
+pub use headings::{Heading, print_end, print_heading, print_version};
+pub use laws::entries_of_runs_have_agents;
+pub use rows::print_row;
+
+/// Memory has run out.
+pub use tc_lists::NoMemory;
+
+#[cfg(test)]
+mod tests;

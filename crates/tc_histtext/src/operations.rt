@@ -1,0 +1,53 @@
+//! Operations as text.
+ghost use Rattle.std.specs.Prelude.{◌≡◌, ◌++◌, OnOk};
+ghost use mathlib.Core.List.{IsPrefix};
+ghost use Rattle.tc_term.specs.Tree.{Fits};
+ghost use Rattle.tc_term.specs.TreeView.{tree_of};
+ghost use Rattle.tc_desk.specs.Text.{applied, op_text};
+
+use std::alloc::Global;
+use tc_lists::NoMemory;
+use tc_model::{Clauses, Op};
+use tc_print::{print_quoted, print_term};
+use tc_spec::print_spec;
+use tc_term::Term;
+
+// Appends an operation.
+pub(crate) fn write_op(alloc: Global, op: &Op, into: &mut Vec<u8>) -> Result<(), NoMemory>
+    ensures appended { OnOk result (into.new.items ≡ into.old.items ++ op_text op.now) }
+    ensures kept { IsPrefix into.old.items into.new.items }
+{
+    match op {
+        Op::Out(tuple) => write_applied(alloc, b"out", tuple.term(), into),
+        Op::In(template) => write_applied(alloc, b"in", template.term(), into),
+        Op::Rd(template) => write_applied(alloc, b"rd", template.term(), into),
+        Op::Inp(template) => write_applied(alloc, b"inp", template.term(), into),
+        Op::Rdp(template) => write_applied(alloc, b"rdp", template.term(), into),
+        Op::SetSpec(clauses) => write_replaced(alloc, clauses, into),
+        Op::GetSpec => into.extend_from_slice(b"get_spec"),
+    }
+}
+
+// Appends a word, and a term in brackets.
+fn write_applied(alloc: Global, word: &[u8], t: &Term, into: &mut Vec<u8>) -> Result<(), NoMemory>
+    requires fits { Fits (tree_of t.now) }
+    ensures appended { OnOk result (into.new.items ≡ into.old.items ++ applied word.now (tree_of t.now)) }
+    ensures kept { IsPrefix into.old.items into.new.items }
+{
+    into.extend_from_slice(word)?;
+    into.extend_from_slice(b"(")?;
+    print_term(alloc, t, into)?;
+    into.extend_from_slice(b")")
+}
+
+// Appends the operation that replaces the clauses by these.
+fn write_replaced(alloc: Global, clauses: &Clauses, into: &mut Vec<u8>) -> Result<(), NoMemory>
+    ensures appended { OnOk result (into.new.items ≡ into.old.items ++ op_text (Op.SetSpec clauses.now)) }
+    ensures kept { IsPrefix into.old.items into.new.items }
+{
+    let mut text = Vec::new(alloc);
+    print_spec(alloc, clauses, &mut text)?;
+    into.extend_from_slice(b"set_spec(")?;
+    print_quoted(alloc, &text, into)?;
+    into.extend_from_slice(b")")
+}
