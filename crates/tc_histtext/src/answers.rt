@@ -65,7 +65,8 @@ pub(crate) fn write_tuple(
     tuple: &Ground,
     into: &mut Vec<u8>,
 ) -> Result<(), NoMemory>
-    ensures appended { OnOk result (into.new.items ≡ into.old.items ++ (word.now ++ canonical tuple.now)) }
+    ensures appended { OnOk result (into.new.items
+        ≡ into.old.items ++ (word.now ++ canonical tuple.now)) }
     ensures kept { IsPrefix into.old.items into.new.items }
 {
     into.extend_from_slice(word)?;
@@ -74,7 +75,8 @@ pub(crate) fn write_tuple(
 
 // Appends the text of a centre's clauses, in quotes.
 fn write_spec(alloc: Global, text: &[u8], into: &mut Vec<u8>) -> Result<(), NoMemory>
-    ensures appended { OnOk result (into.new.items ≡ into.old.items ++ (codes "spec " ++ quoted text.now)) }
+    ensures appended { OnOk result (into.new.items
+        ≡ into.old.items ++ (codes "spec " ++ quoted text.now)) }
     ensures kept { IsPrefix into.old.items into.new.items }
 {
     into.extend_from_slice(b"spec ")?;

@@ -1,9 +1,9 @@
 //! Entries of histories as text.
-ghost use Rattle.std.specs.Prelude.{◌≡◌, ◌<◌, ◌++◌, OnErr, OnOk, codes, length, ◌∷◌, []};
+ghost use Rattle.std.specs.Prelude.{◌≡◌, ◌<◌, ◌++◌, OnErr, OnOk, codes, decimal, length, ◌∷◌, []};
 ghost use mathlib.Core.List.{IsPrefix};
 ghost use Rattle.tc_lists.specs.Texts.{joined};
 ghost use Rattle.tc_model.specs.Calls.{id_of};
-ghost use Rattle.tc_desk.specs.Text.{call_text, entry_text, items_text, outcome_text};
+ghost use Rattle.tc_desk.specs.Text.{call_text, entry_text, items_text, op_text, outcome_text, told_text};
 
 use crate::answers::{write_outcome, write_told};
 use crate::cut::cut_back;
@@ -11,7 +11,7 @@ use crate::items::write_items;
 use crate::operations::write_op;
 use std::alloc::Global;
 use tc_lists::{NoMemory, append_number};
-use tc_model::{CallId, Entry, Item, Outcome};
+use tc_model::{CallId, Entry, Item, Op, Outcome, Reply};
 use tc_print::print_name;
 use tc_term::Name;
 
@@ -51,9 +51,7 @@ fn write_entry(
             items,
         } => {
             write_call(alloc, b"call ", agents, *id, into)?;
-            into.extend_from_slice(b" ")?;
-            write_op(alloc, op, into)?;
-            write_result(alloc, outcome, items.items(), into)
+            write_served(alloc, op, outcome, items.items(), into)
         }
         Entry::Gave { id, outcome, items } => {
             write_call(alloc, b"give ", agents, *id, into)?;
@@ -61,11 +59,7 @@ fn write_entry(
         }
         Entry::Looked { id, asked, reply } => {
             write_call(alloc, b"look ", agents, *id, into)?;
-            into.extend_from_slice(b" ")?;
-            append_number(*asked, into)?;
-            into.extend_from_slice(b" = ")?;
-            write_told(alloc, reply, into)?;
-            into.extend_from_slice(b"\n")
+            write_look(alloc, *asked, reply, into)
         }
     }
 }
@@ -89,6 +83,24 @@ fn write_call(
     append_number(id.number, into)
 }
 
+// Appends an operation with its outcome, and the lines of reactions.
+fn write_served(
+    alloc: Global,
+    op: &Op,
+    outcome: &Outcome,
+    items: &[Item],
+    into: &mut Vec<u8>,
+) -> Result<(), NoMemory>
+    ensures appended { OnOk result (into.new.items ≡ into.old.items
+        ++ joined (codes " " ∷ op_text op.now ∷ codes " = " ∷ outcome_text outcome.now ∷
+        codes "\n" ∷ items_text items.now ∷ [])) }
+    ensures kept { IsPrefix into.old.items into.new.items }
+{
+    into.extend_from_slice(b" ")?;
+    write_op(alloc, op, into)?;
+    write_result(alloc, outcome, items, into)
+}
+
 // Appends an outcome, the end of its line, and the lines of reactions.
 fn write_result(
     alloc: Global,
@@ -104,4 +116,30 @@ fn write_result(
     write_outcome(alloc, outcome, into)?;
     into.extend_from_slice(b"\n")?;
     write_items(alloc, items, into)
+}
+
+// Appends the number of a call, what its agent is told of it, and the end of the line.
+fn write_look(
+    alloc: Global,
+    asked: u64,
+    told: &Option<Reply>,
+    into: &mut Vec<u8>,
+) -> Result<(), NoMemory>
+    ensures appended { OnOk result (into.new.items ≡ into.old.items
+        ++ joined (codes " " ∷ decimal asked ∷ codes " = " ∷ told_text told.now ∷ codes "\n" ∷ [])) }
+    ensures kept { IsPrefix into.old.items into.new.items }
+{
+    write_asked(asked, into)?;
+    write_told(alloc, told, into)?;
+    into.extend_from_slice(b"\n")
+}
+
+fn write_asked(asked: u64, into: &mut Vec<u8>) -> Result<(), NoMemory>
+    ensures appended { OnOk result (into.new.items
+        ≡ into.old.items ++ joined (codes " " ∷ decimal asked ∷ codes " = " ∷ [])) }
+    ensures kept { IsPrefix into.old.items into.new.items }
+{
+    into.extend_from_slice(b" ")?;
+    append_number(asked, into)?;
+    into.extend_from_slice(b" = ")
 }

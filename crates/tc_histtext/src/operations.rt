@@ -31,7 +31,8 @@ pub(crate) fn write_op(alloc: Global, op: &Op, into: &mut Vec<u8>) -> Result<(),
 // Appends a word, and a term in brackets.
 fn write_applied(alloc: Global, word: &[u8], t: &Term, into: &mut Vec<u8>) -> Result<(), NoMemory>
     requires fits { Fits (tree_of t.now) }
-    ensures appended { OnOk result (into.new.items ≡ into.old.items ++ applied word.now (tree_of t.now)) }
+    ensures appended { OnOk result (into.new.items
+        ≡ into.old.items ++ applied word.now (tree_of t.now)) }
     ensures kept { IsPrefix into.old.items into.new.items }
 {
     into.extend_from_slice(word)?;
@@ -42,7 +43,8 @@ fn write_applied(alloc: Global, word: &[u8], t: &Term, into: &mut Vec<u8>) -> Re
 
 // Appends the operation that replaces the clauses by these.
 fn write_replaced(alloc: Global, clauses: &Clauses, into: &mut Vec<u8>) -> Result<(), NoMemory>
-    ensures appended { OnOk result (into.new.items ≡ into.old.items ++ op_text (Op.SetSpec clauses.now)) }
+    ensures appended { OnOk result (into.new.items
+        ≡ into.old.items ++ op_text (Op.SetSpec clauses.now)) }
     ensures kept { IsPrefix into.old.items into.new.items }
 {
     let mut text = Vec::new(alloc);

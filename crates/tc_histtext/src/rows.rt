@@ -1,6 +1,8 @@
 //! Rows of logs as text.
-ghost use Rattle.std.specs.Prelude.{◌≡◌, ◌++◌, OnErr, OnOk};
+ghost use Rattle.std.specs.Prelude.{◌≡◌, ◌++◌, ◌∷◌, [], OnErr, OnOk, codes, decimal};
 ghost use mathlib.Core.List.{IsPrefix};
+ghost use Rattle.tc_lists.specs.Texts.{joined};
+ghost use Rattle.tc_term.specs.Text.{atom_text};
 ghost use Rattle.tc_desk.specs.Text.{One, cause_text, refusal_text, result_text, row_text};
 
 use crate::answers::{write_reply, write_told};
@@ -10,6 +12,7 @@ use tc_desk::{LogResult, LogRow, Refusal};
 use tc_lists::{NoMemory, append_number};
 use tc_model::{BadSpec, SpecCause};
 use tc_print::print_name;
+use tc_term::Name;
 
 /// Appends the line of a row.
 ///
@@ -27,12 +30,26 @@ fn write_row(alloc: Global, r: &LogRow, into: &mut Vec<u8>) -> Result<(), NoMemo
     ensures appended { OnOk result (into.new.items ≡ into.old.items ++ row_text One r.now) }
     ensures kept { IsPrefix into.old.items into.new.items }
 {
-    append_number(r.number, into)?;
-    into.extend_from_slice(b" ")?;
-    print_name(alloc, &r.centre, into)?;
-    into.extend_from_slice(b" ")?;
+    write_place(alloc, r.number, &r.centre, into)?;
     write_result(alloc, &r.result, into)?;
     into.extend_from_slice(b"\n")
+}
+
+// Appends the number of a row and its centre, with a space behind each.
+fn write_place(
+    alloc: Global,
+    number: u64,
+    centre: &Name,
+    into: &mut Vec<u8>,
+) -> Result<(), NoMemory>
+    ensures appended { OnOk result (into.new.items ≡ into.old.items
+        ++ joined (decimal number ∷ codes " " ∷ atom_text centre.now ∷ codes " " ∷ [])) }
+    ensures kept { IsPrefix into.old.items into.new.items }
+{
+    append_number(number, into)?;
+    into.extend_from_slice(b" ")?;
+    print_name(alloc, centre, into)?;
+    into.extend_from_slice(b" ")
 }
 
 // Appends what became of an ask.
@@ -71,7 +88,8 @@ fn write_refusal(why: Refusal, into: &mut Vec<u8>) -> Result<(), NoMemory>
 
 // Appends the first faulty clause, and what is wrong with it.
 fn write_bad(bad: BadSpec, into: &mut Vec<u8>) -> Result<(), NoMemory>
-    ensures appended { OnOk result (into.new.items ≡ into.old.items ++ refusal_text One (Refusal.BadSpec bad)) }
+    ensures appended { OnOk result (into.new.items
+        ≡ into.old.items ++ refusal_text One (Refusal.BadSpec bad)) }
     ensures kept { IsPrefix into.old.items into.new.items }
 {
     into.extend_from_slice(b"bad spec ")?;
