@@ -1,0 +1,58 @@
+-- A text that is a heading and one line for each element of a list, handed on line by line.
+use Rattle.std.proofs.Common.{◌≡◌, ℕ, ◌+◌, ◌<◌, ◌≤◌, List, [], ◌∷◌, ◌++◌, Result, Ok, Err, take, drop, length, get_or, ap, sym, subst, ◌∙◌, append-nil, append_assoc, take-append-drop, take_all}
+use Rattle.std.specs.List.{flat_map}
+use Rattle.std.proofs.lemmas.Grind.{flat_map-append}
+use Rattle.tc_io.specs.declared.sinks.SinkFault.{SinkFault}
+use Rattle.tc_lists.proofs.Parts.{take_read}
+use Rattle.tc_writing.specs.Flow.{Flow, HandsOn}
+use Rattle.tc_writing.proofs.Flows.{amid, both, both_done}
+
+module _ {X : Type 0} (heading : List ℕ) (line : X → List ℕ) (xs : List X) where
+  -- the heading and the lines of the first elements
+  abbrev pub begun : ℕ → List ℕ
+  begun i = heading ++ flat_map line (take i xs)
+
+  -- the line of one element more
+  begun-next : (i : ℕ) (x : X) → i < length xs → x ≡ get_or xs i x → begun i ++ line x ≡ begun (i + 1)
+  begun-next i x within is =
+      append_assoc heading (flat_map line (take i xs)) (line x)
+      ∙ ap (λ l. heading ++ (flat_map line (take i xs) ++ l)) (sym (append-nil (line x)))
+      ∙ ap (λ l. heading ++ l) (sym (flat_map-append line (take i xs) (x ∷ [])))
+      ∙ ap (λ l. heading ++ flat_map line l) (sym (take_read xs i x within is))
+
+  -- what is begun is a front of the whole
+  begun-whole : (i : ℕ) → begun i ++ flat_map line (drop i xs) ≡ heading ++ flat_map line xs
+  begun-whole i =
+      append_assoc heading (flat_map line (take i xs)) (flat_map line (drop i xs))
+      ∙ ap (λ l. heading ++ l) (sym (flat_map-append line (take i xs) (drop i xs)) ∙ ap (flat_map line) (take-append-drop i xs))
+
+  -- one more line was handed on
+  pub line-handed : (i : ℕ) (x : X) (old mid new : Flow) (result : Result (Unit {0}) SinkFault) → i < length xs
+      → x ≡ get_or xs i x → result ≡ Ok tt → HandsOn (begun i) old mid (Ok tt) → HandsOn (line x) mid new result
+      → HandsOn (begun (i + 1)) old new (Ok tt)
+  line-handed i x old mid new result within is done first second =
+      subst (λ text. HandsOn text old new (Ok tt)) (begun-next i x within is)
+      (both_done (begun i) (line x) old mid new result done first second)
+
+  -- a fault came amid a line
+  pub line-amid : (i : ℕ) (x : X) (old mid new : Flow) (result told : Result (Unit {0}) SinkFault) (fault : SinkFault)
+      → i < length xs → x ≡ get_or xs i x → result ≡ Err fault → told ≡ Err fault
+      → HandsOn (begun i) old mid (Ok tt) → HandsOn (line x) mid new result
+      → HandsOn (heading ++ flat_map line xs) old new told
+  line-amid i x old mid new result told fault within is was told_is first second =
+      subst (λ text. HandsOn text old new told)
+      (ap (λ l. l ++ flat_map line (drop (i + 1) xs)) (begun-next i x within is) ∙ begun-whole (i + 1))
+      (amid (begun i ++ line x) (flat_map line (drop (i + 1) xs)) old new result told fault was told_is
+      (both (begun i) (line x) old mid new result first second))
+
+  -- the heading was handed on
+  pub heading-handed : (old new : Flow) (result : Result (Unit {0}) SinkFault) → result ≡ Ok tt
+      → HandsOn heading old new result → HandsOn (begun 0) old new (Ok tt)
+  heading-handed old new result done first =
+      subst (λ text. HandsOn text old new (Ok tt)) (sym (append-nil heading)) (subst (HandsOn heading old new) done first)
+
+  -- all lines were handed on
+  pub all-handed : (i : ℕ) (old new : Flow) → length xs ≤ i → HandsOn (begun i) old new (Ok tt)
+      → HandsOn (heading ++ flat_map line xs) old new (Ok tt)
+  all-handed i old new end whole =
+      subst (λ l. HandsOn (heading ++ flat_map line l) old new (Ok tt)) (take_all i xs end) whole

@@ -1,0 +1,12 @@
+use Rattle.std.proofs.Common.{Ok}
+use Rattle.tc_desk.specs.Text.{One, agent_heading, row_text}
+use Rattle.tc_writing.specs.Flow.{HandsOn, flow}
+use Rattle.tc_writing.proofs.Lines.{begun}
+use Rattle.tc_writing.proofs.history.write_log.Given as goal
+
+-- the heading and the first rows were handed on
+abbrev pub invariant-loop-row : goal.invariant-loop-row
+invariant-loop-row g l =
+    HandsOn (begun (agent_heading l.agent) (row_text One) l.log l.row-index)
+    (flow g.K.Sink.taken g.K.Sink.write_faults g.K.Sink.sure l.fn.sink l.fn.kept.items)
+    (flow g.K.Sink.taken g.K.Sink.write_faults g.K.Sink.sure l.sink l.kept.items) (Ok tt)

@@ -1,0 +1,128 @@
+//! Histories and logs, handed on line by line.
+ghost use Rattle.std.specs.Prelude.{◌≡◌, ◌<◌, [], All, OnOk, length};
+ghost use Rattle.tc_model.specs.Calls.{id_of};
+ghost use Rattle.tc_desk.specs.Text.{One, end_text, entry_text, history_text, log_text, row_text, version_text};
+ghost use Rattle.tc_histtext.specs.Headings.{heading_text};
+ghost use Rattle.tc_writing.specs.Flow.{HandsOn, flow};
+
+use crate::pieces::{flush, spill};
+use std::alloc::Global;
+use tc_desk::LogRow;
+use tc_histtext::{Heading, print_end, print_entry, print_heading, print_row, print_version};
+use tc_io::{Sink, SinkFault};
+use tc_model::Entry;
+use tc_term::Name;
+
+/// Hands on the first line.
+#[tactic(auto, using(crate::proofs::Flows::no_memory, crate::proofs::Flows::kept_first))]
+pub fn write_version<K: Sink>(sink: &mut K, kept: &mut Vec<u8>) -> Result<(), SinkFault>
+    ensures { HandsOn (version_text One)
+        (flow K.taken K.write_faults K.sure sink.old kept.old.items)
+        (flow K.taken K.write_faults K.sure sink.new kept.new.items) result }
+{
+    print_version(kept)?;
+    spill(sink, kept)
+}
+
+/// Hands on the history of a centre, by its name and the names of all agents.
+pub fn write_history<K: Sink>(
+    alloc: Global,
+    agents: &[Name],
+    centre: &Name,
+    history: &[Entry],
+    sink: &mut K,
+    kept: &mut Vec<u8>,
+) -> Result<(), SinkFault>
+    requires agents { All (λ e. (id_of e).agent < length agents.now) history.now }
+    ensures { HandsOn (history_text agents.now centre.now history.now)
+        (flow K.taken K.write_faults K.sure sink.old kept.old.items)
+        (flow K.taken K.write_faults K.sure sink.new kept.new.items) result }
+{
+    write_heading(alloc, Heading::Centre, centre, sink, kept)?;
+    for entry in history {
+        write_entry(alloc, agents, entry, sink, kept)?;
+    }
+    Ok(())
+}
+
+/// Hands on the log of an agent.
+pub fn write_log<K: Sink>(
+    alloc: Global,
+    agent: &Name,
+    log: &[LogRow],
+    sink: &mut K,
+    kept: &mut Vec<u8>,
+) -> Result<(), SinkFault>
+    ensures { HandsOn (log_text One agent.now log.now)
+        (flow K.taken K.write_faults K.sure sink.old kept.old.items)
+        (flow K.taken K.write_faults K.sure sink.new kept.new.items) result }
+{
+    write_heading(alloc, Heading::Agent, agent, sink, kept)?;
+    for row in log {
+        write_row(alloc, row, sink, kept)?;
+    }
+    Ok(())
+}
+
+/// Hands on the last line, and writes all that is kept.
+#[tactic(auto, using(crate::proofs::Flows::no_memory, crate::proofs::Flows::kept_first))]
+pub fn write_end<K: Sink>(blocked: bool, sink: &mut K, kept: &mut Vec<u8>) -> Result<(), SinkFault>
+    ensures hands { HandsOn (end_text blocked)
+        (flow K.taken K.write_faults K.sure sink.old kept.old.items)
+        (flow K.taken K.write_faults K.sure sink.new kept.new.items) result }
+    ensures empty { OnOk result (kept.new.items ≡ []) }
+{
+    print_end(blocked, kept)?;
+    flush(sink, kept)
+}
+
+// Hands on a heading.
+#[tactic(auto, using(crate::proofs::Flows::no_memory, crate::proofs::Flows::kept_first))]
+fn write_heading<K: Sink>(
+    alloc: Global,
+    word: Heading,
+    name: &Name,
+    sink: &mut K,
+    kept: &mut Vec<u8>,
+) -> Result<(), SinkFault>
+    ensures { HandsOn (heading_text word name.now)
+        (flow K.taken K.write_faults K.sure sink.old kept.old.items)
+        (flow K.taken K.write_faults K.sure sink.new kept.new.items) result }
+{
+    print_heading(alloc, word, name, kept)?;
+    spill(sink, kept)
+}
+
+// Hands on an entry.
+#[tactic(auto, using(crate::proofs::Flows::no_memory, crate::proofs::Flows::kept_first))]
+fn write_entry<K: Sink>(
+    alloc: Global,
+    agents: &[Name],
+    entry: &Entry,
+    sink: &mut K,
+    kept: &mut Vec<u8>,
+) -> Result<(), SinkFault>
+    requires agent { (id_of entry.now).agent < length agents.now }
+    ensures { HandsOn (entry_text agents.now entry.now)
+        (flow K.taken K.write_faults K.sure sink.old kept.old.items)
+        (flow K.taken K.write_faults K.sure sink.new kept.new.items) result }
+{
+    print_entry(alloc, agents, entry, kept)?;
+    spill(sink, kept)
+}
+
+// Hands on a row.
+#[tactic(auto, using(crate::proofs::Flows::no_memory, crate::proofs::Flows::kept_first))]
+fn write_row<K: Sink>(
+    alloc: Global,
+    row: &LogRow,
+    sink: &mut K,
+    kept: &mut Vec<u8>,
+) -> Result<(), SinkFault>
+    ensures { HandsOn (row_text One row.now)
+        (flow K.taken K.write_faults K.sure sink.old kept.old.items)
+        (flow K.taken K.write_faults K.sure sink.new kept.new.items) result }
+{
+    print_row(alloc, row, kept)?;
+    spill(sink, kept)
+}
