@@ -1,12 +1,12 @@
 -- The entries of a run are of its centre's agents.
-use Rattle.std.proofs.Common.{◌≡◌, ◌<◌, ◌++◌, ℕ, List, [], ◌∷◌, All, length, subst}
+use Rattle.std.proofs.Common.{◌<◌, List, All, length, subst}
 use Rattle.std.proofs.lemmas.List.Elements.{All-contains, All-nil, All-push}
 use Rattle.tc_model.proofs.Runs.{EachEntry-keeps, EachEntry-none, EachEntry-push}
 use Rattle.tc_model.proofs.WaitingCalls.{waiting-run}
 use Rattle.tc_model.specs.Calls.{id_of, IsCallOf}
 use Rattle.tc_model.specs.Choices.{AnyOne}
 use Rattle.tc_model.specs.Run.{HasCall, IsLegal, IsRun}
-use Rattle.tc_model.specs.State.{Origin, State, opening, after_history}
+use Rattle.tc_model.specs.State.{Origin, opening, after_history}
 use Rattle.tc_model.specs.declared.calls.CallId.{CallId}
 use Rattle.tc_model.specs.declared.calls.Request.{Request}
 use Rattle.tc_model.specs.declared.entries.Entry.{Entry}

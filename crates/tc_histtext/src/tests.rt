@@ -65,7 +65,7 @@ fn waits(alloc: Global) -> Result<Entry, Fail> {
 }
 
 // A call of agent 1, which no reaction follows.
-fn called(alloc: Global, number: u64, op: Op, outcome: Outcome) -> Entry {
+fn called(number: u64, op: Op, outcome: Outcome, alloc: Global) -> Entry {
     Entry::Called {
         id: CallId { agent: 1, number },
         op,
@@ -92,12 +92,56 @@ fn agent_of(e: &Entry) -> u32
     }
 }
 
-// Appends the lines of an entry of one of the agents `a` and `e`.
-fn entry(rt: &impl Abort, alloc: Global, e: Entry, text: &mut Vec<u8>) -> Result<(), Fail> {
-    let agents = vec![in alloc; Name::new(alloc, b"a")?, Name::new(alloc, b"e")?]?;
-    let agent = agent_of(&e) as usize;
-    assert!(rt; agent < agents.len());
-    Ok(print_entry(alloc, &agents, &e, text)?)
+// The history of the run: a request, a put tuple that answers it, and a call that takes the tuple.
+fn history(alloc: Global) -> Result<Vec<Entry>, Fail> {
+    let mut history = Vec::new(alloc);
+    history.push(waits(alloc)?)?;
+    history.push(called(1, Op::Out(tuple(alloc)?), Outcome::Done, alloc))?;
+    history.push(gave(alloc)?)?;
+    let op = Op::Inp(template(alloc)?);
+    history.push(called(2, op, Outcome::Took(tuple(alloc)?), alloc))?;
+    Ok(history)
+}
+
+// Clauses replaced and asked for, and a look at a call.
+fn others(alloc: Global) -> Result<Vec<Entry>, NoMemory> {
+    let mut others = Vec::new(alloc);
+    let op = Op::SetSpec(Clauses::new(alloc));
+    others.push(called(3, op, Outcome::Done, alloc))?;
+    let spec = Outcome::Spec(Seq::empty(alloc));
+    others.push(called(4, Op::GetSpec, spec, alloc))?;
+    others.push(Entry::Looked {
+        id: CallId {
+            agent: 0,
+            number: 2,
+        },
+        asked: 1,
+        reply: None,
+    })?;
+    Ok(others)
+}
+
+fn agents(alloc: Global) -> Result<Vec<Name>, NoMemory> {
+    let mut agents = Vec::new(alloc);
+    agents.push(Name::new(alloc, b"a")?)?;
+    agents.push(Name::new(alloc, b"e")?)?;
+    Ok(agents)
+}
+
+// Appends the lines of entries of the agents `a` and `e`.
+fn entries(
+    rt: &impl Abort,
+    alloc: Global,
+    history: &[Entry],
+    text: &mut Vec<u8>,
+) -> Result<(), Fail> {
+    let agents = agents(alloc)?;
+    for e in history {
+        let agent = agent_of(e) as usize;
+        assert!(rt; agent < agents.len());
+        print_entry(alloc, &agents, e, text)?;
+    }
+    Ok(())
 }
 
 // Appends a row at the centre `c`.
@@ -139,17 +183,7 @@ fn a_run_is_printed(rt: HostRuntime) -> Result<(), Fail> {
     let mut text = Vec::new(alloc);
     print_version(&mut text)?;
     heading(alloc, Heading::Centre, b"c", &mut text)?;
-    entry(&rt, alloc, waits(alloc)?, &mut text)?;
-    let put = called(alloc, 1, Op::Out(tuple(alloc)?), Outcome::Done);
-    entry(&rt, alloc, put, &mut text)?;
-    entry(&rt, alloc, gave(alloc)?, &mut text)?;
-    let took = called(
-        alloc,
-        2,
-        Op::Inp(template(alloc)?),
-        Outcome::Took(tuple(alloc)?),
-    );
-    entry(&rt, alloc, took, &mut text)?;
+    entries(&rt, alloc, &history(alloc)?, &mut text)?;
     heading(alloc, Heading::Agent, b"a", &mut text)?;
     let over = Reply::OverBudget(Phase::Post);
     row(alloc, 1, LogResult::Replied(over), &mut text)?;
@@ -204,19 +238,7 @@ end blocked
 fn clauses_and_polls_are_printed(rt: HostRuntime) -> Result<(), Fail> {
     let alloc = rt.alloc();
     let mut text = Vec::new(alloc);
-    let set = called(alloc, 3, Op::SetSpec(Clauses::new(alloc)), Outcome::Done);
-    entry(&rt, alloc, set, &mut text)?;
-    let got = called(alloc, 4, Op::GetSpec, Outcome::Spec(Seq::empty(alloc)));
-    entry(&rt, alloc, got, &mut text)?;
-    let looked = Entry::Looked {
-        id: CallId {
-            agent: 0,
-            number: 2,
-        },
-        asked: 1,
-        reply: None,
-    };
-    entry(&rt, alloc, looked, &mut text)?;
+    entries(&rt, alloc, &others(alloc)?, &mut text)?;
     let spec = Reply::Spec(Seq::empty(alloc));
     row(alloc, 3, LogResult::Replied(spec), &mut text)?;
     row(alloc, 4, LogResult::Pending, &mut text)?;
