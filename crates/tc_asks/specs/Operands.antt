@@ -1,0 +1,62 @@
+-- What is told of an operand that no operation takes.
+use Rattle.std.specs.Prelude.{◌≡◌, false, IsTrue, List, ℕ}
+use Rattle.tc_term.specs.Tree.{Tree, Atomic, Fits, is_ground}
+use Rattle.tc_term.specs.TreeView.{tree_of}
+use Rattle.tc_term.specs.Variables.{IsTemplate}
+use Rattle.tc_model.specs.declared.asks.Ask.{Ask}
+use Rattle.tc_model.specs.declared.asks.Ask.TheVariants.{Out, In, Rd, Inp, Rdp, SetSpec, GetSpec}
+use Rattle.tc_desk.specs.Operands.{Operand, Faulty, IsBadText, OpOf}
+use Rattle.tc_desk.specs.Operands as operand
+use Rattle.tc_asks.specs.declared.operands.OperandFault.{OperandFault}
+use Rattle.tc_asks.specs.declared.operands.OperandFault.TheVariants.{TooBig, NotGround, BadSpec, NoMemory}
+
+-- the term is an atom within the limits
+pub record IsAtom (t : Tree) : Type 0 where
+  pub text : List ℕ
+  pub atom : t ≡ Atomic text
+  pub fits : Fits t
+
+-- the ask has an atom that is to be the text of clauses
+abbrev pub HasText : Ask → Type 0
+HasText (Out t) = ⊥
+HasText (In t) = ⊥
+HasText (Rd t) = ⊥
+HasText (Inp t) = ⊥
+HasText (Rdp t) = ⊥
+HasText (SetSpec t) = IsAtom (tree_of t)
+HasText GetSpec = ⊥
+
+-- the fault is that of the ask's operand; or memory has run out, while a text was read
+abbrev pub IsFaultOf : Ask → OperandFault → Type 0
+IsFaultOf ask TooBig = OpOf ask operand.TooBig
+IsFaultOf ask NotGround = OpOf ask operand.NotGround
+IsFaultOf ask (BadSpec bad) = OpOf ask (Faulty bad)
+IsFaultOf ask NoMemory = HasText ask
+
+-- the fault says this of the operand, or memory has run out
+abbrev pub IsThisFault : Operand → OperandFault → Type 0
+IsThisFault o TooBig = o ≡ operand.TooBig
+IsThisFault o NotGround = o ≡ operand.NotGround
+IsThisFault o (BadSpec bad) = o ≡ Faulty bad
+IsThisFault o NoMemory = Unit {0}
+
+-- why the term is no tuple
+abbrev pub IsTupleFault : Tree → OperandFault → Type 0
+IsTupleFault t TooBig = Fits t → ⊥
+IsTupleFault t NotGround = Fits t × (is_ground t ≡ false)
+IsTupleFault t (BadSpec bad) = ⊥
+IsTupleFault t NoMemory = ⊥
+
+-- why the term is no template
+abbrev pub IsTemplateFault : Tree → OperandFault → Type 0
+IsTemplateFault t TooBig = IsTemplate t → ⊥
+IsTemplateFault t NotGround = ⊥
+IsTemplateFault t (BadSpec bad) = ⊥
+IsTemplateFault t NoMemory = ⊥
+
+-- why the term is no text of clauses
+abbrev pub IsTextFault : Tree → OperandFault → Type 0
+IsTextFault t TooBig = Fits t → ⊥
+IsTextFault t NotGround = Fits t × (is_ground t ≡ false)
+IsTextFault t (BadSpec bad) = Fits t × IsTrue (is_ground t) × IsBadText t bad
+IsTextFault t NoMemory = IsAtom t

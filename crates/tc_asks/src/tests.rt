@@ -1,0 +1,113 @@
+//! Variables have the values that came in the same script, while these can be. Clauses are read.
+ghost use Rattle.std.specs.Prelude.{◌≡◌, false, IfOk, IfSome};
+ghost use Rattle.tc_model.specs.Asks.{operand_of};
+ghost use Rattle.tc_model.specs.Scripts.{IsScript};
+ghost use Rattle.tc_model.specs.Within.{HasVarsBelow};
+ghost use Rattle.tc_desk.specs.Logs.{any_pending, is_pending};
+ghost use Rattle.tc_asks.specs.Progress.{HasTaken};
+
+use crate::{Asker, asker_stays_fit, op_of};
+use std::alloc::Global;
+use std::test::Fail;
+use tc_desk::{LogResult, LogRow};
+use tc_lists::NoMemory;
+use tc_model::{Ask, Op, Reply, Script, ScriptItem};
+use tc_term::{Ground, Name, Term};
+
+// The first items of a script of one variable, and one more.
+fn and(mut items: Vec<ScriptItem>, ask: Ask) -> Result<Vec<ScriptItem>, NoMemory>
+    requires items { IsScript (record { vars = 1; items = items.items }) }
+    requires ask { IfSome (operand_of ask) (HasVarsBelow 1) }
+    ensures { IfOk result (λ more. IsScript (record { vars = 1; items = more.items })) }
+{
+    items.push(ScriptItem { centre: 0, ask })?;
+    Ok(items)
+}
+
+// The reply that this number came.
+fn came(number: i64) -> Result<LogResult, Fail>
+    ensures { IfOk result (λ came. is_pending came ≡ false) }
+{
+    let tuple = Ground::of(Term::Int(number)).ok().ok_or("a tuple")?;
+    Ok(LogResult::Replied(Reply::Tuple(tuple)))
+}
+
+// The operand of what is asked next, after the last ask has come to this.
+fn after(
+    alloc: Global,
+    asker: &mut Asker,
+    scripts: &[Script],
+    log: &mut Vec<LogRow>,
+    came: LogResult,
+) -> Result<Option<Term>, NoMemory>
+    requires taken { HasTaken scripts.now log.old.items asker.old }
+    requires settled { any_pending log.old.items ≡ false }
+    requires came { is_pending came ≡ false }
+    ensures taken { HasTaken scripts.now log.new.items asker.new }
+    ensures settled { any_pending log.new.items ≡ false }
+{
+    let row = LogRow {
+        number: 0,
+        centre: Name::new(alloc, b"c")?,
+        ask: None,
+        result: came,
+    };
+    asker_stays_fit();
+    log.push(row)?;
+    match asker.next_ask(alloc, scripts, log)? {
+        Some(next) => Ok(operand(next.ask)),
+        None => Ok(None),
+    }
+}
+
+// The operand of an ask.
+fn operand(ask: Ask) -> Option<Term> {
+    match ask {
+        Ask::Out(t) | Ask::In(t) | Ask::Rd(t) | Ask::Inp(t) | Ask::Rdp(t) | Ask::SetSpec(t) => {
+            Some(t)
+        }
+        Ask::GetSpec => None,
+    }
+}
+
+#[test]
+fn values_are_those_of_the_same_script(rt: HostRuntime) -> Result<(), Fail> {
+    let alloc = rt.alloc();
+    let mut items = and(Vec::new(alloc), Ask::In(Term::Var(0)))?;
+    items = and(items, Ask::Out(Term::Var(0)))?;
+    items = and(items, Ask::Inp(Term::Var(0)))?;
+    items = and(items, Ask::Out(Term::Var(0)))?;
+    let other = and(Vec::new(alloc), Ask::Out(Term::Var(0)))?;
+    let scripts = [Script::new(1, items), Script::new(1, other)];
+    let mut log = Vec::new(alloc);
+    let mut asker = Asker::new(alloc, &scripts)?;
+
+    let next = after(alloc, &mut asker, &scripts, &mut log, came(7)?)?;
+    assert!(rt; next == Some(Term::Int(7)));
+    let done = LogResult::Replied(Reply::Done);
+    let next = after(alloc, &mut asker, &scripts, &mut log, done)?;
+    assert!(rt; next == Some(Term::Int(7)));
+    // No value of the variable is both.
+    let next = after(alloc, &mut asker, &scripts, &mut log, came(8)?)?;
+    assert!(rt; next == Some(Term::Var(0)));
+    let done = LogResult::Replied(Reply::Done);
+    let next = after(alloc, &mut asker, &scripts, &mut log, done)?;
+    assert!(rt; next == Some(Term::Var(0)));
+    let done = LogResult::Replied(Reply::Done);
+    let next = after(alloc, &mut asker, &scripts, &mut log, done)?;
+    assert!(rt; next == None);
+    Ok(())
+}
+
+#[test]
+fn clauses_are_read(rt: HostRuntime) -> Result<(), Fail> {
+    let alloc = rt.alloc();
+    let text = Term::Atom(Name::new(alloc, b"reaction(out(a),true).")?);
+    let op = op_of(alloc, Ask::SetSpec(text)).ok().ok_or("an operation")?;
+    let count = match &op {
+        Op::SetSpec(clauses) => clauses.items().len(),
+        _ => 0,
+    };
+    assert!(rt; count == 1);
+    Ok(())
+}
