@@ -1,0 +1,14 @@
+pub mod Arguments
+pub mod Cells
+pub mod OneForm
+pub mod Spelling
+pub mod Declared
+pub mod Changed
+pub mod Items
+pub mod Growth
+pub mod Declarations
+pub mod Fillings
+pub mod Operands
+pub mod FirstCauses
+pub mod Onward
+pub mod OneConfig

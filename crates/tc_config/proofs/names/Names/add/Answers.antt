@@ -1,0 +1,10 @@
+use Rattle.std.proofs.Common.{None, ap, subst, sym, ◌∙◌, ◌++◌, ◌∷◌, [], ◌≡◌}
+use Rattle.std.specs.Str.{bytes_eq}
+use Rattle.indexmap.specs.IndexSet.{insert_key}
+use Rattle.tc_config.proofs.Declared.{insert_key-unknown}
+use Rattle.tc_config.proofs.names.Names.add.Goals as goal
+
+pub returns : goal.returns
+returns c =
+    c.in_ok-insert.ensures.keys ∙ ap (λ names. insert_key bytes_eq names c.args.name) c.self.view_is
+    ∙ insert_key-unknown c.args.self.now c.args.name c.requires

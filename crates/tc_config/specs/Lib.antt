@@ -1,0 +1,9 @@
+pub mod Names
+pub mod Configurations
+pub mod Forms
+pub mod Causes
+pub mod Meanings
+pub mod Texts
+pub mod Answers
+pub mod Words
+pub mod Drafts

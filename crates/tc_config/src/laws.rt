@@ -1,0 +1,17 @@
+//! Laws of texts of configurations, for callers to cite.
+ghost use Rattle.std.specs.Prelude.{◌≡◌, List, ℕ};
+ghost use Rattle.tc_config.specs.Configurations.{Configuration};
+ghost use Rattle.tc_config.specs.Texts.{IsRefused, Spells};
+ghost use Rattle.tc_config.specs.declared.faults.ConfigCause.{ConfigCause};
+
+/// A text spells one configuration at most.
+pub fn configuration_of_a_text_is_unique()
+    ensures { (text : List ℕ) (c other : Configuration) → Spells text c → Spells text other
+        → c ≡ other }
+{}
+
+/// A text that is refused for some clause spells none.
+pub fn a_refused_text_spells_nothing()
+    ensures { (text : List ℕ) (c : Configuration) (clause : ℕ) (why : ConfigCause)
+        → Spells text c → IsRefused text clause why → ⊥ }
+{}

@@ -1,0 +1,36 @@
+//! Configurations: what a text of clauses sets up, or which clause is the first that is faulty.
+//!
+//! Each clause is judged by what those before it have declared. Nothing here knows of calls or of
+//! histories.
+//!
+//! ```
+//! let text = b"centre(c). role(r). grant(r,c,out). agent(a,r). script(a,[c ? out(p(1))]).";
+//! let config = read_config(alloc, text)?;
+//! assert!(rt; config.roles().permits(0, 0, Primitive::Out).is_some());
+//! ```
+#![tactic(auto)]
+
+mod adding;
+mod configs;
+mod declaring;
+mod draft;
+mod faults;
+mod filling;
+mod forms;
+mod growing;
+mod laws;
+mod limits;
+mod lines;
+mod names;
+mod reading;
+mod words;
+
+pub use configs::{AgentConf, CentreConf, Config};
+pub use faults::{ConfigCause, ConfigFault};
+pub use laws::{a_refused_text_spells_nothing, configuration_of_a_text_is_unique};
+pub use limits::{MOST_AGENTS, MOST_BYTES, MOST_CENTRES, MOST_ITEMS, MOST_ROLES, USUAL_BUDGET};
+pub use reading::read_config;
+pub use tc_lists::NoMemory;
+
+#[cfg(test)]
+mod tests;
