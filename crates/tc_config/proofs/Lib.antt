@@ -12,3 +12,4 @@ pub mod Operands
 pub mod FirstCauses
 pub mod Onward
 pub mod OneConfig
+pub mod GoodRuns

@@ -7,3 +7,4 @@ pub mod Texts
 pub mod Answers
 pub mod Words
 pub mod Drafts
+pub mod Good

@@ -1,6 +1,10 @@
-//! Laws of texts of configurations, for callers to cite.
+//! Laws of texts of configurations and of good runs, for callers to cite.
 ghost use Rattle.std.specs.Prelude.{◌≡◌, List, ℕ};
+ghost use Rattle.tc_model.specs.Choices.{AnyOne, TheFirst};
+ghost use Rattle.tc_model.specs.declared.entries.Entry.{Entry};
+ghost use Rattle.tc_desk.specs.declared.rows.LogRow.{LogRow};
 ghost use Rattle.tc_config.specs.Configurations.{Configuration};
+ghost use Rattle.tc_config.specs.Good.{IsGood};
 ghost use Rattle.tc_config.specs.Texts.{IsRefused, Spells};
 ghost use Rattle.tc_config.specs.declared.faults.ConfigCause.{ConfigCause};
 
@@ -14,4 +18,10 @@ pub fn configuration_of_a_text_is_unique()
 pub fn a_refused_text_spells_nothing()
     ensures { (text : List ℕ) (c : Configuration) (clause : ℕ) (why : ConfigCause)
         → Spells text c → IsRefused text clause why → ⊥ }
+{}
+
+/// A good run in which every choice is the first is a good run.
+pub fn first_good_run_is_good()
+    ensures { (c : Configuration) (histories : List (List Entry)) (logs : List (List LogRow))
+        → IsGood TheFirst c histories logs → IsGood AnyOne c histories logs }
 {}
