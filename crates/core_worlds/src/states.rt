@@ -1,0 +1,104 @@
+//! What a centre holds: as text, and whether it is as it has to be.
+use crate::entries::{print_entry, print_id, print_tuple};
+use std::alloc::Global;
+use tc_centre::Core;
+use tc_lists::{NoMemory, append_number};
+use tc_model::{Entry, Request};
+use tc_print::print_term;
+use tc_search::does_match;
+
+/// Appends the weight of the history, the requests that wait, and the tuples.
+pub fn print_state(alloc: Global, core: &Core, into: &mut Vec<u8>) -> Result<(), NoMemory> {
+    into.extend_from_slice(b"weight ")?;
+    append_number(core.weight(), into)?;
+    into.extend_from_slice(b", waiting")?;
+    for request in core.pending() {
+        print_request(alloc, core, request, into)?;
+    }
+    into.extend_from_slice(b", tuples")?;
+    for place in 0..core.tuples() {
+        if let Some(tuple) = core.tuple(place) {
+            print_tuple(alloc, b" ", tuple, into)?;
+        }
+    }
+    into.extend_from_slice(b"\n")
+}
+
+// Appends a request.
+fn print_request(
+    alloc: Global,
+    core: &Core,
+    request: &Request,
+    into: &mut Vec<u8>,
+) -> Result<(), NoMemory> {
+    print_id(alloc, b" ", core.agents(), request.id, into)?;
+    let word: &[u8] = if request.takes { b" in(" } else { b" rd(" };
+    into.extend_from_slice(word)?;
+    print_term(alloc, request.template.term(), into)?;
+    into.extend_from_slice(b")")
+}
+
+/// The text of all that a centre holds, and of its history.
+pub fn whole_text(alloc: Global, core: &Core) -> Result<Vec<u8>, NoMemory> {
+    let mut text = Vec::new(alloc);
+    print_entries(alloc, core, 0, &mut text)?;
+    print_state(alloc, core, &mut text)?;
+    Ok(text)
+}
+
+/// Appends the entries of the history from a place on.
+pub fn print_entries(
+    alloc: Global,
+    core: &Core,
+    from: usize,
+    into: &mut Vec<u8>,
+) -> Result<(), NoMemory> {
+    for entry in core.history().iter().skip(from) {
+        print_entry(alloc, core.agents(), entry, into)?;
+    }
+    Ok(())
+}
+
+/// Whether no request that waits matches a tuple, and the history weighs what its entries do.
+pub fn is_right(core: &Core) -> bool {
+    core.weight() == weigh(core.history()) && is_quiescent(core)
+}
+
+// What entries weigh: each 1, and 1 for each of its reactions.
+fn weigh(history: &[Entry]) -> u64 {
+    let mut weight: u64 = 0;
+    for entry in history {
+        weight = weight.saturating_add(1).saturating_add(reactions(entry));
+    }
+    weight
+}
+
+// How many reactions an entry has.
+fn reactions(entry: &Entry) -> u64 {
+    match entry {
+        Entry::Called { items, .. } | Entry::Gave { items, .. } => items.items().len() as u64,
+        Entry::Looked { .. } => 0,
+    }
+}
+
+// Whether no request that waits matches a tuple.
+fn is_quiescent(core: &Core) -> bool {
+    for request in core.pending() {
+        if is_answerable(core, request) {
+            return false;
+        }
+    }
+    true
+}
+
+// Whether a request matches a tuple.
+fn is_answerable(core: &Core, request: &Request) -> bool {
+    for place in 0..core.tuples() {
+        if let Some(tuple) = core.tuple(place) {
+            if does_match(&request.template, tuple) {
+                return true;
+            }
+        }
+    }
+    false
+}
