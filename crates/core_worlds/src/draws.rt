@@ -7,35 +7,35 @@ use std::alloc::Global;
 use tc_lists::{NoMemory, append_number};
 use tc_read::read_term;
 
-const OPERATIONS: [&[u8]; 8] = [
-    b"out", b"in", b"rd", b"inp", b"rdp", b"out_r", b"in_r", b"rd_r",
+const OPERATIONS: [&[u8]; 10] = [
+    b"out", b"out", b"in", b"rd", b"inp", b"rdp", b"out_r", b"out_r", b"in_r", b"rd_r",
 ];
 
 const HEADS: [&[u8]; 8] = [
-    b"p(X)", b"q(X)", b"p(1)", b"r", b"X", b"p(f(X))", b"q(X,Y)", b"p(Z)",
+    b"p(X)", b"q(X)", b"r", b"X", b"X", b"p(f(X))", b"q(X,Y)", b"p(1)",
 ];
 
 const GOALS: [&[u8]; 24] = [
-    b"out_r(q(X))",
+    b"out_r(q(1))",
     b"out_r(p(1))",
     b"out_r(r)",
-    b"out_r(q(X,X))",
-    b"out_r(p(f(Y)))",
+    b"out_r(p(X))",
+    b"out_r(p(f(a)))",
+    b"out_r(q(X,1))",
     b"in_r(p(Y))",
     b"in_r(q(Y))",
     b"in_r(r)",
     b"in_r(q(Y,X))",
     b"rd_r(p(X))",
-    b"rd_r(q(Y))",
     b"rd_r(Y)",
-    b"no_r(r)",
+    b"rd_r(r)",
+    b"no_r(s)",
     b"no_r(q(X))",
     b"pre",
     b"post",
     b"success",
-    b"failure",
     b"true",
-    b"X = f(Y)",
+    b"X = Y",
     b"X \\\\= r",
     b"Y is 1 + 2",
     b"current_agent(Y)",
@@ -127,7 +127,7 @@ fn count_text(alloc: Global, text: &[u8], counts: &mut Counts) -> Result<(), Wor
 fn drawn(alloc: Global, draws: &mut Draws) -> Result<Vec<u8>, NoMemory> {
     let mut text = Vec::new(alloc);
     text.extend_from_slice(b"world(w,")?;
-    append_number(draws.below(12) as u64 + 1, &mut text)?;
+    append_number(draws.below(8) as u64 + 1, &mut text)?;
     text.extend_from_slice(b",'")?;
     draw_clauses(draws, &mut text)?;
     text.extend_from_slice(b"',[")?;
@@ -138,9 +138,9 @@ fn drawn(alloc: Global, draws: &mut Draws) -> Result<Vec<u8>, NoMemory> {
     Ok(text)
 }
 
-// One clause or more.
+// Some clauses, or none.
 fn draw_clauses(draws: &mut Draws, into: &mut Vec<u8>) -> Result<(), NoMemory> {
-    for _ in 0..draws.below(6) {
+    for _ in 0..draws.below(9) {
         draw_clause(draws, into)?;
     }
     Ok(())
@@ -154,7 +154,7 @@ fn draw_clause(draws: &mut Draws, into: &mut Vec<u8>) -> Result<(), NoMemory> {
     into.extend_from_slice(draws.one(&HEADS))?;
     into.extend_from_slice(b"),(")?;
     into.extend_from_slice(draws.one(&GOALS))?;
-    for _ in 0..draws.below(4) {
+    for _ in 0..draws.below(3) {
         into.extend_from_slice(b",")?;
         into.extend_from_slice(draws.one(&GOALS))?;
     }
@@ -196,7 +196,7 @@ fn draw_act(draws: &mut Draws, into: &mut Vec<u8>) -> Result<(), NoMemory> {
             into.extend_from_slice(b"'")?;
         }
         2 => return into.extend_from_slice(b"get_spec"),
-        3..=8 => {
+        3..=9 => {
             into.extend_from_slice(b"out(")?;
             into.extend_from_slice(draws.one(&TUPLES))?;
         }

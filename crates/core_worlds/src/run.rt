@@ -123,13 +123,9 @@ fn take_again(
     if !matches!(refused, Some(Refused::NoMemory)) {
         return Ok(refused);
     }
-    let same = whole_text(alloc, core)? == before;
-    let word: &[u8] = if same {
-        b"no memory, and all as before\n"
-    } else {
-        b"no memory, and a change\n"
-    };
-    into.extend_from_slice(word)?;
+    if whole_text(alloc, core)? != before {
+        into.extend_from_slice(b"no memory, and a change\n")?;
+    }
     act(alloc, core, step)
 }
 

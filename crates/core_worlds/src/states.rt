@@ -7,14 +7,12 @@ use tc_model::{Entry, Request};
 use tc_print::print_term;
 use tc_search::does_match;
 
-/// Appends the weight of the history, the requests that wait, and the tuples.
+/// Appends the weight of the history, how many requests wait, and the tuples.
 pub fn print_state(alloc: Global, core: &Core, into: &mut Vec<u8>) -> Result<(), NoMemory> {
     into.extend_from_slice(b"weight ")?;
     append_number(core.weight(), into)?;
-    into.extend_from_slice(b", waiting")?;
-    for request in core.pending() {
-        print_request(alloc, core, request, into)?;
-    }
+    into.extend_from_slice(b", waiting ")?;
+    append_number(core.pending().len() as u64, into)?;
     into.extend_from_slice(b", tuples")?;
     for place in 0..core.tuples() {
         if let Some(tuple) = core.tuple(place) {
@@ -42,6 +40,9 @@ fn print_request(
 pub fn whole_text(alloc: Global, core: &Core) -> Result<Vec<u8>, NoMemory> {
     let mut text = Vec::new(alloc);
     print_entries(alloc, core, 0, &mut text)?;
+    for request in core.pending() {
+        print_request(alloc, core, request, &mut text)?;
+    }
     print_state(alloc, core, &mut text)?;
     Ok(text)
 }
