@@ -1,0 +1,79 @@
+//! Terms, and bags and keys of them.
+use crate::fault::Fault;
+use std::alloc::Global;
+use tc_bag::{Bag, Key};
+use tc_lists::NoMemory;
+use tc_term::{Args, Ground, Name, Term};
+
+/// The term `name(x)`.
+pub fn applied(alloc: Global, name: &[u8], x: Term) -> Result<Term, NoMemory> {
+    let args = Args::new(vec![in alloc; x]?);
+    Ok(Term::Comp(Name::new(alloc, name)?, args))
+}
+
+/// The term `w(0,..,0,last)` of so many zeros.
+pub fn wide(alloc: Global, zeros: u32, last: i64) -> Result<Term, NoMemory> {
+    let mut args = Vec::new(alloc);
+    for _ in 0..zeros {
+        args.push(Term::Int(0))?;
+    }
+    args.push(Term::Int(last))?;
+    Ok(Term::Comp(Name::new(alloc, b"w")?, Args::new(args)))
+}
+
+/// One of two names of 1,024 letters that have the same code in a bag.
+pub fn word(alloc: Global, flipped: bool) -> Result<Term, NoMemory> {
+    let mut letters = Vec::new(alloc);
+    for i in 0..1024u32 {
+        let even = i.count_ones() % 2 == 0;
+        letters.push(if even == flipped { b'a' } else { b'b' })?;
+    }
+    Ok(Term::Atom(Name::new(alloc, &letters)?))
+}
+
+/// A name of six pairs of letters, Aa or BB, which the number chooses, with an argument. All these
+/// names have one code in a list of requests.
+pub fn of_one_code(alloc: Global, number: u32, x: i64) -> Result<Term, NoMemory> {
+    let mut name = Vec::new(alloc);
+    for place in 0..6 {
+        let pair: &[u8] = if number >> place & 1 == 0 {
+            b"Aa"
+        } else {
+            b"BB"
+        };
+        name.extend_from_slice(pair)?;
+    }
+    applied(alloc, &name, Term::Int(x))
+}
+
+/// Puts a tuple.
+pub fn add(bag: &mut Bag, term: Term) -> Result<(), Fault> {
+    match Ground::of(term) {
+        Ok(tuple) => put(bag, tuple),
+        Err(_) => Err(Fault::NoTuple),
+    }
+}
+
+// Puts a tuple, where an age is left.
+fn put(bag: &mut Bag, tuple: Ground) -> Result<(), Fault> {
+    if bag.next_age() == u64::MAX {
+        return Err(Fault::NoAge);
+    }
+    Ok(bag.add(tuple)?)
+}
+
+/// The key of the terms `name(x)`.
+pub fn key(alloc: Global, name: &[u8]) -> Result<Key, NoMemory> {
+    Ok(Key::Comp(Name::new(alloc, name)?, 1))
+}
+
+/// Whether the oldest tuple of a key has this age; whether there is none, where none is given.
+pub fn is_oldest(bag: &Bag, key: &Key, age: Option<u64>) -> bool {
+    bag.candidate(key, 0).map(|row| row.0) == age
+}
+
+/// Whether the oldest tuple of a key with a first argument has this age; whether there is none, where none
+/// is given.
+pub fn is_first(bag: &Bag, key: &Key, argument: &Term, age: Option<u64>) -> bool {
+    bag.candidate_like(key, Some(argument), 0).map(|row| row.0) == age
+}
