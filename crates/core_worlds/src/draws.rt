@@ -127,7 +127,7 @@ fn count_text(alloc: Global, text: &[u8], counts: &mut Counts) -> Result<(), Wor
 fn drawn(alloc: Global, draws: &mut Draws) -> Result<Vec<u8>, NoMemory> {
     let mut text = Vec::new(alloc);
     text.extend_from_slice(b"world(w,")?;
-    append_number(draws.below(8) as u64 + 1, &mut text)?;
+    append_number((draws.below(8) as u64).saturating_add(1), &mut text)?;
     text.extend_from_slice(b",'")?;
     draw_clauses(draws, &mut text)?;
     text.extend_from_slice(b"',[")?;
@@ -188,7 +188,7 @@ fn draw_act(draws: &mut Draws, into: &mut Vec<u8>) -> Result<(), NoMemory> {
     match draws.below(16) {
         0 => {
             into.extend_from_slice(b"look(")?;
-            append_number(draws.below(8) as u64 + 1, into)?;
+            append_number((draws.below(8) as u64).saturating_add(1), into)?;
         }
         1 => {
             into.extend_from_slice(b"set_spec('")?;

@@ -1,4 +1,6 @@
 //! A world, step by step.
+ghost use Rattle.tc_model.specs.Run.{IsNext};
+
 use crate::calls::{Act, Step, act_of, step_of};
 use crate::centres::{centre_of, next_call};
 use crate::counts::Counts;
@@ -142,7 +144,9 @@ fn act(alloc: Global, core: &mut Core, step: Step) -> Result<Option<Refused>, Wo
 }
 
 // Makes a call.
-fn call(alloc: Global, core: &mut Core, id: CallId, op: Op) -> Option<Refused> {
+fn call(alloc: Global, core: &mut Core, id: CallId, op: Op) -> Option<Refused>
+    requires { IsNext core.old.origin core.old.history id }
+{
     match core.turn(alloc, id, op) {
         Ok(_) => None,
         Err(TurnFault::Full { weight, pending }) => Some(Refused::Full { weight, pending }),
@@ -151,7 +155,9 @@ fn call(alloc: Global, core: &mut Core, id: CallId, op: Op) -> Option<Refused> {
 }
 
 // Looks at an earlier call.
-fn look(alloc: Global, core: &mut Core, id: CallId, asked: u64) -> Option<Refused> {
+fn look(alloc: Global, core: &mut Core, id: CallId, asked: u64) -> Option<Refused>
+    requires { IsNext core.old.origin core.old.history id }
+{
     match core.poll(alloc, id, asked) {
         Ok(_) => None,
         Err(PollFault::Stranger) => Some(Refused::Stranger),
