@@ -80,15 +80,14 @@ fn serve(
     count: u32,
 ) -> anyhow::Result<Duration> {
     let mut time = Duration::new(0, 0);
-    let mut done = 0;
-    while done < count {
+    for batch in 0..count.div_ceil(BATCH) {
+        let done = batch.saturating_mul(BATCH);
         let next = count.saturating_sub(done).min(BATCH);
         let ops = build(rt.alloc(), plan, from.saturating_add(done), next)?;
         let start = rt.process_cpu_time()?;
         call_all(rt.alloc(), desk, ops)?;
         let spent = rt.process_cpu_time()?.saturating_sub(start);
         time = time.saturating_add(spent);
-        done = done.saturating_add(next);
     }
     Ok(time)
 }

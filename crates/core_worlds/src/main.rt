@@ -17,7 +17,6 @@ mod calls;
 mod centres;
 mod counts;
 mod draws;
-mod entries;
 mod fault;
 mod lists;
 mod run;

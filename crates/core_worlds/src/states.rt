@@ -1,11 +1,15 @@
 //! What a centre holds: as text, and whether it is as it has to be.
-use crate::entries::{print_entry, print_id, print_tuple};
+ghost use Rattle.std.specs.Prelude.{◌≡◌};
+ghost use Rattle.tc_model.specs.Calls.{id_of};
+
 use std::alloc::Global;
 use tc_centre::Core;
+use tc_histtext::print_entry;
 use tc_lists::{NoMemory, append_number};
-use tc_model::{Entry, Request};
+use tc_model::{CallId, Entry, Request};
 use tc_print::print_term;
 use tc_search::does_match;
+use tc_term::Name;
 
 /// Appends the weight of the history, how many requests wait, and the tuples.
 pub fn print_state(alloc: Global, core: &Core, into: &mut Vec<u8>) -> Result<(), NoMemory> {
@@ -16,24 +20,21 @@ pub fn print_state(alloc: Global, core: &Core, into: &mut Vec<u8>) -> Result<(),
     into.extend_from_slice(b", tuples")?;
     for place in 0..core.tuples() {
         if let Some(tuple) = core.tuple(place) {
-            print_tuple(alloc, b" ", tuple, into)?;
+            into.extend_from_slice(b" ")?;
+            print_term(alloc, tuple.term(), into)?;
         }
     }
     into.extend_from_slice(b"\n")
 }
 
 // Appends a request.
-fn print_request(
-    alloc: Global,
-    core: &Core,
-    request: &Request,
-    into: &mut Vec<u8>,
-) -> Result<(), NoMemory> {
-    print_id(alloc, b" ", core.agents(), request.id, into)?;
-    let word: &[u8] = if request.takes { b" in(" } else { b" rd(" };
+fn print_request(alloc: Global, request: &Request, into: &mut Vec<u8>) -> Result<(), NoMemory> {
+    append_number(u64::from(request.id.agent), into)?;
+    into.extend_from_slice(b" ")?;
+    append_number(request.id.number, into)?;
+    let word: &[u8] = if request.takes { b" in " } else { b" rd " };
     into.extend_from_slice(word)?;
-    print_term(alloc, request.template.term(), into)?;
-    into.extend_from_slice(b")")
+    print_term(alloc, request.template.term(), into)
 }
 
 /// The text of all that a centre holds, and of its history.
@@ -41,7 +42,7 @@ pub fn whole_text(alloc: Global, core: &Core) -> Result<Vec<u8>, NoMemory> {
     let mut text = Vec::new(alloc);
     print_entries(alloc, core, 0, &mut text)?;
     for request in core.pending() {
-        print_request(alloc, core, request, &mut text)?;
+        print_request(alloc, request, &mut text)?;
     }
     print_state(alloc, core, &mut text)?;
     Ok(text)
@@ -55,9 +56,31 @@ pub fn print_entries(
     into: &mut Vec<u8>,
 ) -> Result<(), NoMemory> {
     for entry in core.history().iter().skip(from) {
-        print_entry(alloc, core.agents(), entry, into)?;
+        print_line(alloc, core.agents(), entry, into)?;
     }
     Ok(())
+}
+
+// Appends an entry, whose agent is one of these: else nothing.
+fn print_line(
+    alloc: Global,
+    agents: &[Name],
+    entry: &Entry,
+    into: &mut Vec<u8>,
+) -> Result<(), NoMemory> {
+    if (caller(entry).agent as usize) < agents.len() {
+        print_entry(alloc, agents, entry, into)?;
+    }
+    Ok(())
+}
+
+// The call of an entry.
+fn caller(entry: &Entry) -> CallId
+    ensures { result ≡ id_of entry.now }
+{
+    match entry {
+        Entry::Called { id, .. } | Entry::Gave { id, .. } | Entry::Looked { id, .. } => *id,
+    }
 }
 
 /// Whether no request that waits matches a tuple, and the history weighs what its entries do.
