@@ -3,11 +3,12 @@
 # another build of it is measured.
 #
 # Nanoseconds are the best of three runs, of processor time of the calls alone. Instructions are counted by valgrind,
-# where it is installed: the slope between two numbers of rounds, in the calls alone, and with building them. Bytes
-# are the slope of the most memory that was resident, between two sizes.
+# where it is installed: the slope between two numbers of rounds. Bytes are the slope of the most memory that was
+# resident, between two sizes.
 set -eu
+given=${1:+$(realpath "$1")}
 cd "$(dirname "$0")"
-program=${1:-../crates/bench_core/out/bench_core}
+program=${given:-../crates/bench_core/out/bench_core}
 [ $# -gt 0 ] || (cd ../crates/bench_core && rt run > /dev/null)
 command -v valgrind > /dev/null || echo "valgrind is not installed, so no instructions are counted" >&2
 
@@ -36,8 +37,7 @@ instructions() {
 
 # row NAME CASE SIZE ROUNDS FEW: nanoseconds over so many rounds, instructions from a few.
 row() {
-  echo "| $1 | $(nanos "$2" "$3" "$4") | $(instructions desk::ask "$2" "$3" "$5") |" \
-    "$(instructions rounds::serve "$2" "$3" "$5") |"
+  echo "| $1 | $(nanos "$2" "$3" "$4") | $(instructions desk::ask "$2" "$3" "$5") |"
 }
 
 # resident CASE SIZE ROUNDS: the most kilobytes that were resident.
@@ -54,12 +54,13 @@ bytes() {
 }
 
 heading() {
-  printf '\n| %s | ns a round | instructions | with building |\n|---|---|---|---|\n' "$1"
+  printf '\n| %s | ns a round | instructions |\n|---|---|---|\n' "$1"
 }
 
 heading "round"
 row "out(p(k)), inp(p(k))" pair 0 100000 500
 row "out, inp of ten nodes" ten 0 50000 500
+echo "| the same, with building them | | $(instructions rounds::serve ten 0 500) |"
 row "in(count(X)), out(count(1)), to which a reaction adds one" counter 0 50000 200
 row "a philosopher's in and out" table 0 20000 100
 row "a cascade of 1,000 reactions" cascade 1000 200 3
