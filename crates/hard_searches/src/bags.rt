@@ -102,13 +102,13 @@ pub fn large_arguments(alloc: Global) -> Result<bool, Fault> {
 /// Names of one code are told apart, as tuples and as first arguments.
 pub fn names(alloc: Global) -> Result<bool, Fault> {
     let mut bag = Bag::new(alloc);
-    add(&mut bag, word(alloc, false)?)?;
-    add(&mut bag, applied(alloc, b"q", word(alloc, false)?)?)?;
-    let one = Key::of(alloc, &word(alloc, false)?)?;
-    let other = Key::of(alloc, &word(alloc, true)?)?;
-    let alone = is_oldest(&bag, &one, Some(0)) && is_oldest(&bag, &other, None);
+    let one = Term::Atom(word(alloc, false)?);
+    let other = Term::Atom(word(alloc, true)?);
+    add(&mut bag, one.copy(alloc)?)?;
+    add(&mut bag, applied(alloc, b"q", one.copy(alloc)?)?)?;
+    let alone = is_oldest(&bag, &Key::Atom(word(alloc, false)?), Some(0));
+    let unlike = is_oldest(&bag, &Key::Atom(word(alloc, true)?), None);
     let key = key(alloc, b"q")?;
-    let within = is_first(&bag, &key, &word(alloc, false)?, Some(1));
-    let without = is_first(&bag, &key, &word(alloc, true)?, None);
-    Ok(alone && within && without)
+    let within = is_first(&bag, &key, &one, Some(1)) && is_first(&bag, &key, &other, None);
+    Ok(alone && unlike && within)
 }

@@ -22,26 +22,24 @@ pub fn wide(alloc: Global, zeros: u32, last: i64) -> Result<Term, NoMemory> {
 }
 
 /// One of two names of 1,024 letters that have the same code in a bag.
-pub fn word(alloc: Global, flipped: bool) -> Result<Term, NoMemory> {
+pub fn word(alloc: Global, flipped: bool) -> Result<Name, NoMemory> {
     let mut letters = Vec::new(alloc);
     for i in 0..1024u32 {
         let even = i.count_ones() % 2 == 0;
         letters.push(if even == flipped { b'a' } else { b'b' })?;
     }
-    Ok(Term::Atom(Name::new(alloc, &letters)?))
+    Name::new(alloc, &letters)
 }
 
 /// A name of six pairs of letters, Aa or BB, which the number chooses, with an argument. All these
 /// names have one code in a list of requests.
 pub fn of_one_code(alloc: Global, number: u32, x: i64) -> Result<Term, NoMemory> {
     let mut name = Vec::new(alloc);
-    for place in 0..6 {
-        let pair: &[u8] = if number >> place & 1 == 0 {
-            b"Aa"
-        } else {
-            b"BB"
-        };
+    let mut left = number;
+    for _ in 0..6 {
+        let pair: &[u8] = if left % 2 == 0 { b"Aa" } else { b"BB" };
         name.extend_from_slice(pair)?;
+        left /= 2;
     }
     applied(alloc, &name, Term::Int(x))
 }
