@@ -1,10 +1,15 @@
 -- How a call ends, from what it read and what it wrote.
-use Rattle.std.proofs.Common.{◌≡◌, ℕ, List, sym, subst, inr}
+use Rattle.std.proofs.Common.{◌≡◌, ◌<◌, ℕ, List, Option, Some, None, IfSome, length, sym, subst, inl, inr, arith}
 use Rattle.tc_io.specs.Sinks.{appended}
+use Rattle.tc_io.specs.Sources.{ReadsAll, ReadsPast}
+use Rattle.tc_config.specs.Texts.{IsRefused}
+use Rattle.tc_config.specs.declared.faults.ConfigCause.{ConfigCause}
+use Rattle.tc_config.specs.declared.faults.ConfigCause.TheVariants as cause
+use Rattle.tc_config.specs.declared.limits.TheConstants.{MOST_BYTES}
 use Rattle.tucson.specs.declared.status.Status.{Status}
-use Rattle.tucson.specs.declared.status.Status.TheVariants.{Ended, WriteFault, Refused, ReadFault, NoMemory, Usage}
-use Rattle.tucson.specs.Answer.{Input, IsInput, IsDue}
-use Rattle.tucson.specs.Ending.{Call, EndsAsDue, Ends, Writes}
+use Rattle.tucson.specs.declared.status.Status.TheVariants.{Ended, WriteFault, Refused, Blocked, ReadFault, NoMemory, Usage}
+use Rattle.tucson.specs.Answer.{Input, Whole, IsAnswer, IsInput, IsDue, IsRun}
+use Rattle.tucson.specs.Ending.{Call, EndsAsDue, Ends, IsUnlessStopped, Tells, Writes}
 
 answers : (call : Call) (status same : Status) (input : Input) (text : List ℕ) → IsInput call.source.left call.source_after.left input → IsDue call.words input status text → (same ≡ status) × (call.sink_after.taken ≡ appended call.sink.taken text) → EndsAsDue call same
 answers call status same input text read due wrote = record {
@@ -18,6 +23,7 @@ answers call status same input text read due wrote = record {
 -- the text that is due was written, or the writing was stopped
 pub Ends-written : (call : Call) (status result : Status) (input : Input) (text : List ℕ) → IsInput call.source.left call.source_after.left input → IsDue call.words input status text → Writes status text call.sink call.sink_after result → Ends call result
 Ends-written call status Ended input text read due wrote = answers call status Ended input text read due wrote
+Ends-written call status Blocked input text read due wrote = answers call status Blocked input text read due wrote
 Ends-written call status (Refused clause cause) input text read due wrote = answers call status (Refused clause cause) input text read due wrote
 Ends-written call status Usage input text read due wrote = answers call status Usage input text read due wrote
 Ends-written call status WriteFault input text read due wrote = record {
@@ -28,3 +34,37 @@ Ends-written call status WriteFault input text read due wrote = record {
 Ends-written call status ReadFault input text read due wrote = absurd wrote
 Ends-written call status NoMemory input text read due wrote =
     inr (record { input = input; status = status; text = text; read = read; due = due; taken = wrote })
+
+-- the answer to an input that was read whole
+pub Ends-told : (call : Call) (result : Status) (input : List ℕ) → IsRun call.words → ReadsAll call.source.left call.source_after.left MOST_BYTES input
+    → Tells (IsAnswer input) call.sink call.sink_after result → Ends call result
+Ends-told call result input run read (inl told) =
+    Ends-written call told.status result (Whole input) told.text read (run, told.is) told.writes
+Ends-told call result input run read (inr none) = subst (Ends call) (sym none.0) (inl none.1)
+
+-- what holds of the input that was read holds of what was left, where that is told
+pub of_left : (left rest : Option (List ℕ)) (limit : ℕ) (input : List ℕ) (P : List ℕ → Type 0) → ReadsAll left rest limit input → P input
+    → IfSome left P
+of_left None rest limit input P read holds = tt
+of_left (Some whole) rest limit input P read holds = subst P (sym read.1) holds
+
+-- an input that is too long is refused for its length alone
+long_refused : (input : List ℕ) (clause : ℕ) (why : ConfigCause) (result : Status) → MOST_BYTES < length input → IsRefused input clause why
+    → IsUnlessStopped (Refused 0 cause.Length) result → IsUnlessStopped (Refused clause why) result
+long_refused input clause cause.Length result past refused due =
+    subst (λ n. IsUnlessStopped (Refused n cause.Length) result) (sym refused.0) due
+long_refused input clause cause.Syntax result past refused due = let short = refused.short in absurd (omega (arith, short, past))
+long_refused input clause cause.Size result past refused due = let short = refused.short in absurd (omega (arith, short, past))
+long_refused input clause cause.Shape result past refused due = let short = refused.short in absurd (omega (arith, short, past))
+long_refused input clause cause.Reaction result past refused due = let short = refused.short in absurd (omega (arith, short, past))
+long_refused input clause cause.UnknownCentre result past refused due = let short = refused.short in absurd (omega (arith, short, past))
+long_refused input clause cause.UnknownRole result past refused due = let short = refused.short in absurd (omega (arith, short, past))
+long_refused input clause cause.UnknownAgent result past refused due = let short = refused.short in absurd (omega (arith, short, past))
+long_refused input clause cause.Twice result past refused due = let short = refused.short in absurd (omega (arith, short, past))
+long_refused input clause cause.NotGround result past refused due = let short = refused.short in absurd (omega (arith, short, past))
+long_refused input clause cause.Count result past refused due = let short = refused.short in absurd (omega (arith, short, past))
+
+pub of_too_long : (left rest : Option (List ℕ)) (result : Status) → ReadsPast left rest MOST_BYTES → IsUnlessStopped (Refused 0 cause.Length) result
+    → IfSome left (λ input. (clause : ℕ) (why : ConfigCause) → IsRefused input clause why → IsUnlessStopped (Refused clause why) result)
+of_too_long None rest result past due = tt
+of_too_long (Some whole) rest result past due = λ clause why refused. long_refused whole clause why result past.0 refused due

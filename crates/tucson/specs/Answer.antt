@@ -1,41 +1,74 @@
 -- What a call reads, with which status it is to end, and what it is to write.
-use Rattle.std.specs.Prelude.{◌≡◌, ◌≢◌, ℕ, Option, List, [], ◌∷◌, codes}
-use Rattle.tc_model.specs.declared.entries.Entry.{Entry}
-use Rattle.tc_model.specs.declared.outcomes.Reply.{Reply}
-use Rattle.tucson.specs.declared.status.Cause.TheVariants.{Form}
-use Rattle.tucson.specs.declared.status.Status.{Status}
-use Rattle.tucson.specs.declared.status.Status.TheVariants.{Ended, Refused, Usage}
-use Rattle.tucson.specs.Setup.{Setup, IsTextOfSetup}
-use Rattle.tucson.specs.Good.{IsGood}
-use Rattle.tucson.specs.Output.{run_text}
+use Rattle.std.specs.Prelude.{◌≡◌, ◌⊎◌, ℕ, decimal, Bool, true, false, Option, List, [], ◌∷◌, codes}
+use Rattle.tc_lists.specs.Texts.{joined}
 use Rattle.tc_io.specs.Sources.{ReadsAll, ReadsPast}
+use Rattle.tc_model.specs.Choices.{TheFirst}
+use Rattle.tc_model.specs.declared.entries.Entry.{Entry}
+use Rattle.tc_desk.specs.Logs.{is_blocked}
+use Rattle.tc_desk.specs.Text.{One, run_text}
+use Rattle.tc_desk.specs.declared.rows.LogRow.{LogRow}
+use Rattle.tc_config.specs.Configurations.{Configuration, agent_names, centre_names}
+use Rattle.tc_config.specs.Good.{IsGood}
+use Rattle.tc_config.specs.Texts.{IsRefused, Spells}
+use Rattle.tc_config.specs.declared.faults.ConfigCause.{ConfigCause}
+use Rattle.tc_config.specs.declared.faults.ConfigCause.TheVariants as cause
+use Rattle.tc_config.specs.declared.limits.TheConstants.{MOST_BYTES}
+use Rattle.tucson.specs.declared.status.Status.{Status}
+use Rattle.tucson.specs.declared.status.Status.TheVariants.{Ended, Refused, Blocked, Usage}
 
--- the words of the one command
-abbrev pub run_words : List (List ℕ)
-run_words = codes "run" ∷ []
+-- the words of the one command, with and without the number of workers
+abbrev pub IsRun : List (List ℕ) → Type 0
+IsRun words =
+    (words ≡ codes "run" ∷ []) ⊎ (words ≡ codes "run" ∷ codes "--workers" ∷ codes "1" ∷ [])
 
 abbrev pub usage_text : List ℕ
 usage_text = codes "usage: tucson run [--workers N] | verify | load N SEED | serve PORT\n"
 
-abbrev pub refused_text : List ℕ
-refused_text = codes "configuration refused: clause 0: form\n"
+-- the words of a cause
+abbrev pub cause_text : ConfigCause → List ℕ
+cause_text cause.Syntax = codes "syntax"
+cause_text cause.Size = codes "size"
+cause_text cause.Shape = codes "shape"
+cause_text cause.Reaction = codes "reaction"
+cause_text cause.UnknownCentre = codes "unknown centre"
+cause_text cause.UnknownRole = codes "unknown role"
+cause_text cause.UnknownAgent = codes "unknown agent"
+cause_text cause.Twice = codes "twice"
+cause_text cause.NotGround = codes "not ground"
+cause_text cause.Count = codes "count"
+cause_text cause.Length = codes "length"
 
--- the text is that of a history and a log that the configuration may have
-pub record IsTextOf (s : Setup) (text : List ℕ) : Type 0 where
-  pub history : List Entry
-  pub log : List Reply
-  pub good : IsGood s history log
-  pub is : text ≡ run_text s.centre s.agent history log
+-- that a configuration is refused: its first faulty clause, and why
+abbrev pub refused_text : ℕ → ConfigCause → List ℕ
+refused_text clause why =
+    joined (
+    codes "configuration refused: clause " ∷ decimal clause ∷ codes ": " ∷ cause_text why ∷
+    codes "\n" ∷ [])
 
--- the text is that of a run of the configuration that the input spells
-pub record IsTextOfRun (input text : List ℕ) : Type 0 where
-  pub setup : Setup
-  pub spells : IsTextOfSetup input setup
-  pub run : IsTextOf setup text
+-- the text is that of a good run of the configuration, at whose end some agent waits, or none does
+pub record IsTextOf (c : Configuration) (waits : Bool) (text : List ℕ) : Type 0 where
+  pub histories : List (List Entry)
+  pub logs : List (List LogRow)
+  pub good : IsGood TheFirst c histories logs
+  pub end : is_blocked logs ≡ waits
+  pub is : text ≡ run_text One (centre_names c) (agent_names c) histories logs
 
--- the input spells no configuration
-abbrev pub IsNoForm : List ℕ → Type 0
-IsNoForm input = (s : Setup) → IsTextOfSetup input s → ⊥
+-- the text is that of a good run of the configuration that the input spells
+pub record IsTextOfRun (waits : Bool) (input text : List ℕ) : Type 0 where
+  pub config : Configuration
+  pub spells : Spells input config
+  pub run : IsTextOf config waits text
+
+-- the status and the text that are due for a configuration
+abbrev pub IsOutcome : Configuration → Status → List ℕ → Type 0
+IsOutcome c Ended text = IsTextOf c false text
+IsOutcome c Blocked text = IsTextOf c true text
+IsOutcome c status text = ⊥
+
+-- what is written of an input that is refused
+pub record IsRefusal (input : List ℕ) (clause : ℕ) (why : ConfigCause) (text : List ℕ) : Type 0 where
+  pub refused : IsRefused input clause why
+  pub is : text ≡ refused_text clause why
 
 -- what a call reads
 pub data Input : Type 0 where
@@ -43,25 +76,23 @@ pub data Input : Type 0 where
   Whole : List ℕ → Input
   TooLong : Input
 
--- nothing was read, or all that was left, or more than 8,192 bytes
+-- nothing was read, or all that was left, or more than a configuration may have
 abbrev pub IsInput : Option (List ℕ) → Option (List ℕ) → Input → Type 0
 IsInput left rest Unread = rest ≡ left
-IsInput left rest (Whole input) = ReadsAll left rest 8192 input
-IsInput left rest TooLong = ReadsPast left rest 8192
+IsInput left rest (Whole input) = ReadsAll left rest MOST_BYTES input
+IsInput left rest TooLong = ReadsPast left rest MOST_BYTES
+
+-- the status and the text that are due for the whole input
+abbrev pub IsAnswer : List ℕ → Status → List ℕ → Type 0
+IsAnswer input Ended text = IsTextOfRun false input text
+IsAnswer input Blocked text = IsTextOfRun true input text
+IsAnswer input (Refused clause why) text = IsRefusal input clause why text
+IsAnswer input status text = ⊥
 
 -- a call with these words and this input is to end with this status, and to write this text
 abbrev pub IsDue : List (List ℕ) → Input → Status → List ℕ → Type 0
-IsDue words Unread Usage text = (words ≢ run_words) × (text ≡ usage_text)
-IsDue words (Whole input) Ended text = (words ≡ run_words) × IsTextOfRun input text
-IsDue words (Whole input) (Refused clause Form) text = record {
-  run : words ≡ run_words;
-  no_form : IsNoForm input;
-  clause : clause ≡ 0;
-  text : text ≡ refused_text;
-}
-IsDue words TooLong (Refused clause Form) text = record {
-  run : words ≡ run_words;
-  clause : clause ≡ 0;
-  text : text ≡ refused_text;
-}
+IsDue words Unread Usage text = (IsRun words → ⊥) × (text ≡ usage_text)
+IsDue words (Whole input) status text = IsRun words × IsAnswer input status text
+IsDue words TooLong (Refused clause cause.Length) text =
+    IsRun words × (clause ≡ 0) × (text ≡ refused_text 0 cause.Length)
 IsDue words input status text = ⊥

@@ -1,11 +1,20 @@
 -- How a call ends, by its status.
-use Rattle.std.specs.Prelude.{◌≡◌, ℕ, ◌⊎◌, false, List}
+use Rattle.std.specs.Prelude.{◌≡◌, ℕ, ◌⊎◌, Bool, false, List, Option}
 use Rattle.tc_io.specs.Faults.{CountRises}
 use Rattle.tc_io.specs.Sources.{SourceState}
 use Rattle.tc_io.specs.Sinks.{SinkState, AppendsFront, appended}
 use Rattle.tucson.specs.declared.status.Status.{Status}
-use Rattle.tucson.specs.declared.status.Status.TheVariants.{WriteFault, ReadFault, NoMemory}
-use Rattle.tucson.specs.Answer.{run_words, Input, IsInput, IsDue}
+use Rattle.tucson.specs.declared.status.Status.TheVariants.{Ended, WriteFault, Blocked, ReadFault, NoMemory}
+use Rattle.tucson.specs.Answer.{IsRun, Input, IsInput, IsDue}
+
+-- a source, by its meanings, and a sink
+abbrev pub source_of : {S : Type 0} → (S → Option (List ℕ)) → (S → ℕ) → (S → Bool) → S → SourceState
+source_of left read_faults sure s =
+    record { left = left s; read_faults = read_faults s; sure = sure s }
+
+abbrev pub sink_of : {S : Type 0} → (S → Option (List ℕ)) → (S → ℕ) → (S → Bool) → S → SinkState
+sink_of taken write_faults sure s =
+    record { taken = taken s; write_faults = write_faults s; sure = sure s }
 
 -- a call: its words, and the source and the sink as it begins and as it ends
 pub record Call : Type 0 where
@@ -46,7 +55,7 @@ pub record FailsToWrite (call : Call) : Type 0 where
 pub record FailsToRead (call : Call) : Type 0 where
   pub rises : CountRises call.source.read_faults call.source_after.read_faults
   pub unsure : call.source.sure ≡ false
-  pub run : call.words ≡ run_words
+  pub run : IsRun call.words
   pub nothing : TakesNothing call
 
 -- the status that is due with its whole text, or what stopped the call
@@ -67,6 +76,10 @@ IsStopped status = ⊥
 abbrev pub IsUnlessStopped : Status → Status → Type 0
 IsUnlessStopped due status = (status ≡ due) ⊎ IsStopped status
 
+-- the status says that a run has come to its end, unless the call was stopped
+abbrev pub IsEndOfRun : Status → Type 0
+IsEndOfRun status = IsUnlessStopped Ended status ⊎ IsUnlessStopped Blocked status
+
 -- a write has failed, and a beginning of the text was taken
 pub record FailsAmid (text : List ℕ) (sink sink_after : SinkState) : Type 0 where
   pub rises : CountRises sink.write_faults sink_after.write_faults
@@ -80,3 +93,15 @@ Writes status text sink sink_after ReadFault = ⊥
 Writes status text sink sink_after NoMemory = AppendsFront sink.taken sink_after.taken text
 Writes status text sink sink_after same =
     (same ≡ status) × (sink_after.taken ≡ appended sink.taken text)
+
+-- a status and a text that are due, and the writing of that text
+pub record IsTold (due : Status → List ℕ → Type 0) (sink sink_after : SinkState) (result : Status) : Type 0 where
+  pub status : Status
+  pub text : List ℕ
+  pub is : due status text
+  pub writes : Writes status text sink sink_after result
+
+-- what is due was written, or the writing was stopped; or memory ran out before
+abbrev pub Tells : (Status → List ℕ → Type 0) → SinkState → SinkState → Status → Type 0
+Tells due sink sink_after result =
+    IsTold due sink sink_after result ⊎ ((result ≡ NoMemory) × (sink_after.taken ≡ sink.taken))

@@ -1,10 +1,3 @@
-pub mod Setup
-pub mod Output
-pub mod Good
-pub mod Serving
 pub mod Status
 pub mod Answer
-pub mod Form
-pub mod Given
-pub mod Config
 pub mod Ending

@@ -1,13 +1,19 @@
 -- The numbers of the statuses.
-use Rattle.std.specs.Prelude.{ℕ}
+use Rattle.std.specs.Prelude.{ℕ, Bool, true, false}
 use Rattle.tucson.specs.declared.status.Status.{Status}
-use Rattle.tucson.specs.declared.status.Status.TheVariants.{Ended, WriteFault, Refused, ReadFault, NoMemory, Usage}
+use Rattle.tucson.specs.declared.status.Status.TheVariants.{Ended, WriteFault, Refused, Blocked, ReadFault, NoMemory, Usage}
 
 -- the number with which the program exits
 abbrev pub number_of : Status → ℕ
 number_of Ended = 0
 number_of WriteFault = 1
 number_of (Refused clause cause) = 2
+number_of Blocked = 3
 number_of ReadFault = 5
 number_of NoMemory = 6
 number_of Usage = 7
+
+-- the status of a run, at whose end some agent waits, or none does
+abbrev pub status_of_run : Bool → Status
+status_of_run true = Blocked
+status_of_run false = Ended

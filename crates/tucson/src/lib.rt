@@ -1,6 +1,4 @@
-//! The top call: a configuration is read, its script is served, and what came of it is written.
-//!
-//! The reading and the printing here are those of one plain form, of one centre and one agent.
+//! The top call: a configuration is read, its agents' scripts are run, and what came of it is written.
 //!
 //! ```
 //! let mut source = SureSource::new(input);
@@ -8,20 +6,19 @@
 //! let ended = tucson(alloc, &words, &mut source, &mut sink);
 //! ```
 //!
-//! `ended` is then `Status::Ended`, and `sink.taken()` the history and the log; or it says why not.
+//! `ended` is then `Status::Ended` or `Status::Blocked`, and `sink.taken()` the histories and the logs;
+//! or it says why not.
 #![tactic(auto)]
 
-mod answering;
-mod form;
-mod parsing;
-mod printing;
-mod reading;
+mod command;
+mod refusing;
 mod running;
-mod serving;
 mod status;
 mod top;
+mod writing;
 
-pub use status::{Cause, Status};
+pub use status::Status;
+pub use tc_config::ConfigCause;
 pub use top::tucson;
 
 #[cfg(test)]

@@ -1,64 +1,67 @@
-//! The answer to an input: the text of a run of the configuration that it spells.
-ghost use Rattle.std.specs.Prelude.{◌≡◌, ◌≤◌, [], length, IfOk};
-ghost use Rattle.std.specs.Result.{IsErrOf};
-ghost use Rattle.tucson.specs.Setup.{IsSetup};
-ghost use Rattle.tucson.specs.Config.{setup_of};
-ghost use Rattle.tucson.specs.Good.{origin_of};
-ghost use Rattle.tucson.specs.Answer.{IsTextOf, IsTextOfRun, IsNoForm};
+//! An input, run: what the configuration that it spells comes to.
+ghost use Rattle.std.specs.Prelude.{◌≡◌, [], ℕ, IfOk, length};
+ghost use Rattle.tc_io.specs.Faults.{Counts};
+ghost use Rattle.tc_model.specs.Choices.{TheFirst};
+ghost use Rattle.tc_config.specs.Configurations.{Configuration};
+ghost use Rattle.tc_config.specs.Good.{IsGood};
+ghost use Rattle.tc_config.specs.Texts.{IsRefused, Spells};
+ghost use Rattle.tc_config.specs.declared.faults.ConfigCause.{ConfigCause};
+ghost use Rattle.tc_runner.specs.Cores.{Goes, histories, rows_of};
+ghost use Rattle.tucson.specs.Answer.{IsAnswer, IsOutcome};
+ghost use Rattle.tucson.specs.Ending.{IsEndOfRun, IsUnlessStopped, Tells, sink_of};
 
-use crate::form::{Config, read_config};
-use crate::printing::print_run;
-use crate::reading::Fault;
-use crate::serving::serve_script;
+use crate::refusing::refused;
+use crate::status::Status;
+use crate::writing::write_run;
 use std::alloc::Global;
-use tc_centre::Core;
+use tc_config::{Config, ConfigFault, read_config};
+use tc_desk::NoGate;
+use tc_io::Sink;
 use tc_lists::NoMemory;
-use tc_model::Clauses;
+use tc_runner::{Opened, finish, open};
 
-// The budget of a centre for which none is given.
-const BUDGET: u32 = 1000;
-
-/// The text of a run of the configuration that the input spells.
-pub fn answer(alloc: Global, input: &[u8]) -> Result<Vec<u8>, Fault>
-    requires { length input.now ≤ 8192 }
-    ensures text { IfOk result (λ text. IsTextOfRun input.now text.items) }
-    ensures form { IsErrOf result Fault.Form → IsNoForm input.now }
+/// Answers an input: runs the configuration that it spells, or says why it spells none.
+pub fn answer<K: Sink>(alloc: Global, input: &[u8], sink: &mut K) -> Status
+    ensures tells { Tells (IsAnswer input.now) (sink_of K.taken K.write_faults K.sure sink.old)
+        (sink_of K.taken K.write_faults K.sure sink.new) result }
+    ensures writes { Counts (result ≡ Status.WriteFault)
+        (K.write_faults sink.old) (K.write_faults sink.new) }
+    ensures reads { result ≡ Status.ReadFault → ⊥ }
+    ensures runs { (c : Configuration) → Spells input.now c → IsEndOfRun result }
+    ensures refused { (clause : ℕ) (why : ConfigCause) → IsRefused input.now clause why
+        → IsUnlessStopped (Status.Refused clause why) result }
 {
-    let config = read_config(alloc, input)?;
-    Ok(run(alloc, config)?)
+    match read_config(alloc, input) {
+        Ok(config) => run(alloc, config, sink),
+        Err(ConfigFault::Bad { clause, cause }) => refused(alloc, clause, cause, sink),
+        Err(ConfigFault::NoMemory) => Status::NoMemory,
+    }
 }
 
-// Serves the script by the configured centre. The text has the history and the log.
-fn run(alloc: Global, config: Config) -> Result<Vec<u8>, NoMemory>
-    requires { IsSetup (setup_of config) }
-    ensures { IfOk result (λ text. IsTextOf (setup_of config) text.items) }
+// Runs a configuration, and writes what came of it.
+fn run<K: Sink>(alloc: Global, config: Config, sink: &mut K) -> Status
+    ensures tells { Tells (IsOutcome config) (sink_of K.taken K.write_faults K.sure sink.old)
+        (sink_of K.taken K.write_faults K.sure sink.new) result }
+    ensures writes { Counts (result ≡ Status.WriteFault)
+        (K.write_faults sink.old) (K.write_faults sink.new) }
+    ensures reads { result ≡ Status.ReadFault → ⊥ }
+    ensures runs { IsEndOfRun result }
 {
-    let mut core = configured(alloc, &config)?;
-    let log = serve_script(alloc, &mut core, config.ops)?;
-    print_run(
-        alloc,
-        config.centre.bytes(),
-        config.agent.bytes(),
-        core.history(),
-        &log,
-    )
+    match ran(alloc, config) {
+        Ok(run) => write_run(alloc, &run, sink),
+        Err(_) => Status::NoMemory,
+    }
 }
 
-// The configured centre, before any call.
-fn configured(alloc: Global, config: &Config) -> Result<Core, NoMemory>
-    requires { IsSetup (setup_of config.now) }
-    ensures { IfOk result (λ core.
-        core ≡ record { origin = origin_of (setup_of config.now); history = [] }) }
+// A run of the configuration, from its first ask to its end.
+fn ran(alloc: Global, config: Config) -> Result<Opened, NoMemory>
+    ensures plan { IfOk result (λ run. run.plan ≡ config) }
+    ensures good { IfOk result (λ run. IsGood TheFirst run.plan (histories run.plan run.cores.items)
+        (rows_of run.logs.items)) }
+    ensures goes { IfOk result (λ run. Goes run.plan run.cores.items (rows_of run.logs.items)) }
+    ensures none { IfOk result (λ run. length run.plan.agents ≡ 0 → run.cores.items ≡ []) }
 {
-    let mut agents = Vec::new(alloc);
-    agents.push(config.agent.copy(alloc)?)?;
-    let centre = config.centre.copy(alloc)?;
-    Core::new(
-        alloc,
-        centre,
-        agents,
-        BUDGET,
-        Clauses::new(alloc),
-        Vec::new(alloc),
-    )
+    let mut run = open(alloc, config)?;
+    finish(alloc, &run.plan, &mut run.cores, &mut run.logs, &NoGate)?;
+    Ok(run)
 }

@@ -2,25 +2,19 @@
 ghost use Rattle.std.specs.Prelude.{◌≡◌};
 ghost use Rattle.tucson.specs.Status.{number_of};
 
-use thiserror::Error;
-
-/// Why a configuration is refused.
-#[derive(Clone, Copy, PartialEq, Eq, Debug, Drop, Error)]
-pub enum Cause {
-    /// It hasn't the form of a configuration.
-    #[error("form")]
-    Form,
-}
+use tc_config::ConfigCause;
 
 /// How a call ends. The program exits with the number of its status.
 #[derive(Clone, Copy, PartialEq, Eq, Debug)]
 pub enum Status {
-    /// Every call of the script has its reply.
+    /// Every ask of every script has come to its end.
     Ended,
     /// A write has failed.
     WriteFault,
     /// The configuration's first faulty clause, from 1, or 0 for the whole of it; and why.
-    Refused { clause: u32, cause: Cause },
+    Refused { clause: u32, cause: ConfigCause },
+    /// Some agent waits for a tuple, and all others have come to the ends of their scripts.
+    Blocked,
     /// A read has failed.
     ReadFault,
     NoMemory,
@@ -37,6 +31,7 @@ impl Status {
             Status::Ended => 0,
             Status::WriteFault => 1,
             Status::Refused { .. } => 2,
+            Status::Blocked => 3,
             Status::ReadFault => 5,
             Status::NoMemory => 6,
             Status::Usage => 7,

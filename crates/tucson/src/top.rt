@@ -1,19 +1,29 @@
 //! The top call.
-ghost use Rattle.std.specs.Prelude.{◌≡◌, ◌≢◌, ℕ, ◌⊎◌, List, IfSome, map};
+ghost use Rattle.std.specs.Prelude.{◌≡◌, ℕ, IfSome, map};
 ghost use Rattle.tc_io.specs.Faults.{Counts};
-ghost use Rattle.tucson.specs.Setup.{Setup, IsTextOfSetup};
-ghost use Rattle.tucson.specs.Answer.{run_words, IsNoForm};
-ghost use Rattle.tucson.specs.Ending.{Ends, IsUnlessStopped};
+ghost use Rattle.tc_config.specs.Configurations.{Configuration};
+ghost use Rattle.tc_config.specs.Texts.{IsRefused, Spells};
+ghost use Rattle.tc_config.specs.declared.faults.ConfigCause.{ConfigCause};
+ghost use Rattle.tucson.specs.Answer.{IsRun};
+ghost use Rattle.tucson.specs.Ending.{Ends, IsEndOfRun, IsUnlessStopped, sink_of, source_of};
 
-use crate::answering::answer_call;
-use crate::status::{Cause, Status};
+use crate::command::asks_run;
+use crate::refusing::refused;
+use crate::running::answer;
+use crate::status::Status;
+use crate::writing::written;
 use std::alloc::Global;
-use tc_io::{Sink, Source};
+use tc_config::{ConfigCause, MOST_BYTES};
+use tc_io::{InputFault, Sink, Source, read_all};
 
-/// Reads a configuration, serves its script, and writes the history and the log.
+const USAGE: &[u8] = b"usage: tucson run [--workers N] | verify | load N SEED | serve PORT\n";
+
+/// Reads a configuration, runs the scripts of its agents on one thread, and writes the histories of
+/// its centres and the logs of its agents.
 ///
-/// Under `Ended` the text holds one history that is a run from the configured state, in which each
-/// call of the agent stands once in script order, and every reply is the one that this run gives.
+/// Under `Ended` and `Blocked` the text holds for each centre one history that is a run from its
+/// configured state, in which each served call of an agent stands once, in script order, and every
+/// reply in the logs is the one that this run gives. Under `Blocked` some agent still waits.
 pub fn tucson<S: Source, K: Sink>(
     alloc: Global,
     words: &[Vec<u8>],
@@ -22,26 +32,10 @@ pub fn tucson<S: Source, K: Sink>(
 ) -> Status
     ensures ends { Ends (record {
       words = map (λ w. w.items) words.now;
-      source = record {
-        left = S.left source.old;
-        read_faults = S.read_faults source.old;
-        sure = S.sure source.old;
-      };
-      source_after = record {
-        left = S.left source.new;
-        read_faults = S.read_faults source.new;
-        sure = S.sure source.new;
-      };
-      sink = record {
-        taken = K.taken sink.old;
-        write_faults = K.write_faults sink.old;
-        sure = K.sure sink.old;
-      };
-      sink_after = record {
-        taken = K.taken sink.new;
-        write_faults = K.write_faults sink.new;
-        sure = K.sure sink.new;
-      };
+      source = source_of S.left S.read_faults S.sure source.old;
+      source_after = source_of S.left S.read_faults S.sure source.new;
+      sink = sink_of K.taken K.write_faults K.sure sink.old;
+      sink_after = sink_of K.taken K.write_faults K.sure sink.new;
     }) result }
 
     // Every fault of reading and of writing is told, and no other status stands for one.
@@ -51,14 +45,22 @@ pub fn tucson<S: Source, K: Sink>(
         (K.write_faults sink.old) (K.write_faults sink.new) }
 
     // The words and the input decide the status.
-    ensures usage { map (λ w. w.items) words.now ≢ run_words
+    ensures usage { (IsRun (map (λ w. w.items) words.now) → ⊥)
         → IsUnlessStopped Status.Usage result }
-    ensures ended { map (λ w. w.items) words.now ≡ run_words
-        → IfSome (S.left source.old) (λ input. (s : Setup) → IsTextOfSetup input s
-        → IsUnlessStopped Status.Ended result) }
-    ensures refused { map (λ w. w.items) words.now ≡ run_words
-        → IfSome (S.left source.old) (λ input. IsNoForm input
-        → IsUnlessStopped (Status.Refused 0 Cause.Form) result) }
+    ensures runs { IsRun (map (λ w. w.items) words.now)
+        → IfSome (S.left source.old) (λ input. (c : Configuration) → Spells input c
+        → IsEndOfRun result) }
+    ensures refused { IsRun (map (λ w. w.items) words.now)
+        → IfSome (S.left source.old) (λ input. (clause : ℕ) (why : ConfigCause)
+        → IsRefused input clause why → IsUnlessStopped (Status.Refused clause why) result) }
 {
-    answer_call(alloc, words, source, sink)
+    if !asks_run(words) {
+        return written(Status::Usage, USAGE, sink);
+    }
+    match read_all(alloc, source, MOST_BYTES) {
+        Ok(input) => answer(alloc, &input, sink),
+        Err(InputFault::TooLong) => refused(alloc, 0, ConfigCause::Length, sink),
+        Err(InputFault::Failed) => Status::ReadFault,
+        Err(InputFault::NoMemory) => Status::NoMemory,
+    }
 }

@@ -1,0 +1,13 @@
+pub mod Sets
+pub mod Logs
+pub mod Later
+pub mod Follow
+pub mod Items
+pub mod Results
+pub mod Cores
+pub mod Asking
+pub mod Left
+pub mod Looking
+pub mod Sweeping
+pub mod Fresh
+pub mod Turns

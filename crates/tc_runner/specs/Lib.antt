@@ -1,0 +1,5 @@
+pub mod Cores
+pub mod Results
+pub mod Clients
+pub mod Steps
+pub mod Plans

@@ -1,0 +1,78 @@
+//! Plans: what is left of a configuration once its centres are opened.
+use std::marker::Model;
+use std::snapshot::Snapshot;
+use tc_config::{AgentConf, Config};
+use tc_policy::Roles;
+use tc_term::Name;
+
+/// What is left of a configuration whose centres are opened: their names, the grants, and the agents with
+/// their scripts. Contracts see it as the configuration.
+#[derive(Drop)]
+pub struct Plan {
+    centres: Vec<Name>,
+    roles: Roles,
+    agents: Vec<AgentConf>,
+    config: Snapshot<Config>,
+}
+
+impl Model for Plan {
+    ghost use Rattle.std.specs.Coded.{codes};
+    ghost use Rattle.tc_term.specs.TreeCode.{coded_tree, coded_trees};
+    ghost use Rattle.tc_config.specs.Configurations.{Configuration};
+    ghost use Rattle.tc_runner.specs.Plans.{IsPlan};
+
+    ghost Value = { Configuration };
+
+    ghost coded = { Prim.hlevel (codes, coded_tree, coded_trees) };
+
+    ghost view = { λ p. p.config.value };
+
+    ghost invariant = { λ p. IsPlan p.centres.items p.roles p.agents.items p.config.value };
+}
+
+impl Plan {
+    ghost use Rattle.std.specs.Prelude.{◌≡◌};
+    ghost use Rattle.tc_config.specs.Configurations.{IsConfig, centre_names};
+    ghost use Rattle.tc_runner.specs.Plans.{IsPlan};
+
+    /// The plan of this configuration.
+    pub(crate) fn new(
+        centres: Vec<Name>,
+        roles: Roles,
+        agents: Vec<AgentConf>,
+        config: Snapshot<Config>,
+    ) -> Plan
+        requires { IsPlan centres.items roles agents.items config.value }
+        ensures { result ≡ config.value }
+    {
+        Plan {
+            centres,
+            roles,
+            agents,
+            config,
+        }
+    }
+
+    /// The names of the centres, in order.
+    pub fn centres(&self) -> &[Name]
+        ensures names { result.now ≡ centre_names self.now }
+        ensures config { IsConfig self.now }
+    {
+        &self.centres
+    }
+
+    /// What each role is permitted.
+    pub fn roles(&self) -> &Roles
+        ensures { result.now ≡ self.now.roles }
+    {
+        &self.roles
+    }
+
+    /// The agents, in order.
+    pub fn agents(&self) -> &[AgentConf]
+        ensures agents { result.now ≡ self.now.agents }
+        ensures config { IsConfig self.now }
+    {
+        &self.agents
+    }
+}

@@ -1,0 +1,59 @@
+-- The history of each centre, by place.
+use Rattle.std.proofs.Common.{◌≡◌, ◌<◌, ◌≤◌, ◌∙◌, ℕ, zero, suc, List, [], ◌∷◌, Some, None, All, length, map, get_or, sym, subst, ap, refl, arith}
+use Rattle.std.specs.Prelude.{slice_get}
+use Rattle.tc_model.specs.Calls.{id_of}
+use Rattle.tc_model.specs.State.{Origin}
+use Rattle.tc_model.specs.declared.entries.Entry.{Entry}
+use Rattle.tc_centre.specs.Centre.{Centre}
+use Rattle.tc_config.specs.Configurations.{Configuration, agent_names}
+use Rattle.tc_config.specs.Good.{origin_of}
+use Rattle.tc_config.specs.declared.configs.CentreConf.{CentreConf}
+use Rattle.tc_runner.specs.Cores.{AreCores, histories_of}
+
+head_same : {Z : Type 0} (x y : Z) (xs ys : List Z) → x ∷ xs ≡ y ∷ ys → x ≡ y
+head_same x y xs ys same = cc
+
+tail_same : {Z : Type 0} (x y : Z) (xs ys : List Z) → x ∷ xs ≡ y ∷ ys → xs ≡ ys
+tail_same x y xs ys same = cc
+
+-- where images are the same list, each image of one list's elements is one of the other's
+image_at : {X Y Z : Type 0} (f : X → Z) (g : Y → Z) (xs : List X) (ys : List Y) (i : ℕ) (x : X) → map f xs ≡ map g ys
+    → i < length xs → x ≡ get_or xs i x → (y : Y) × (f x ≡ g y)
+image_at f g [] ys i x same within is = absurd (omega arith)
+image_at f g (a ∷ xs) [] i x same within is = absurd (cc)
+image_at f g (a ∷ xs) (b ∷ ys) zero x same within is = (b, ap f is ∙ head_same (f a) (g b) (map f xs) (map g ys) same)
+image_at f g (a ∷ xs) (b ∷ ys) (suc i) x same within is =
+    image_at f g xs ys i x (tail_same (f a) (g b) (map f xs) (map g ys) same) (omega (arith, within)) is
+
+some_agent : {X : Type 0} (agents : List X) (cores : List Centre) (i : ℕ) → (length agents ≡ 0 → cores ≡ []) → i < length cores → 0 < length agents
+some_agent [] cores i none within = absurd (omega (arith, within, ap length (none refl)))
+some_agent (a ∷ agents) cores i none within = omega arith
+
+-- where a core is there, an agent is
+pub agents_there : (c : Configuration) (cores : List Centre) (i : ℕ) → (length c.agents ≡ 0 → cores ≡ []) → i < length cores
+    → 0 < length c.agents
+agents_there c cores i none within = some_agent c.agents cores i none within
+
+-- a core has the names of the agents
+pub names_at : (c : Configuration) (cores : List Centre) (i : ℕ) (x : Centre) → AreCores c cores
+    → (length c.agents ≡ 0 → cores ≡ []) → i < length cores → x ≡ get_or cores i x → x.origin.agents ≡ agent_names c
+names_at c cores i x are none within is =
+    let there = image_at (λ (y : Centre). y.origin) (origin_of c) cores c.centres i x (are (agents_there c cores i none within)) within is in
+    ap (λ (o : Origin). o.agents) there.1
+
+-- the history of a centre that is opened
+pub history_opened : (ss : List CentreConf) (cores : List Centre) (i : ℕ) (x : Centre) → i < length ss → i < length cores
+    → x ≡ get_or cores i x → slice_get (histories_of ss cores) i ≡ Some x.history
+history_opened [] cores i x within there is = absurd (omega arith)
+history_opened (s ∷ ss) [] i x within there is = absurd (omega arith)
+history_opened (s ∷ ss) (y ∷ ys) zero x within there is = sym (ap (λ (z : Centre). Some z.history) is)
+history_opened (s ∷ ss) (y ∷ ys) (suc i) x within there is = history_opened ss ys i x (omega (arith, within)) (omega (arith, there)) is
+
+-- the history of one that isn't
+pub history_unopened : (ss : List CentreConf) (cores : List Centre) (i : ℕ) → i < length ss → length cores ≤ i
+    → slice_get (histories_of ss cores) i ≡ Some []
+history_unopened [] cores i within none = absurd (omega arith)
+history_unopened (s ∷ ss) [] zero within none = refl
+history_unopened (s ∷ ss) [] (suc i) within none = history_unopened ss [] i (omega (arith, within)) (omega arith)
+history_unopened (s ∷ ss) (y ∷ ys) zero within none = absurd (omega (arith, none))
+history_unopened (s ∷ ss) (y ∷ ys) (suc i) within none = history_unopened ss ys i (omega (arith, within)) (omega (arith, none))

@@ -1,0 +1,60 @@
+//! What is written of a configuration that is refused.
+ghost use Rattle.std.specs.Prelude.{◌≡◌, IfOk};
+ghost use Rattle.tc_io.specs.Faults.{Counts};
+ghost use Rattle.tucson.specs.Answer.{cause_text, refused_text};
+ghost use Rattle.tucson.specs.Ending.{IsUnlessStopped, Writes, sink_of};
+
+use crate::status::Status;
+use crate::writing::written;
+use std::alloc::Global;
+use tc_config::ConfigCause;
+use tc_io::Sink;
+use tc_lists::{NoMemory, append_number};
+
+/// Writes that the configuration is refused.
+pub fn refused<K: Sink>(alloc: Global, clause: u32, cause: ConfigCause, sink: &mut K) -> Status
+    ensures wrote { Writes (Status.Refused clause cause) (refused_text clause cause)
+        (sink_of K.taken K.write_faults K.sure sink.old)
+        (sink_of K.taken K.write_faults K.sure sink.new) result }
+    ensures writes { Counts (result ≡ Status.WriteFault)
+        (K.write_faults sink.old) (K.write_faults sink.new) }
+    ensures unless { IsUnlessStopped (Status.Refused clause cause) result }
+    ensures reads { result ≡ Status.ReadFault → ⊥ }
+{
+    match refusal(alloc, clause, cause) {
+        Ok(text) => written(Status::Refused { clause, cause }, &text, sink),
+        Err(_) => Status::NoMemory,
+    }
+}
+
+// The line that names the first faulty clause, and why.
+fn refusal(alloc: Global, clause: u32, cause: ConfigCause) -> Result<Vec<u8>, NoMemory>
+    ensures { IfOk result (λ text. text.items ≡ refused_text clause cause) }
+{
+    let mut text = Vec::new(alloc);
+    text.extend_from_slice(b"configuration refused: clause ")?;
+    append_number(u64::from(clause), &mut text)?;
+    text.extend_from_slice(b": ")?;
+    text.extend_from_slice(words_of(cause))?;
+    text.push(b'\n')?;
+    Ok(text)
+}
+
+// The words of a cause.
+fn words_of(cause: ConfigCause) -> &'static [u8]
+    ensures { result.now ≡ cause_text cause }
+{
+    match cause {
+        ConfigCause::Syntax => b"syntax",
+        ConfigCause::Size => b"size",
+        ConfigCause::Shape => b"shape",
+        ConfigCause::Reaction => b"reaction",
+        ConfigCause::UnknownCentre => b"unknown centre",
+        ConfigCause::UnknownRole => b"unknown role",
+        ConfigCause::UnknownAgent => b"unknown agent",
+        ConfigCause::Twice => b"twice",
+        ConfigCause::NotGround => b"not ground",
+        ConfigCause::Count => b"count",
+        ConfigCause::Length => b"length",
+    }
+}

@@ -1,0 +1,167 @@
+//! The text of a run, written.
+ghost use Rattle.std.specs.Prelude.{◌≡◌, ◌<◌, [], All, OnOk, Some, length, slice_get};
+ghost use Rattle.tc_model.specs.Calls.{id_of};
+ghost use Rattle.tc_io.specs.Faults.{Counts};
+ghost use Rattle.tc_model.specs.Choices.{TheFirst};
+ghost use Rattle.tc_config.specs.Configurations.{agent_names, centre_names};
+ghost use Rattle.tc_config.specs.Good.{IsGood};
+ghost use Rattle.tc_desk.specs.Logs.{is_blocked};
+ghost use Rattle.tc_desk.specs.Text.{One, histories_text, logs_text, run_text};
+ghost use Rattle.tc_runner.specs.Cores.{AreCores, Goes, histories, rows_of};
+ghost use Rattle.tc_writing.specs.Flow.{HandsOn, flow};
+ghost use Rattle.tucson.specs.Answer.{IsOutcome};
+ghost use Rattle.tucson.specs.Ending.{IsEndOfRun, IsStopped, IsUnlessStopped, Tells, Writes, sink_of};
+ghost use Rattle.tucson.specs.Status.{status_of_run};
+
+use crate::status::Status;
+use std::alloc::Global;
+use tc_centre::Core;
+use tc_desk::{LogRow, has_pending};
+use tc_io::{Sink, SinkFault, write_all};
+use tc_model::Entry;
+use tc_runner::{Opened, Plan};
+use tc_term::Name;
+use tc_writing::{write_end, write_history, write_log, write_version};
+
+/// Writes a text. What stops the writing comes in place of the status.
+pub fn written<K: Sink>(status: Status, text: &[u8], sink: &mut K) -> Status
+    requires { IsStopped status → ⊥ }
+    ensures wrote { Writes status text.now (sink_of K.taken K.write_faults K.sure sink.old)
+        (sink_of K.taken K.write_faults K.sure sink.new) result }
+    ensures writes { Counts (result ≡ Status.WriteFault)
+        (K.write_faults sink.old) (K.write_faults sink.new) }
+    ensures unless { IsUnlessStopped status result }
+    ensures reads { result ≡ Status.ReadFault → ⊥ }
+{
+    match write_all(sink, text) {
+        Ok(()) => status,
+        Err(SinkFault::Failed) => Status::WriteFault,
+        Err(SinkFault::NoMemory) => Status::NoMemory,
+    }
+}
+
+/// Writes the histories and the logs of a run that has come to its end.
+pub fn write_run<K: Sink>(alloc: Global, run: &Opened, sink: &mut K) -> Status
+    requires good { IsGood TheFirst run.now.plan (histories run.now.plan run.now.cores.items)
+        (rows_of run.now.logs.items) }
+    requires goes { Goes run.now.plan run.now.cores.items (rows_of run.now.logs.items) }
+    requires none { length run.now.plan.agents ≡ 0 → run.now.cores.items ≡ [] }
+    ensures tells { Tells (IsOutcome run.now.plan) (sink_of K.taken K.write_faults K.sure sink.old)
+        (sink_of K.taken K.write_faults K.sure sink.new) result }
+    ensures writes { Counts (result ≡ Status.WriteFault)
+        (K.write_faults sink.old) (K.write_faults sink.new) }
+    ensures reads { result ≡ Status.ReadFault → ⊥ }
+    ensures runs { IsEndOfRun result }
+{
+    let blocked = is_blocked(&run.logs);
+    let mut kept = Vec::new(alloc);
+    match write_text(alloc, run, blocked, sink, &mut kept) {
+        Ok(()) => ended(blocked),
+        Err(SinkFault::Failed) => Status::WriteFault,
+        Err(SinkFault::NoMemory) => Status::NoMemory,
+    }
+}
+
+// The status of a run.
+fn ended(blocked: bool) -> Status
+    ensures { result ≡ status_of_run blocked }
+{
+    if blocked {
+        Status::Blocked
+    } else {
+        Status::Ended
+    }
+}
+
+// Hands on the whole text, and writes it to its end.
+fn write_text<K: Sink>(
+    alloc: Global,
+    run: &Opened,
+    blocked: bool,
+    sink: &mut K,
+    kept: &mut Vec<u8>,
+) -> Result<(), SinkFault>
+    requires blocked { blocked ≡ is_blocked (rows_of run.now.logs.items) }
+    requires goes { Goes run.now.plan run.now.cores.items (rows_of run.now.logs.items) }
+    requires none { length run.now.plan.agents ≡ 0 → run.now.cores.items ≡ [] }
+    ensures hands { HandsOn (run_text One (centre_names run.now.plan) (agent_names run.now.plan)
+        (histories run.now.plan run.now.cores.items) (rows_of run.now.logs.items))
+        (flow K.taken K.write_faults K.sure sink.old kept.old.items)
+        (flow K.taken K.write_faults K.sure sink.new kept.new.items) result }
+    ensures empty { OnOk result (kept.new.items ≡ []) }
+{
+    write_version(sink, kept)?;
+    write_histories(alloc, &run.plan, &run.cores, sink, kept)?;
+    write_logs(alloc, &run.plan, &run.logs, sink, kept)?;
+    write_end(blocked, sink, kept)
+}
+
+// Whether some agent's ask is pending.
+fn is_blocked(logs: &[Vec<LogRow>]) -> bool
+    ensures { result ≡ is_blocked (rows_of logs.now) }
+{
+    for log in logs {
+        if has_pending(log) {
+            return true;
+        }
+    }
+    false
+}
+
+// Hands on the history of each centre. One that isn't opened has none.
+fn write_histories<K: Sink>(
+    alloc: Global,
+    plan: &Plan,
+    cores: &[Core],
+    sink: &mut K,
+    kept: &mut Vec<u8>,
+) -> Result<(), SinkFault>
+    requires cores { AreCores plan.now cores.now }
+    requires none { length plan.now.agents ≡ 0 → cores.now ≡ [] }
+    ensures { HandsOn (histories_text (agent_names plan.now) (centre_names plan.now)
+        (histories plan.now cores.now))
+        (flow K.taken K.write_faults K.sure sink.old kept.old.items)
+        (flow K.taken K.write_faults K.sure sink.new kept.new.items) result }
+{
+    let centres = plan.centres();
+    for place in 0..centres.len() {
+        let (agents, history) = history_at(plan, cores, place);
+        write_history(alloc, agents, &centres[place], history, sink, kept)?;
+    }
+    Ok(())
+}
+
+// The history of the centre at this place, with the names of the agents. One that isn't opened has none.
+fn history_at<'a>(plan: &Plan, cores: &'a [Core], place: usize) -> (&'a [Name], &'a [Entry])
+    requires cores { AreCores plan.now cores.now }
+    requires none { length plan.now.agents ≡ 0 → cores.now ≡ [] }
+    requires place { place < length plan.now.centres }
+    ensures agents { result.0.now ≡ agent_names plan.now }
+    ensures history { slice_get (histories plan.now cores.now) place ≡ Some result.1.now }
+    ensures run { All (λ e. (id_of e).agent < length (agent_names plan.now)) result.1.now }
+{
+    match cores.get(place) {
+        Some(core) => (core.agents(), core.history()),
+        None => (&[], &[]),
+    }
+}
+
+// Hands on the log of each agent.
+fn write_logs<K: Sink>(
+    alloc: Global,
+    plan: &Plan,
+    logs: &[Vec<LogRow>],
+    sink: &mut K,
+    kept: &mut Vec<u8>,
+) -> Result<(), SinkFault>
+    requires { length logs.now ≡ length plan.now.agents }
+    ensures { HandsOn (logs_text One (agent_names plan.now) (rows_of logs.now))
+        (flow K.taken K.write_faults K.sure sink.old kept.old.items)
+        (flow K.taken K.write_faults K.sure sink.new kept.new.items) result }
+{
+    let agents = plan.agents();
+    for place in 0..agents.len() {
+        write_log(alloc, &agents[place].name, &logs[place], sink, kept)?;
+    }
+    Ok(())
+}
