@@ -1,9 +1,7 @@
 -- The history of each centre, by place.
-use Rattle.std.proofs.Common.{◌≡◌, ◌<◌, ◌≤◌, ◌∙◌, ℕ, zero, suc, List, [], ◌∷◌, Some, None, All, length, map, get_or, sym, subst, ap, refl, arith}
+use Rattle.std.proofs.Common.{◌≡◌, ◌<◌, ◌≤◌, ◌∙◌, ℕ, zero, suc, List, [], ◌∷◌, Some, length, map, get_or, sym, ap, refl, arith}
 use Rattle.std.specs.Prelude.{slice_get}
-use Rattle.tc_model.specs.Calls.{id_of}
 use Rattle.tc_model.specs.State.{Origin}
-use Rattle.tc_model.specs.declared.entries.Entry.{Entry}
 use Rattle.tc_centre.specs.Centre.{Centre}
 use Rattle.tc_config.specs.Configurations.{Configuration, agent_names}
 use Rattle.tc_config.specs.Good.{origin_of}

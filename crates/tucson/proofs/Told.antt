@@ -1,6 +1,6 @@
 -- What is told of a run, from what was handed on of its text.
-use Rattle.std.proofs.Common.{◌≡◌, ◌∙◌, ℕ, Bool, true, false, IsTrue, List, [], ◌++◌, Result, Ok, Err, inl, inr, refl, sym, ap, subst}
-use Rattle.tc_io.specs.Sinks.{SinkState, AppendsFront, appended}
+use Rattle.std.proofs.Common.{◌≡◌, ◌∙◌, ℕ, Bool, true, false, IsTrue, List, [], Result, Ok, Err, inl, inr, refl, sym, ap, subst}
+use Rattle.tc_io.specs.Sinks.{SinkState, appended}
 use Rattle.tc_io.specs.declared.sinks.SinkFault.{SinkFault}
 use Rattle.tc_io.specs.declared.sinks.SinkFault.TheVariants as fault
 use Rattle.tc_model.specs.Choices.{TheFirst}

@@ -1,5 +1,5 @@
 -- The words of a call.
-use Rattle.std.proofs.Common.{◌≡◌, ◌≤◌, ◌<◌, ◌↔◌, ◌∙◌, ℕ, Bool, IsTrue, true, false, ◌&&◌, refl, List, [], ◌∷◌, Vec, Global, inl, inr, length, get_or, map, codes, sym, ap, arith, subst}
+use Rattle.std.proofs.Common.{◌≡◌, ◌≤◌, ◌<◌, ◌↔◌, ◌∙◌, ℕ, Bool, IsTrue, true, false, ◌&&◌, refl, List, [], ◌∷◌, Vec, Global, inl, inr, length, get_or, map, codes, sym, ap, arith}
 use Rattle.tucson.specs.Answer.{IsRun}
 
 abbrev bytes : Vec ℕ Global → List ℕ

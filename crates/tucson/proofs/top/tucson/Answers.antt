@@ -1,4 +1,4 @@
-use Rattle.std.proofs.Common.{◌≡◌, ℕ, List, Vec, Global, Err, map, refl, ap, subst, rules}
+use Rattle.std.proofs.Common.{ℕ, List, Vec, Global, Err, map, refl, ap, subst, rules}
 use Rattle.tc_config.specs.Configurations.{Configuration}
 use Rattle.tc_config.specs.Texts.{IsRefused, Spells}
 use Rattle.tc_config.specs.declared.faults.ConfigCause.{ConfigCause}

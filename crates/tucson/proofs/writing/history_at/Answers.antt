@@ -1,4 +1,4 @@
-use Rattle.std.proofs.Common.{◌≡◌, ◌∙◌, ◌<◌, ◌≤◌, ℕ, List, All, Some, length, subst, sym, ap, rules}
+use Rattle.std.proofs.Common.{◌∙◌, ◌<◌, ◌≤◌, ℕ, List, All, Some, length, subst, sym, ap, rules}
 use Rattle.tc_model.specs.Calls.{id_of}
 use Rattle.tc_model.specs.declared.entries.Entry.{Entry}
 use Rattle.tc_config.specs.Configurations.{agent_names}

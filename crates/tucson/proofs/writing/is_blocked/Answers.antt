@@ -1,4 +1,4 @@
-use Rattle.std.proofs.Common.{◌≡◌, ◌∙◌, ap, sym, rules, true}
+use Rattle.std.proofs.Common.{◌≡◌, ◌∙◌, ap, sym, true}
 use Rattle.tc_desk.specs.Logs.{any_pending}
 use Rattle.tucson.proofs.Runs.{blocked_at}
 use Rattle.tucson.proofs.writing.is_blocked.Goals as goal
