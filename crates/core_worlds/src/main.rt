@@ -2,7 +2,8 @@
 //!
 //! A world is a clause: a name, the budget of reactions, the text of the clauses, the tuples, and
 //! what agents call, one step after another. In `drawn(COUNT,SEED)` so many worlds are drawn, and
-//! what was seen of them is counted.
+//! what was seen of them is counted. Of `origin(NAME,AGENTS,BUDGET)` it is told whether a centre may
+//! begin so.
 //!
 //! ```text
 //! world(counter, 100, 'reaction(out(inc),(in_r(inc),in_r(n(X)),Y is X + 1,out_r(n(Y)))).',
@@ -19,6 +20,7 @@ mod counts;
 mod draws;
 mod fault;
 mod lists;
+mod origins;
 mod run;
 mod states;
 mod worlds;

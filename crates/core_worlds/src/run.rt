@@ -138,7 +138,7 @@ fn act(alloc: Global, core: &mut Core, step: Step) -> Result<Option<Refused>, Wo
         return Err(WorldFault::NoWorld("an agent has no further call"));
     };
     match act {
-        Act::Call(op) => Ok(call(alloc, core, id, op)),
+        Act::Call(op) => Ok(call(alloc, core, id, op.copy(alloc)?)),
         Act::Look(asked) => Ok(look(alloc, core, id, asked)),
     }
 }

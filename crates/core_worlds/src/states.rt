@@ -61,15 +61,16 @@ pub fn print_entries(
     Ok(())
 }
 
-// Appends an entry, whose agent is one of these: else nothing.
+// Appends a copy of an entry, whose agent is one of these: else nothing.
 fn print_line(
     alloc: Global,
     agents: &[Name],
     entry: &Entry,
     into: &mut Vec<u8>,
 ) -> Result<(), NoMemory> {
-    if (caller(entry).agent as usize) < agents.len() {
-        print_entry(alloc, agents, entry, into)?;
+    let copy = entry.copy(alloc)?;
+    if (caller(&copy).agent as usize) < agents.len() {
+        print_entry(alloc, agents, &copy, into)?;
     }
     Ok(())
 }

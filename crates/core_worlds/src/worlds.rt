@@ -2,6 +2,7 @@
 use crate::counts::Counts;
 use crate::draws::draw_worlds;
 use crate::fault::WorldFault;
+use crate::origins::{Beginning, show_origin};
 use crate::run::show_world;
 use std::alloc::Global;
 use tc_lists::append_number;
@@ -43,6 +44,8 @@ fn tell(alloc: Global, clause: &Term, again: bool, into: &mut Vec<u8>) -> Result
     } else if let Some((count, seed)) = drawn_of(clause) {
         let counts = draw_worlds(alloc, count, seed)?;
         print_counts(count, &counts, into)
+    } else if let Some(beginning) = beginning_of(clause) {
+        show_origin(alloc, beginning, into)
     } else {
         Err(WorldFault::NoWorld("it has another form"))
     }
@@ -86,6 +89,24 @@ fn drawn_of(clause: &Term) -> Option<(u32, u64)> {
         [Term::Int(count), Term::Int(seed)] => {
             Some((u32::try_from(*count).ok()?, seed.unsigned_abs()))
         }
+        _ => None,
+    }
+}
+
+// What a centre is to begin with, of which it is told whether it may.
+fn beginning_of(clause: &Term) -> Option<Beginning<'_>> {
+    let Term::Comp(word, args) = clause else {
+        return None;
+    };
+    if word.bytes() != b"origin".as_slice() {
+        return None;
+    }
+    match args.items() {
+        [Term::Atom(name), agents, Term::Int(budget)] => Some(Beginning {
+            name,
+            agents,
+            budget: u32::try_from(*budget).ok()?,
+        }),
         _ => None,
     }
 }

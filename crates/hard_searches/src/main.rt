@@ -14,7 +14,7 @@ use std::process::ExitCode;
 fn main(rt: HostRuntime) -> anyhow::Result<ExitCode> {
     let alloc = rt.alloc();
     let mut all = true;
-    let rows: [(&str, bool); 7] = [
+    let rows: [(&str, bool); 11] = [
         ("a million tuples of one key", bags::a_million(alloc)?),
         ("many takes under one mark", bags::many_takes(alloc)?),
         ("first arguments of one code", bags::first_arguments(alloc)?),
@@ -25,6 +25,16 @@ fn main(rt: HostRuntime) -> anyhow::Result<ExitCode> {
         ("names of one code", bags::names(alloc)?),
         ("requests of one code", requests::names(alloc)?),
         ("requests that come back", requests::returns(alloc)?),
+        ("the oldest request", requests::oldest(alloc)?),
+        (
+            "requests removed within marks",
+            requests::removed_within(alloc)?,
+        ),
+        (
+            "requests exchanged within marks",
+            requests::exchanged_within(alloc)?,
+        ),
+        ("a request's copy", requests::copies(alloc)?),
     ];
     for (name, is_right) in rows {
         let word = if is_right { "right" } else { "wrong" };

@@ -10,12 +10,14 @@ use tc_term::{Pattern, Term};
 
 // Adds the request of the first agent for a tuple.
 fn ask(pending: &mut Pending, term: Term) -> Result<(), Fault> {
+    ask_for(pending, 0, term)
+}
+
+// Adds the request of an agent for a tuple.
+fn ask_for(pending: &mut Pending, agent: u32, term: Term) -> Result<(), Fault> {
     match Pattern::of(term) {
         Ok(template) => Ok(pending.add(Request {
-            id: CallId {
-                agent: 0,
-                number: 1,
-            },
+            id: CallId { agent, number: 1 },
             takes: true,
             template,
         })?),
@@ -107,4 +109,119 @@ fn remove(pending: &mut Pending, place: usize) {
     if place < pending.list().len() {
         pending.remove(place);
     }
+}
+
+// Requests for these, of the agents 0, 1, ..: for the tuple p(n), and for 0 for any.
+fn requests_for(alloc: Global, numbers: &[i64]) -> Result<Pending, Fault> {
+    let mut pending = Pending::new(alloc);
+    let mut agent: u32 = 0;
+    for number in numbers {
+        let wanted = if *number == 0 {
+            Term::Var(0)
+        } else {
+            Term::Int(*number)
+        };
+        ask_for(&mut pending, agent, applied(alloc, b"p", wanted)?)?;
+        agent = agent.wrapping_add(1);
+    }
+    Ok(pending)
+}
+
+// The bag of the tuples p(n).
+fn bag_of(alloc: Global, numbers: &[i64]) -> Result<Bag, Fault> {
+    let mut bag = Bag::new(alloc);
+    for number in numbers {
+        add(&mut bag, applied(alloc, b"p", Term::Int(*number))?)?;
+    }
+    Ok(bag)
+}
+
+// Requests for these, the tuples that are there, and which request is answered next by which tuple.
+type Row<'a> = (&'a [i64], &'a [i64], Option<(usize, u64)>);
+
+/// The oldest request that a tuple answers is next, and gets the oldest such tuple.
+pub fn oldest(alloc: Global) -> Result<bool, Fault> {
+    let rows: [Row; 6] = [
+        (&[], &[1], None),
+        (&[1], &[], None),
+        (&[1, 2], &[3], None),
+        (&[1, 2, 2], &[3, 2], Some((1, 1))),
+        (&[0, 2], &[3, 2], Some((0, 0))),
+        (&[9, 0], &[4, 5], Some((1, 0))),
+    ];
+    let mut all = true;
+    for (wanted, there, place) in rows {
+        let pending = requests_for(alloc, wanted)?;
+        let found = pending.oldest_answerable(&bag_of(alloc, there)?)?;
+        all = found == place && all;
+    }
+    Ok(all)
+}
+
+// Whether the requests are those of these agents.
+fn are_of(pending: &Pending, agents: &[u32]) -> bool {
+    let requests = pending.list();
+    if requests.len() != agents.len() {
+        return false;
+    }
+    for (request, agent) in requests.iter().zip(agents) {
+        if request.id.agent != *agent {
+            return false;
+        }
+    }
+    true
+}
+
+/// What is removed under a mark within a mark comes back with its own mark, or with the outer one where
+/// its own was given up.
+pub fn removed_within(alloc: Global) -> Result<bool, Fault> {
+    let mut pending = requests_for(alloc, &[1, 2, 3])?;
+    pending.mark()?;
+    remove(&mut pending, 1);
+    let outer = are_of(&pending, &[0, 2]);
+    pending.mark()?;
+    remove(&mut pending, 0);
+    pending.undo();
+    let back = are_of(&pending, &[0, 2]);
+    pending.mark()?;
+    remove(&mut pending, 1);
+    pending.keep();
+    let kept = are_of(&pending, &[0]);
+    pending.undo();
+    Ok(outer && back && kept && are_of(&pending, &[0, 1, 2]))
+}
+
+// Removes the request at a place, and adds one of this agent behind the others.
+fn exchange(alloc: Global, pending: &mut Pending, place: usize, agent: u32) -> Result<(), Fault> {
+    remove(pending, place);
+    ask_for(pending, agent, applied(alloc, b"p", Term::Int(1))?)
+}
+
+/// Requests that were removed and added under marks within marks come back in order.
+pub fn exchanged_within(alloc: Global) -> Result<bool, Fault> {
+    let mut pending = requests_for(alloc, &[1, 2, 3])?;
+    pending.mark()?;
+    exchange(alloc, &mut pending, 0, 3)?;
+    exchange(alloc, &mut pending, 2, 4)?;
+    let outer = are_of(&pending, &[1, 2, 4]);
+    pending.mark()?;
+    exchange(alloc, &mut pending, 1, 5)?;
+    exchange(alloc, &mut pending, 0, 6)?;
+    exchange(alloc, &mut pending, 1, 7)?;
+    let inner = are_of(&pending, &[4, 6, 7]);
+    pending.undo();
+    let back = are_of(&pending, &[1, 2, 4]);
+    pending.undo();
+    Ok(outer && inner && back && are_of(&pending, &[0, 1, 2]))
+}
+
+/// A copy of a request asks for the same.
+pub fn copies(alloc: Global) -> Result<bool, Fault> {
+    let pending = requests_for(alloc, &[5])?;
+    let [request] = pending.list() else {
+        return Ok(false);
+    };
+    let copy = request.copy(alloc)?;
+    let wanted = applied(alloc, b"p", Term::Int(5))?;
+    Ok(copy.takes && copy.id == request.id && *copy.template.term() == wanted)
 }

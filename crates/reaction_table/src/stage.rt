@@ -54,7 +54,7 @@ impl Stage {
             b"text" => self.read(alloc, &text_of(alloc, args)?, into)?,
             b"printed" => self.print(alloc, into)?,
             b"triggered" => self.trigger(alloc, into)?,
-            _ => self.event = Some(event_of(alloc, name, args)?),
+            _ => self.event = Some(event_of(alloc, name, args)?.copy(alloc)?),
         }
         Ok(())
     }
@@ -76,6 +76,7 @@ impl Stage {
             return Err(anyhow!("a reaction needs an event"));
         };
         let context = Context::new(Name::new(alloc, b"ann")?, Name::new(alloc, b"desk")?);
+        let context = context.copy(alloc)?;
         let mut bag = bag_of(alloc, &self.tuples)?;
         let (item, events) = execute(alloc, reaction, 1, 1, event, &context, &mut bag)?;
         print_outcome(alloc, &item, &events, &bag, into)?;

@@ -16,8 +16,6 @@
 mod evaluation;
 mod laws;
 mod operators;
-#[cfg(test)]
-mod tests;
 
 pub use evaluation::{compare, eval};
 pub use laws::{

@@ -19,8 +19,6 @@ mod laws;
 mod log;
 mod rows;
 mod slots;
-#[cfg(test)]
-mod tests;
 
 pub use bag::{Bag, PutFault};
 pub use key::{Key, known_first};

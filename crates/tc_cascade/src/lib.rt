@@ -14,8 +14,6 @@
 
 mod cascade;
 mod queue;
-#[cfg(test)]
-mod tests;
 
 pub use cascade::{Cascade, run, run_in};
 pub use tc_lists::NoMemory;

@@ -29,8 +29,6 @@ mod origins;
 mod outcomes;
 mod reactions;
 mod scripts;
-#[cfg(test)]
-mod tests;
 
 pub use asks::{Ask, Primitive};
 pub use calls::{CallId, Op, Request};

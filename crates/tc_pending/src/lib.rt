@@ -18,8 +18,6 @@ mod codes;
 mod index;
 mod numbers;
 mod pending;
-#[cfg(test)]
-mod tests;
 mod waiters;
 
 pub use answering::Known;

@@ -19,6 +19,3 @@ pub use terms::print_term;
 
 /// Memory has run out.
 pub use tc_lists::NoMemory;
-
-#[cfg(test)]
-mod tests;

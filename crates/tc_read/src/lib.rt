@@ -49,6 +49,3 @@ pub use laws::{
 pub use quote::read_quoted;
 pub use read::{read_clause, read_term};
 pub use tc_lists::NoMemory;
-
-#[cfg(test)]
-mod tests;

@@ -11,8 +11,6 @@
 
 mod matching;
 mod search;
-#[cfg(test)]
-mod tests;
 
 pub use matching::does_match;
 pub use search::{oldest_match, oldest_match_of};

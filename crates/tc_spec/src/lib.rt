@@ -40,6 +40,3 @@ pub use reading::reaction_of;
 pub use spec::Spec;
 pub use tc_lists::NoMemory;
 pub use texts::read_spec;
-
-#[cfg(test)]
-mod tests;

@@ -14,9 +14,9 @@ use tc_model::{EventOp, Reaction};
 use tc_term::Term;
 
 // The most parts: more would take memory, where clauses with a variable for a head are in each.
-const MOST_PARTS: usize = 256;
+const MOST_PARTS: usize = 512;
 
-/// The numbers of the clauses in parts, of which there are one to 256, and no more than clauses.
+/// The numbers of the clauses in parts, of which there are one to 512, and no more than clauses.
 ///
 /// A clause is in the part of its code, and one whose head is a variable is in each. Takes time in the
 /// number of clauses times that of parts.

@@ -54,7 +54,7 @@ impl Spec {
     ghost use Rattle.tc_model.specs.Triggers.{AreTriggered};
     ghost use Rattle.tc_spec.specs.Indexed.{HasOp};
 
-    /// The clauses with their index. Takes the time of their heads, and up to 256 steps for each.
+    /// The clauses with their index. Takes the time of their heads, and up to 512 steps for each.
     pub fn of(alloc: Global, clauses: Clauses) -> Result<Spec, NoMemory>
         ensures { IfOk result (λ spec. spec ≡ clauses) }
     {

@@ -23,8 +23,6 @@ mod name;
 mod numbering;
 mod template;
 mod terms;
-#[cfg(test)]
-mod tests;
 mod tuple;
 
 pub use comparison::Cmp;
