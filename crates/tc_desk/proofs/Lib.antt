@@ -2,3 +2,5 @@ pub mod Operations
 pub mod Filling
 pub mod Histories
 pub mod Texts
+pub mod Growing
+pub mod Fitting

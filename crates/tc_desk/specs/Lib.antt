@@ -3,3 +3,7 @@ pub mod Operands
 pub mod Asks
 pub mod Served
 pub mod Text
+pub mod Decided
+pub mod Fits
+pub mod Desks
+pub mod Agreeing

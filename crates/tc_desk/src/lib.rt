@@ -11,13 +11,17 @@
 //! ```
 #![tactic(auto)]
 
+mod desks;
 mod gates;
 mod laws;
 mod rows;
+mod wardens;
 
+pub use desks::{Desk, DeskFault, Seen, Served};
 pub use gates::{Gate, NoGate};
 pub use laws::{
-    ask_is_one_operation, results_stay, scripts_ask_one_thing, scripts_fix_what_they_need,
-    text_grows_by_parts,
+    ask_is_one_operation, logs_go_on_agreeing, results_fit_their_asks, results_stay,
+    scripts_ask_one_thing, scripts_fix_what_they_need, text_grows_by_parts,
 };
 pub use rows::{LogResult, LogRow, Refusal, has_pending};
+pub use wardens::Warden;

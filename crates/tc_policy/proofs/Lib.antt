@@ -1,2 +1,3 @@
 pub mod FirstPlaces
 pub mod Indexes
+pub mod Numbers

@@ -29,6 +29,10 @@ abbrev pub first_place : Grant → List Grant → Option ℕ
 first_place g [] = None
 first_place g (h ∷ hs) = if same_grant h g then Some 0 else option_map suc (first_place g hs)
 
+-- the first number of a grant, counted from 1, where it stands in the list
+abbrev pub first_number : Grant → List Grant → Option ℕ
+first_number g grants = option_map suc (first_place g grants)
+
 -- each grant has its first place
 abbrev pub IsIndex : (Grant → Option ℕ) → List Grant → Type 0
 IsIndex place_of grants = (g : Grant) → place_of g ≡ first_place g grants

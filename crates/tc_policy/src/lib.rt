@@ -14,10 +14,12 @@
 mod grants;
 mod places;
 mod roles;
+mod warden;
 
 pub use grants::{Grant, MOST_GRANTS};
 pub use roles::Roles;
 pub use tc_lists::NoMemory;
+pub use warden::numbers_are_of_grants;
 
 #[cfg(test)]
 mod tests;
