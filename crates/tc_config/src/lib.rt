@@ -33,6 +33,3 @@ pub use laws::{
 pub use limits::{MOST_AGENTS, MOST_BYTES, MOST_CENTRES, MOST_ITEMS, MOST_ROLES, USUAL_BUDGET};
 pub use reading::read_config;
 pub use tc_lists::NoMemory;
-
-#[cfg(test)]
-mod tests;

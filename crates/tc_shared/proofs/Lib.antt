@@ -3,3 +3,4 @@ pub mod Turns
 pub mod Waiting
 pub mod Fresh
 pub mod Kept
+pub mod Sends

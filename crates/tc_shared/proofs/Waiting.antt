@@ -18,6 +18,7 @@ pub record Ahead (t : TurnstileState Origin) (p r : PassState Entry Origin) (m :
   pub own : IsPassOf t r
   pub known : IsPrefix p.seen r.seen
   pub after : r ≡ record p { turns = r.turns; seen = r.seen; floor = r.floor }
+  pub fell : r.turns ≤ p.turns
   pub turns : p.turns + length p.seen ≤ r.turns + m
   pub near : m ≤ length r.seen + 1
   pub far : (k : ℕ) → r.floor ≤ k → length r.seen ≤ k → m ≤ k
@@ -28,6 +29,7 @@ module _ (t : TurnstileState Origin) (p : PassState Entry Origin) where
     own = own;
     known = IsPrefix-whole p.seen;
     after = refl;
+    fell = omega arith;
     turns = omega arith;
     near = omega arith;
     far = λ k floor long. long;
@@ -35,8 +37,9 @@ module _ (t : TurnstileState Origin) (p : PassState Entry Origin) where
 
   pub ahead-rested : (l r : PassState Entry Origin) → IsPassOf t l → IsPrefix p.seen l.seen
       → l ≡ record p { turns = l.turns; seen = l.seen; floor = l.floor }
-      → p.turns + length p.seen ≤ l.turns + length l.seen + 1 → Rests t l r → Ahead t p r (length l.seen + 1)
-  ahead-rested l r own known after turns rests =
+      → p.turns + length p.seen ≤ l.turns + length l.seen + 1 → l.turns ≤ p.turns → Rests t l r
+      → Ahead t p r (length l.seen + 1)
+  ahead-rested l r own known after turns fell rests =
       let is : r ≡ record l { floor = r.floor } = rests.after in
       let same_turns : r.turns ≡ l.turns = ap (λ (x : PassState Entry Origin). x.turns) is in
       let same_seen : r.seen ≡ l.seen = ap (λ (x : PassState Entry Origin). x.seen) is in
@@ -50,6 +53,7 @@ module _ (t : TurnstileState Origin) (p : PassState Entry Origin) where
         after = is ∙ ap (λ (x : PassState Entry Origin). record x { floor = r.floor }) after
             ∙ ap (λ (n : ℕ). record p { turns = n; seen = l.seen; floor = r.floor }) (sym same_turns)
             ∙ ap (λ (h : List Entry). record p { turns = r.turns; seen = h; floor = r.floor }) (sym same_seen);
+        fell = omega (arith, fell, same_turns);
         turns = omega (arith, turns, same_turns);
         near = omega (arith, same_length);
         far = λ k floor long. omega (arith, floor, above);
@@ -66,8 +70,10 @@ module _ (t : TurnstileState Origin) (p : PassState Entry Origin) where
         let far = ahead.far (length n.seen) sees.finds.floor more in
         let some = sees.finds.left in
         let turns = ahead.turns in
+        let fell = ahead.fell in
         record {
           own = sees.finds.own;
+          fell = omega (arith, fewer, fell);
           turns = omega (arith, fewer, far, some, turns);
           known = IsPrefix-trans p.seen r.seen n.seen ahead.known sees.finds.known;
           after = is
@@ -81,7 +87,7 @@ module _ (t : TurnstileState Origin) (p : PassState Entry Origin) where
         let near = ahead.near in
         let turns = ahead.turns in
         subst (Waits t p) (sym refused.1)
-        (record { own = ahead.own; turns = omega (arith, near, turns); known = ahead.known; after = ahead.after })
+        (record { own = ahead.own; fell = ahead.fell; turns = omega (arith, near, turns); known = ahead.known; after = ahead.after })
     refused-waits look.NoMemory refused = seen-waits refused
 
 -- a call that the pass knew stands in what it knows later

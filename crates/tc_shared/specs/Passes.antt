@@ -181,6 +181,7 @@ pub record Rests (t : TurnstileState Origin) (p q : PassState Entry Origin) : Ty
 -- some turns were taken that added nothing, at most one more than the entries that are newly seen
 pub record Waits (t : TurnstileState Origin) (p q : PassState Entry Origin) : Type 0 where
   pub own : IsPassOf t q
+  pub fell : q.turns ≤ p.turns
   pub turns : p.turns + length p.seen ≤ q.turns + length q.seen + 1
   pub known : IsPrefix p.seen q.seen
   pub after : q ≡ record p { turns = q.turns; seen = q.seen; floor = q.floor }

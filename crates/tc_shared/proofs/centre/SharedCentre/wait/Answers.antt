@@ -21,7 +21,7 @@ returns-in-Err-look-clause-waited g c =
     let l = c.loop.pass in
     let i = c.loop.invariant in
     refused-waits t p c.rest.new.pass c.look-in-loop.new.pass (length l.seen + 1)
-    (ahead-rested t p l c.rest.new.pass i.own i.known i.after i.turns c.rest.ensures) c.in-Err-look.fault c.in-Err-look.ensures.refused
+    (ahead-rested t p l c.rest.new.pass i.own i.known i.after i.turns i.fell c.rest.ensures) c.in-Err-look.fault c.in-Err-look.ensures.refused
 
 pub loop-preserved : goal.loop-preserved
 loop-preserved g c =
@@ -33,7 +33,7 @@ loop-preserved g c =
     let n = c.look-in-loop.new.pass in
     let sees = c.in-Ok-None-look.ensures.seen.0 in
     let waits : Waits t p n = seen-waits t p r n (length l.seen + 1)
-    (ahead-rested t p l r i.own i.known i.after i.turns c.rest.ensures) sees in
+    (ahead-rested t p l r i.own i.known i.after i.turns i.fell c.rest.ensures) sees in
     let same : r.number ≡ p.number =
     ap (λ (x : PassState Entry Origin). x.number) c.rest.ensures.after ∙ ap (λ (x : PassState Entry Origin). x.number) i.after in
     record {
@@ -44,6 +44,7 @@ loop-preserved g c =
       some = i.some;
       none = ap (λ (k : ℕ). reply_in n.seen (record { agent = k; number = c.args.number })) (sym same) ∙ sym c.in-Ok-None-look.ensures.seen.1 ∙ c.in-Ok-None-look.field-0-is;
       called = called-later t l r n c.args.number i.called c.rest.ensures sees;
+      fell = waits.fell;
       turns = waits.turns;
       known = waits.known;
       after = waits.after;

@@ -14,6 +14,7 @@ invariant-loop g l = record {
   some : 0 < l.fn.pass.turns;
   none : reply_in l.pass.seen (call_id l.fn.pass l.number) ≡ None;
   called : HasCall (call_id l.pass l.number) l.pass.seen;
+  fell : l.pass.turns ≤ l.fn.pass.turns;
   turns : l.fn.pass.turns + length l.fn.pass.seen ≤ l.pass.turns + length l.pass.seen + 1;
   known : IsPrefix l.fn.pass.seen l.pass.seen;
   after : l.pass ≡ record l.fn.pass { turns = l.pass.turns; seen = l.pass.seen; floor = l.pass.floor };
