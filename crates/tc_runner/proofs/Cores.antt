@@ -47,7 +47,7 @@ module _ (c : Configuration) (some : 0 < length c.agents) where
   cores-whole cores are =
       sym (length-map cores (λ (x : Centre). x.origin)) ∙ ap length (are some) ∙ length-map c.centres (origin_of c)
 
-  histories-map : (cores : List Centre) → AreCores c cores → histories c cores ≡ map (λ (x : Centre). x.history) cores
+  pub histories-map : (cores : List Centre) → AreCores c cores → histories c cores ≡ map (λ (x : Centre). x.history) cores
   histories-map cores are = histories_of-map c.centres cores (cores-whole cores are)
 
   -- the core of a centre

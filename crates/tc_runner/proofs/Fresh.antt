@@ -22,7 +22,7 @@ use Rattle.tc_runner.specs.Cores.{AreCores, histories, histories_of}
 use Rattle.tc_runner.specs.Plans.{AreAgentNames, IsFresh, fresh_core, fresh_cores, names_of}
 
 -- each centre has a history
-histories-whole : (ss : List CentreConf) (xs : List Centre) → length (histories_of ss xs) ≡ length ss
+pub histories-whole : (ss : List CentreConf) (xs : List Centre) → length (histories_of ss xs) ≡ length ss
 histories-whole [] xs = refl
 histories-whole (s ∷ ss) [] = let rest = histories-whole ss [] in omega (arith, rest)
 histories-whole (s ∷ ss) (x ∷ xs) = let rest = histories-whole ss xs in omega (arith, rest)

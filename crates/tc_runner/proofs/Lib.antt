@@ -11,3 +11,4 @@ pub mod Looking
 pub mod Sweeping
 pub mod Fresh
 pub mod Turns
+pub mod Exchanges

@@ -15,5 +15,5 @@ mod steps;
 
 pub use opening::{Opened, open};
 pub use plans::Plan;
-pub use running::finish;
+pub use running::{finish, go_on};
 pub use tc_lists::NoMemory;

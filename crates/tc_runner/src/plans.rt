@@ -35,8 +35,8 @@ impl Plan {
     ghost use Rattle.tc_config.specs.Configurations.{IsConfig, centre_names};
     ghost use Rattle.tc_runner.specs.Plans.{IsPlan};
 
-    /// The plan of this configuration.
-    pub(crate) fn new(
+    /// The plan of this configuration. No memory is taken.
+    pub fn new(
         centres: Vec<Name>,
         roles: Roles,
         agents: Vec<AgentConf>,
@@ -51,6 +51,14 @@ impl Plan {
             agents,
             config,
         }
+    }
+
+    /// The names of the centres, the grants, and the agents, given back, beside the configuration.
+    pub fn into_parts(self) -> (Vec<Name>, Roles, Vec<AgentConf>, Snapshot<Config>)
+        ensures parts { IsPlan result.0.items result.1 result.2.items self }
+        ensures config { result.3.value ≡ self }
+    {
+        (self.centres, self.roles, self.agents, self.config)
     }
 
     /// The names of the centres, in order.

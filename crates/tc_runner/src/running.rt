@@ -1,17 +1,33 @@
 //! Steps of all agents.
-ghost use Rattle.std.specs.Prelude.{◌≡◌, ◌<◌, true, false, IfOk, OnOk};
+ghost use Rattle.std.specs.Prelude.{◌≡◌, ◌<◌, [], true, false, length, IfOk, OnOk};
 ghost use Rattle.tc_config.specs.Good.{IsGood};
 ghost use Rattle.tc_model.specs.Choices.{TheFirst};
 ghost use Rattle.tc_runner.specs.Clients.{AreClients, left_in};
 ghost use Rattle.tc_runner.specs.Cores.{Goes, histories, rows_of};
 
 use crate::clients::{Client, clients};
+use crate::opening::Opened;
 use crate::plans::Plan;
 use crate::steps::step;
 use std::alloc::Global;
 use tc_centre::Core;
 use tc_desk::{Gate, LogRow};
 use tc_lists::NoMemory;
+
+/// Goes on with a run that has come so far, until each agent has ended, or waits.
+pub fn go_on<G: Gate>(alloc: Global, opened: Opened, gate: &G) -> Result<Opened, NoMemory>
+    requires goes { Goes opened.plan opened.cores.items (rows_of opened.logs.items) }
+    requires none { length opened.plan.agents ≡ 0 → opened.cores.items ≡ [] }
+    ensures plan { IfOk result (λ run. run.plan ≡ opened.plan) }
+    ensures good { IfOk result (λ run. IsGood TheFirst run.plan (histories run.plan run.cores.items)
+        (rows_of run.logs.items)) }
+    ensures goes { IfOk result (λ run. Goes run.plan run.cores.items (rows_of run.logs.items)) }
+    ensures none { IfOk result (λ run. length run.plan.agents ≡ 0 → run.cores.items ≡ []) }
+{
+    let mut run = opened;
+    finish(alloc, &run.plan, &mut run.cores, &mut run.logs, gate)?;
+    Ok(run)
+}
 
 /// Goes on with the scripts of all agents until each has ended, or waits.
 ///

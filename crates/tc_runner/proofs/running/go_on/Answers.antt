@@ -1,0 +1,27 @@
+use Rattle.std.proofs.Common.{rules, ◌∙◌}
+use Rattle.tc_model.specs.Choices.{TheFirst}
+use Rattle.tc_config.specs.Good.{IsGood}
+use Rattle.tc_runner.specs.Cores.{Goes, histories, rows_of}
+use Rattle.tc_lists.proofs.Parts.{take-append_all}
+use Rattle.tc_runner.proofs.Exchanges.{exchanged, nil_as_long}
+use Rattle.tc_runner.proofs.running.go_on.Goals as goal
+
+pub returns-clause-good : goal.returns-clause-good
+returns-clause-good g c =
+    let run = c.args.opened in
+    let cores = take-append_all c.finish.new.cores run.cores.items run.cores.len (search rules) (search rules) in
+    let logs = take-append_all c.finish.new.logs run.logs.items run.logs.len (search rules) (search rules) in
+    exchanged (λ cores logs. IsGood TheFirst run.plan (histories run.plan cores) (rows_of logs)) c.finish.new.cores _ c.finish.new.logs _ cores logs c.in_ok-finish.ensures.good
+
+pub returns-clause-goes : goal.returns-clause-goes
+returns-clause-goes g c =
+    let run = c.args.opened in
+    let cores = take-append_all c.finish.new.cores run.cores.items run.cores.len (search rules) (search rules) in
+    let logs = take-append_all c.finish.new.logs run.logs.items run.logs.len (search rules) (search rules) in
+    exchanged (λ cores logs. Goes run.plan cores (rows_of logs)) c.finish.new.cores _ c.finish.new.logs _ cores logs c.in_ok-finish.ensures.goes
+
+pub returns-clause-none : goal.returns-clause-none
+returns-clause-none g c = λ no_agent.
+    let run = c.args.opened in
+    let same = take-append_all c.finish.new.cores run.cores.items run.cores.len (search rules) (search rules) in
+    same ∙ nil_as_long c.finish.new.cores run.cores.items (search rules) (c.requires.none (search rules))
