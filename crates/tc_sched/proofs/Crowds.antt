@@ -1,0 +1,288 @@
+-- Many agents, as they make steps.
+use Rattle.std.proofs.Common.{◌≡◌, ℕ, ◌+◌, ◌<◌, ◌≤◌, inl, inr, List, [], ◌∷◌, ◌++◌, Bool, true, false, ◌||◌, All, Some, length, get_or, refl, sym, ap, ◌∙◌, subst, arith, length-append, append_assoc, append-nil}
+use Rattle.std.proofs.Math.ListN.{set}
+use Rattle.std.proofs.Math.Seq.{get_or-append_seam, set-append_seam}
+use Rattle.std.proofs.lemmas.Bool.{false≢true, true≢false}
+use Rattle.std.proofs.lemmas.List.Elements.{All-nil, All-cons, All-head, All-tail, All-push}
+use Rattle.std.proofs.lemmas.List.Sums.{sum_by-append}
+use Rattle.std.proofs.lemmas.Map.Keys.{any_passes_from_place}
+use Rattle.std.proofs.lemmas.Option.{slice_get-get_or}
+use Rattle.tc_desk.specs.Desks.{DeskState, IsPendingRow, Looks}
+use Rattle.tc_desk.specs.Logs.{any_pending, is_pending}
+use Rattle.tc_desk.specs.declared.desks.Seen.TheVariants as seen
+use Rattle.tc_desk.specs.declared.rows.LogRow.{LogRow}
+use Rattle.tc_sched.specs.Clients.{Client}
+use Rattle.tc_sched.specs.Steps.{AllWent, ArePlaced, HasEnded, IsReady, Rests, Settles, Steps, Went, is_moved, left_in, left_of}
+use Rattle.tc_sched.specs.declared.actor.Step.{Step}
+use Rattle.tc_sched.specs.declared.actor.Step.TheVariants as step
+
+-- a log with a pending row
+pub has-pending : (log : List LogRow) (row : LogRow) → IsPendingRow log row → any_pending log ≡ true
+has-pending log row is =
+    let at = slice_get-get_or log is.stands.0 row is.stands.1 ∙ ap Some is.stands.2 in
+    any_passes_from_place (λ (r : LogRow). is_pending r.result) log is.stands.0 row at (ap is_pending is.pending)
+
+-- where a look found the row still pending, it is
+pub still-pending : (d e : DeskState) → Looks d seen.StillPending e → any_pending e.log ≡ true
+still-pending d e looks = ap any_pending looks.0 ∙ has-pending d.log looks.2.row looks.2.is
+
+module _ {D B : Type 0} (state : D → DeskState) (bond : D → B) (is_sound : D → Type 0) where
+  abbrev Go : ℕ → Client D → Client D → Type 0
+  Go n c e = Went state bond is_sound n c e
+
+  abbrev AllGo : ℕ → List (Client D) → List (Client D) → Type 0
+  AllGo n cs es = AllWent state bond is_sound n cs es
+
+  abbrev AllReady : ℕ → List (List ℕ) → List (Client D) → Type 0
+  AllReady n names cs = All (IsReady state n names) cs
+
+  went-more : (n m : ℕ) (c e : Client D) → n ≤ m → Go n c e → Go m c e
+  went-more n m c e le w = record {
+    bound = w.bound;
+    agent = w.agent;
+    scripts = w.scripts;
+    kept = w.kept;
+    spent = record { wide = w.spent.wide; fell = w.spent.fell; most = λ k. let s = w.spent.most k in omega (arith, s, le) };
+    sound = w.sound;
+    left = w.left;
+  }
+
+  went-same : (n m : ℕ) (names : List (List ℕ)) (c : Client D) → IsReady state m names c → Go n c c
+  went-same n m names c r = record {
+    bound = refl;
+    agent = refl;
+    scripts = refl;
+    kept = record { names = refl; free = r.free; seen = λ k. omega arith; read = λ h. h };
+    spent = record { wide = refl; fell = λ k. omega arith; most = λ k. omega arith };
+    sound = λ s. s;
+    left = omega arith;
+  }
+
+  went-on : (n m : ℕ) (c d e : Client D) → Go n c d → Go m d e → Go (n + m) c e
+  went-on n m c d e v w = record {
+    bound = w.bound ∙ v.bound;
+    agent = w.agent ∙ v.agent;
+    scripts = w.scripts ∙ v.scripts;
+    kept = record {
+      names = w.kept.names ∙ v.kept.names;
+      free = w.kept.free;
+      seen = λ k. let a = v.kept.seen k in let b = w.kept.seen k in omega (arith, a, b);
+      read = λ h. w.kept.read (v.kept.read h);
+    };
+    spent = record {
+      wide = w.spent.wide ∙ v.spent.wide;
+      fell = λ k. let a = v.spent.fell k in let b = w.spent.fell k in omega (arith, a, b);
+      most = λ k. let a = v.spent.most k in let b = w.spent.most k in omega (arith, a, b);
+    };
+    sound = λ s. w.sound (v.sound s);
+    left = let a = v.left in let b = w.left in omega (arith, a, b);
+  }
+
+  ready-less : (n m : ℕ) (names : List (List ℕ)) (c : Client D) → m ≤ n → IsReady state n names c → IsReady state m names c
+  ready-less n m names c le r = record {
+    free = r.free;
+    names = r.names;
+    placed = r.placed;
+    turns_left = λ k below. let t = r.turns_left k below in omega (arith, t, le);
+  }
+
+  ready-after : (n m : ℕ) (names : List (List ℕ)) (c e : Client D) → IsReady state (n + m) names c → Go n c e → IsReady state m names e
+  ready-after n m names c e r w = record {
+    free = w.kept.free;
+    names = w.kept.names ∙ r.names;
+    placed = subst (ArePlaced (length names)) (sym w.scripts) r.placed;
+    turns_left = λ k below. let t = r.turns_left k below in let s = w.spent.most k in omega (arith, t, s);
+  }
+
+  pub all-more : (n m : ℕ) (cs es : List (Client D)) → n ≤ m → AllGo n cs es → AllGo m cs es
+  all-more n m [] [] le w = tt
+  all-more n m [] (e ∷ es) le w = absurd w
+  all-more n m (c ∷ cs) [] le w = absurd w
+  all-more n m (c ∷ cs) (e ∷ es) le w = (went-more n m c e le w.0, all-more n m cs es le w.1)
+
+  pub all-same : (n m : ℕ) (names : List (List ℕ)) (cs : List (Client D)) → AllReady m names cs → AllGo n cs cs
+  all-same n m names [] r = tt
+  all-same n m names (c ∷ cs) r =
+      (went-same n m names c (All-head (IsReady state m names) c cs r), all-same n m names cs (All-tail (IsReady state m names) c cs r))
+
+  pub all-on : (n m : ℕ) (cs ds es : List (Client D)) → AllGo n cs ds → AllGo m ds es → AllGo (n + m) cs es
+  all-on n m [] [] [] v w = tt
+  all-on n m [] [] (e ∷ es) v w = absurd w
+  all-on n m [] (d ∷ ds) es v w = absurd v
+  all-on n m (c ∷ cs) [] es v w = absurd v
+  all-on n m (c ∷ cs) (d ∷ ds) [] v w = absurd w
+  all-on n m (c ∷ cs) (d ∷ ds) (e ∷ es) v w = (went-on n m c d e v.0 w.0, all-on n m cs ds es v.1 w.1)
+
+  pub all-less : (n m : ℕ) (names : List (List ℕ)) (cs : List (Client D)) → m ≤ n → AllReady n names cs → AllReady m names cs
+  all-less n m names cs le r = λ k d below. ready-less n m names (get_or cs k d) le (r k d below)
+
+  pub all-after : (n m : ℕ) (names : List (List ℕ)) (cs es : List (Client D)) → AllReady (n + m) names cs → AllGo n cs es → AllReady m names es
+  all-after n m names [] [] r w = All-nil (IsReady state m names)
+  all-after n m names [] (e ∷ es) r w = absurd w
+  all-after n m names (c ∷ cs) [] r w = absurd w
+  all-after n m names (c ∷ cs) (e ∷ es) r w =
+      All-cons (IsReady state m names) e es
+      (ready-after n m names c e (All-head (IsReady state (n + m) names) c cs r) w.0)
+      (all-after n m names cs es (All-tail (IsReady state (n + m) names) c cs r) w.1)
+
+  pub all-append : (n : ℕ) (cs es cs' es' : List (Client D)) → AllGo n cs es → AllGo n cs' es' → AllGo n (cs ++ cs') (es ++ es')
+  all-append n [] [] cs' es' v w = w
+  all-append n [] (e ∷ es) cs' es' v w = absurd v
+  all-append n (c ∷ cs) [] cs' es' v w = absurd v
+  all-append n (c ∷ cs) (e ∷ es) cs' es' v w = (v.0, all-append n cs es cs' es' v.1 w)
+
+  -- what is left in all
+  pub left-append : (cs es : List (Client D)) → left_in state (cs ++ es) ≡ left_in state cs + left_in state es
+  left-append cs es = sum_by-append (left_of state) cs es
+
+  left-cons : (c : Client D) (cs : List (Client D)) → left_in state (c ∷ cs) ≡ left_of state c + left_in state cs
+  left-cons c cs = let a = left-append (c ∷ []) cs in omega (arith, a)
+
+  left-push : (cs : List (Client D)) (c : Client D) → left_in state (cs ++ c ∷ []) ≡ left_in state cs + left_of state c
+  left-push cs c = let a = left-append cs (c ∷ []) in omega (arith, a)
+
+  pub all-left : (n : ℕ) (cs es : List (Client D)) → AllGo n cs es → left_in state es ≤ left_in state cs
+  all-left n [] [] w = omega arith
+  all-left n [] (e ∷ es) w = absurd w
+  all-left n (c ∷ cs) [] w = absurd w
+  all-left n (c ∷ cs) (e ∷ es) w =
+      let a = w.0.left in let b = all-left n cs es w.1 in let x = left-cons c cs in let y = left-cons e es in omega (arith, a, b, x, y)
+
+  pub settles-append : (cs es cs' es' : List (Client D)) → Settles state bond is_sound cs es → Settles state bond is_sound cs' es'
+      → Settles state bond is_sound (cs ++ cs') (es ++ es')
+  settles-append cs es cs' es' s t =
+      let a = left-append cs cs' in let b = left-append es es' in let x = s.left in let y = t.left in record {
+        left = omega (arith, a, b, x, y);
+        went = all-append _ cs es cs' es'
+            (all-more _ _ cs es (omega (arith, a, b, x, y)) s.went)
+            (all-more _ _ cs' es' (omega (arith, a, b, x, y)) t.went);
+      }
+
+  -- the agents before a place have each made a step
+  pub record Swept (names : List (List ℕ)) (old now : List (Client D)) (i : ℕ) (moved : Bool) : Type 0 where
+    pub before : List (Client D)
+    pub after : List (Client D)
+    pub rest : List (Client D)
+    pub was : old ≡ before ++ rest
+    pub is : now ≡ after ++ rest
+    pub long : length after ≡ i
+    pub went : AllGo 1 before after
+    pub ready : AllReady 1 names rest
+    pub moves : moved ≡ true → left_in state after < left_in state before
+    pub rests : moved ≡ false → All (Rests state) after
+
+  pub swept-none : (names : List (List ℕ)) (old : List (Client D)) → AllReady 1 names old → Swept names old old 0 false
+  swept-none names old r = record {
+    before = [];
+    after = [];
+    rest = old;
+    was = refl;
+    is = refl;
+    long = refl;
+    went = tt;
+    ready = r;
+    moves = λ e. absurd (false≢true e);
+    rests = λ e. All-nil (Rests state);
+  }
+
+  next-of : (names : List (List ℕ)) (after rest : List (Client D)) (x : Client D) → AllReady 1 names rest → x ≡ get_or (after ++ rest) (length after) x
+      → length after < length (after ++ rest) → IsReady state 1 names x
+  next-of names after [] x ready at below = absurd (let a = length-append after [] in omega (arith, a, below))
+  next-of names after (r ∷ rs) x ready at below =
+      subst (IsReady state 1 names) (sym (at ∙ get_or-append_seam after r rs x)) (All-head (IsReady state 1 names) r rs ready)
+
+  -- the agent that is next is ready
+  pub swept-next : (names : List (List ℕ)) (old now : List (Client D)) (i : ℕ) (moved : Bool) (x : Client D) → Swept names old now i moved
+      → x ≡ get_or now i x → i < length now → IsReady state 1 names x
+  swept-next names old now i moved x s at below =
+      let here : x ≡ get_or (s.after ++ s.rest) (length s.after) x =
+      at ∙ ap (λ (l : List (Client D)). get_or l i x) s.is ∙ ap (λ k. get_or (s.after ++ s.rest) k x) (sym s.long) in
+      let long = ap length s.is in
+      next-of names s.after s.rest x s.ready here (omega (arith, long, below, s.long))
+
+  moves-on : (moved : Bool) (h : Step) (ta tb : ℕ) (c e : Client D) → (moved ≡ true → ta < tb) → ta ≤ tb → left_of state e ≤ left_of state c
+      → (h ≡ step.Moved → left_of state e < left_of state c) → (moved || is_moved h) ≡ true → ta + left_of state e < tb + left_of state c
+  moves-on true h ta tb c e m le l less x = let a = m refl in omega (arith, a, l)
+  moves-on false step.Moved ta tb c e m le l less x = let a = less refl in omega (arith, le, a)
+  moves-on false step.Blocked ta tb c e m le l less x = absurd (false≢true x)
+  moves-on false step.Ended ta tb c e m le l less x = absurd (false≢true x)
+
+  rests-on : (moved : Bool) (h : Step) (after : List (Client D)) (c e : Client D) → (moved ≡ false → All (Rests state) after) → Steps state c h e
+      → (moved || is_moved h) ≡ false → All (Rests state) (after ++ e ∷ [])
+  rests-on true h after c e m st x = absurd (true≢false x)
+  rests-on false step.Moved after c e m st x = absurd (true≢false x)
+  rests-on false step.Blocked after c e m st x =
+      All-push (Rests state) after e (m refl) (inr (still-pending (state c.desk) (state e.desk) st))
+  rests-on false step.Ended after c e m st x =
+      All-push (Rests state) after e (m refl) (inl (subst (HasEnded state) (sym st.1) st.0))
+
+  swept-at : (names : List (List ℕ)) (old before after rest : List (Client D)) (moved : Bool) (x v : Client D) (h : Step)
+      → old ≡ before ++ rest → AllGo 1 before after → AllReady 1 names rest → (moved ≡ true → left_in state after < left_in state before) → (moved ≡ false → All (Rests state) after)
+      → x ≡ get_or (after ++ rest) (length after) x → length after < length (after ++ rest) → Go 1 x v → Steps state x h v → (h ≡ step.Moved → left_of state v < left_of state x)
+      → Swept names old (set (after ++ rest) (length after) v) (length after + 1) (moved || is_moved h)
+  swept-at names old before after [] moved x v h was went ready moves rests at below w st less = absurd (let a = length-append after [] in omega (arith, a, below))
+  swept-at names old before after (r ∷ rs) moved x v h was went ready moves rests at below w st less =
+      let here : x ≡ r = at ∙ get_or-append_seam after r rs x in
+      let w' : Go 1 r v = subst (λ (y : Client D). Go 1 y v) here w in
+      let st' : Steps state r h v = subst (λ (y : Client D). Steps state y h v) here st in
+      let less' : h ≡ step.Moved → left_of state v < left_of state r = subst (λ (y : Client D). h ≡ step.Moved → left_of state v < left_of state y) here less in
+      let a = left-push before r in let b = left-push after v in record {
+        before = before ++ r ∷ [];
+        after = after ++ v ∷ [];
+        rest = rs;
+        was = was ∙ sym (append_assoc before (r ∷ []) rs);
+        is = set-append_seam after r rs v ∙ sym (append_assoc after (v ∷ []) rs);
+        long = length-append after (v ∷ []);
+        went = all-append 1 before after (r ∷ []) (v ∷ []) went (w', tt);
+        ready = All-tail (IsReady state 1 names) r rs ready;
+        moves = λ e. let m = moves-on moved h (left_in state after) (left_in state before) r v moves (all-left 1 before after went) w'.left less' e in omega (arith, a, b, m);
+        rests = rests-on moved h after r v rests st';
+      }
+
+  pub swept-step : (names : List (List ℕ)) (old now : List (Client D)) (i : ℕ) (moved : Bool) (x v : Client D) (h : Step) → Swept names old now i moved
+      → x ≡ get_or now i x → i < length now → Go 1 x v → Steps state x h v → (h ≡ step.Moved → left_of state v < left_of state x)
+      → Swept names old (set now i v) (i + 1) (moved || is_moved h)
+  swept-step names old now i moved x v h s at below w st less =
+      let P : List (Client D) → ℕ → Type 0 = λ l k. Swept names old (set l k v) (k + 1) (moved || is_moved h) in
+      subst (λ (l : List (Client D)). P l i) (sym s.is) (subst (λ k. P (s.after ++ s.rest) k) s.long
+      (swept-at names old s.before s.after s.rest moved x v h s.was s.went s.ready s.moves s.rests
+      (subst (λ k. x ≡ get_or (s.after ++ s.rest) k x) (sym s.long) (subst (λ (l : List (Client D)). x ≡ get_or l i x) s.is at))
+      (subst (λ k. k < length (s.after ++ s.rest)) (sym s.long) (subst (λ (l : List (Client D)). i < length l) s.is below)) w st less))
+
+  failed-at : (names : List (List ℕ)) (old before after rest : List (Client D)) (x v : Client D)
+      → old ≡ before ++ rest → AllGo 1 before after → AllReady 1 names rest
+      → x ≡ get_or (after ++ rest) (length after) x → length after < length (after ++ rest) → Go 1 x v
+      → AllGo 1 old (set (after ++ rest) (length after) v)
+  failed-at names old before after [] x v was went ready at below w = absurd (let a = length-append after [] in omega (arith, a, below))
+  failed-at names old before after (r ∷ rs) x v was went ready at below w =
+      let w' : Go 1 r v = subst (λ (y : Client D). Go 1 y v) (at ∙ get_or-append_seam after r rs x) w in
+      subst (λ (l : List (Client D)). AllGo 1 old l) (sym (set-append_seam after r rs v))
+      (subst (λ (l : List (Client D)). AllGo 1 l (after ++ v ∷ rs)) (sym was)
+      (all-append 1 before after (r ∷ rs) (v ∷ rs) went (w', all-same 1 1 names rs (All-tail (IsReady state 1 names) r rs ready))))
+
+  -- memory has run out at an agent
+  pub swept-failed : (names : List (List ℕ)) (old now : List (Client D)) (i : ℕ) (moved : Bool) (x v : Client D) → Swept names old now i moved
+      → x ≡ get_or now i x → i < length now → Go 1 x v → AllGo 1 old (set now i v)
+  swept-failed names old now i moved x v s at below w =
+      let P : List (Client D) → ℕ → Type 0 = λ l k. AllGo 1 old (set l k v) in
+      subst (λ (l : List (Client D)). P l i) (sym s.is) (subst (λ k. P (s.after ++ s.rest) k) s.long
+      (failed-at names old s.before s.after s.rest x v s.was s.went s.ready
+      (subst (λ k. x ≡ get_or (s.after ++ s.rest) k x) (sym s.long) (subst (λ (l : List (Client D)). x ≡ get_or l i x) s.is at))
+      (subst (λ k. k < length (s.after ++ s.rest)) (sym s.long) (subst (λ (l : List (Client D)). i < length l) s.is below)) w))
+
+  rest-none : (after rest : List (Client D)) → length (after ++ rest) ≤ length after → rest ≡ []
+  rest-none after [] le = refl
+  rest-none after (r ∷ rs) le = absurd (let a = length-append after (r ∷ rs) in omega (arith, a, le))
+
+  -- all have made a step
+  pub record SweptAll (old now : List (Client D)) (moved : Bool) : Type 0 where
+    pub went : AllGo 1 old now
+    pub moves : moved ≡ true → left_in state now < left_in state old
+    pub rests : moved ≡ false → All (Rests state) now
+
+  pub swept-all : (names : List (List ℕ)) (old now : List (Client D)) (i : ℕ) (moved : Bool) → Swept names old now i moved → length now ≤ i → SweptAll old now moved
+  swept-all names old now i moved s le =
+      let none : s.rest ≡ [] = rest-none s.after s.rest (subst (λ k. length (s.after ++ s.rest) ≤ k) (sym s.long) (subst (λ (l : List (Client D)). length l ≤ i) s.is le)) in
+      let was : old ≡ s.before = s.was ∙ (ap (λ (l : List (Client D)). s.before ++ l) none ∙ append-nil s.before) in
+      let is : now ≡ s.after = s.is ∙ (ap (λ (l : List (Client D)). s.after ++ l) none ∙ append-nil s.after) in
+      rw (was, is) record { went = s.went; moves = s.moves; rests = s.rests }

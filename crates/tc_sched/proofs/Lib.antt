@@ -1,0 +1,7 @@
+pub mod Logs
+pub mod Rows
+pub mod Desks
+pub mod Crowds
+pub mod Chunks
+pub mod Sending
+pub mod Readable

@@ -1,0 +1,181 @@
+//! Actors: each makes the asks of one agent's scripts, one after another.
+ghost use Rattle.std.specs.Prelude.{◌≡◌, ◌<◌, [], true, false, length, slice_get, IfNone, IfOk, IfSome, OnErr, Some};
+ghost use Rattle.tc_asks.specs.Nexts.{IsNextAsk};
+ghost use Rattle.tc_desk.specs.Asks.{steps_of};
+ghost use Rattle.tc_desk.specs.Logs.{any_pending, is_pending};
+ghost use Rattle.tc_sched.specs.Clients.{IsOfScripts};
+ghost use Rattle.tc_sched.specs.Steps.{HasNoMemory, IsReady, Steps, Went, left_of};
+
+use std::alloc::Global;
+use std::marker::Model;
+use std::sync::Wait;
+use tc_asks::{Asker, Next};
+use tc_desk::{Desk, DeskFault, Gate, LogResult, LogRow, Refusal, Seen};
+use tc_lists::NoMemory;
+use tc_model::Script;
+use tc_term::Name;
+
+/// What a step did.
+#[derive(Clone, Copy, Debug, PartialEq, Eq)]
+pub enum Step {
+    /// The next ask was made, or the pending one has its reply.
+    Moved,
+    /// The last ask is still pending.
+    Blocked,
+    /// Each item has its row, and none is pending.
+    Ended,
+}
+
+/// An agent with its scripts, at its desk.
+///
+/// The rows of the desk's log are those of the scripts' first items, whatever came of its steps.
+#[derive(Drop)]
+pub struct Actor<D: Desk> {
+    desk: D,
+    agent: u32,
+    scripts: Vec<Script>,
+    // None before the first step.
+    asker: Option<Asker>,
+}
+
+impl<D: Desk> Model for Actor<D> {
+    ghost use Rattle.std.specs.Coded.{codes};
+    ghost use Rattle.tc_term.specs.TreeCode.{coded_tree, coded_trees};
+    ghost use Rattle.tc_sched.specs.Clients.{Client, IsActor};
+
+    ghost Value = { Client D };
+
+    ghost coded = { Prim.hlevel (codes, coded_tree, coded_trees) };
+
+    ghost view = { λ a. record { desk = a.desk; agent = a.agent; scripts = a.scripts.items } };
+
+    ghost invariant = { λ a. IsActor (D.state a.desk) a.scripts.items a.asker };
+}
+
+impl<D: Desk> Actor<D> {
+    /// An actor that has asked nothing yet: the agent of this place, from 0, with its scripts.
+    pub fn new(desk: D, agent: u32, scripts: Vec<Script>) -> Actor<D>
+        requires empty { (D.state desk).log ≡ [] }
+        ensures { result ≡ record { desk = desk; agent = agent; scripts = scripts.items } }
+    {
+        Actor {
+            desk,
+            agent,
+            scripts,
+            asker: None,
+        }
+    }
+
+    /// The desk, and the scripts as they were given.
+    pub fn finish(self) -> (D, Vec<Script>)
+        ensures desk { result.0 ≡ self.desk }
+        ensures scripts { result.1.items ≡ self.scripts }
+        ensures rows { IsOfScripts (D.state result.0).names result.1.items (D.state result.0).log }
+    {
+        let Actor { desk, scripts, .. } = self;
+        (desk, scripts)
+    }
+
+    /// Looks once whether the last ask has its reply, if it is pending; else makes the next ask, if
+    /// there is one. `names` are those of the desk's centres. The gate is passed before an ask.
+    ///
+    /// After `NoMemory` the step can be made again. Takes the time of one call of the desk and of
+    /// the item; no step takes longer as the log grows.
+    pub fn step<R: Wait, G: Gate>(
+        &mut self,
+        rt: &R,
+        alloc: Global,
+        names: &[Name],
+        gate: &G,
+    ) -> Result<Step, NoMemory>
+        requires ready { IsReady D.state 1 names.now self.old }
+        ensures went { Went D.state D.bond D.sound 1 self.old self.new }
+        ensures steps { IfOk result (λ step. Steps D.state self.old step self.new) }
+        ensures less { IfOk result (λ step. step ≡ Step.Moved
+            → left_of D.state self.new < left_of D.state self.old) }
+        ensures same { OnErr result ((D.state self.new.desk).log ≡ (D.state self.old.desk).log) }
+    {
+        if self.is_waiting() {
+            match self.desk.look(rt, alloc) {
+                Ok(Seen::Answered) => return Ok(Step::Moved),
+                Ok(Seen::StillPending) => return Ok(Step::Blocked),
+                Err(DeskFault::NoMemory) => return Err(NoMemory),
+                Err(DeskFault::Idle) => unreachable!(),
+                Err(DeskFault::TurnsSpent) => unreachable!(),
+                Err(DeskFault::Full { .. }) => unreachable!(),
+            }
+        }
+        let Some(next) = self.next_ask(alloc)? else {
+            return Ok(Step::Ended);
+        };
+        gate.pass(self.agent, self.desk.log().len() as u64 + 1);
+        let centre = name_at(names, next.centre);
+        match self.desk.call(rt, alloc, centre, next.ask) {
+            Ok(_) => return Ok(Step::Moved),
+            Err(why) => {
+                if is_memory(why) {
+                    return Err(NoMemory);
+                }
+                return Ok(Step::Moved);
+            }
+        }
+    }
+
+    // Whether the last ask is pending.
+    fn is_waiting(&self) -> bool
+        ensures { result ≡ any_pending (D.state self.now.desk).log }
+    {
+        let log = self.desk.log();
+        let count = log.len();
+        count > 0 && is_pending_row(&log[count - 1])
+    }
+
+    // The ask of the first item that has no row.
+    fn next_ask(&mut self, alloc: Global) -> Result<Option<Next>, NoMemory>
+        requires { any_pending (D.state self.old.desk).log ≡ false }
+        ensures some { IfOk result
+            (λ next. IfSome next (IsNextAsk self.old.scripts (D.state self.old.desk).log)) }
+        ensures none { IfOk result
+            (λ next. IfNone next
+            (length (D.state self.old.desk).log ≡ length (steps_of self.old.scripts))) }
+        ensures same { self.new ≡ self.old }
+    {
+        let mut asker = match self.asker.take() {
+            Some(asker) => asker,
+            None => Asker::new(alloc, &self.scripts)?,
+        };
+        let next = asker.next_ask(alloc, &self.scripts, self.desk.log());
+        self.asker = Some(asker);
+        next
+    }
+}
+
+// Whether the row is pending.
+fn is_pending_row(row: &LogRow) -> bool
+    ensures { result ≡ is_pending row.now.result }
+{
+    match row.result {
+        LogResult::Pending => true,
+        LogResult::Replied(_) | LogResult::Refused(_) | LogResult::Polled(_) => false,
+    }
+}
+
+// Whether the call was refused for want of memory.
+fn is_memory(why: Refusal) -> bool
+    ensures { HasNoMemory why result }
+{
+    match why {
+        Refusal::NoMemory => true,
+        Refusal::UnknownCentre | Refusal::Waiting | Refusal::Denied => false,
+        Refusal::TooBig | Refusal::NotGround | Refusal::BadSpec(_) => false,
+        Refusal::TurnsSpent | Refusal::Full { .. } => false,
+    }
+}
+
+// The name at a place.
+fn name_at(names: &[Name], place: u32) -> &Name
+    requires { place < length names.now }
+    ensures { slice_get names.now place ≡ Some result.now }
+{
+    &names[place as usize]
+}

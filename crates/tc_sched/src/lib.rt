@@ -1,0 +1,20 @@
+//! Agents that make the asks of their scripts, each at a desk of its own, dealt out to threads.
+//!
+//! A step is one ask of an agent's scripts, or a look whether the ask before has its reply by now.
+//! Here is nothing of centres: what becomes of an ask, the desk says.
+//!
+//! ```
+//! let mut actors = vec![in alloc; Actor::new(desk, 0, scripts)]?;
+//! drive(rt, &mut actors, alloc, &names, 4, &NoGate)?;
+//! // every actor has ended, or its last row is pending
+//! ```
+#![tactic(auto)]
+
+mod actor;
+mod crowd;
+#[cfg(test)]
+mod tests;
+
+pub use actor::{Actor, Step};
+pub use crowd::drive;
+pub use tc_lists::NoMemory;

@@ -1,0 +1,152 @@
+//! Actors at desks of one centre that deny each ask: each item has its row all the same.
+ghost use Rattle.std.specs.Prelude.{◌≡◌, ◌∷◌, [], false, IfOk, OnErr, OnOk, Some};
+ghost use Rattle.tc_desk.specs.Desks.{with_row};
+ghost use Rattle.tc_desk.specs.Logs.{any_pending};
+ghost use Rattle.tc_sched.specs.Steps.{IsReady, left_of};
+
+use crate::{Actor, Step, drive};
+use std::alloc::Global;
+use std::sync::Wait;
+use std::test::Fail;
+use tc_desk::{Desk, DeskFault, LogResult, LogRow, NoGate, Refusal, Seen, Served};
+use tc_lists::NoMemory;
+use tc_model::{Ask, Script, ScriptItem};
+use tc_term::{Name, Term};
+
+// A desk that denies each ask.
+#[derive(Drop)]
+struct ClosedDesk {
+    names: Vec<Name>,
+    turns: Vec<u64>,
+    log: Vec<LogRow>,
+    ghost settled: { any_pending log.items ≡ false },
+}
+
+impl ClosedDesk {
+    // Puts the row of an ask that was refused behind the others.
+    fn refuse(
+        &mut self,
+        alloc: Global,
+        centre: &Name,
+        ask: Ask,
+        why: Refusal,
+    ) -> Result<(), NoMemory>
+        ensures log { OnOk result (self.new.log.items
+            ≡ with_row self.old.log.items centre.now (Some ask) (LogResult.Refused why)) }
+        ensures same { OnErr result (self.new.log.items ≡ self.old.log.items) }
+        ensures names { self.new.names ≡ self.old.names }
+        ensures turns { self.new.turns ≡ self.old.turns }
+    {
+        let row = LogRow {
+            number: self.log.len() as u64 + 1,
+            centre: centre.copy(alloc)?,
+            ask: Some(ask),
+            result: LogResult::Refused(why),
+        };
+        self.log.push(row)?;
+        Ok(())
+    }
+}
+
+impl Desk for ClosedDesk {
+    ghost use Rattle.std.specs.Prelude.{[], true, false};
+
+    type Bond = ();
+
+    ghost bond = { λ _. tt };
+
+    ghost state = { λ d. record {
+      log = d.log.items;
+      names = d.names.items;
+      turns = d.turns.items;
+      seen = [];
+      waits = false;
+      free = true;
+    } };
+
+    ghost sound = { λ _. Unit {0} };
+
+    fn call<R: Wait>(
+        &mut self,
+        _rt: &R,
+        alloc: Global,
+        centre: &Name,
+        ask: Ask,
+    ) -> Result<Served, Refusal> {
+        if !self.names.contains(centre) {
+            match self.refuse(alloc, centre, ask, Refusal::UnknownCentre) {
+                Ok(()) => return Err(Refusal::UnknownCentre),
+                Err(_) => return Err(Refusal::NoMemory),
+            }
+        }
+        match self.refuse(alloc, centre, ask, Refusal::Denied) {
+            Ok(()) => return Err(Refusal::Denied),
+            Err(_) => return Err(Refusal::NoMemory),
+        }
+    }
+
+    fn look<R: Wait>(&mut self, _rt: &R, _alloc: Global) -> Result<Seen, DeskFault> {
+        Err(DeskFault::Idle)
+    }
+
+    fn wait<R: Wait>(&mut self, _rt: &R, _alloc: Global) -> Result<(), DeskFault> {
+        Err(DeskFault::Idle)
+    }
+
+    fn poll<R: Wait>(&mut self, _rt: &R, _alloc: Global) -> Result<Seen, DeskFault> {
+        Err(DeskFault::Idle)
+    }
+
+    fn log(&self) -> &[LogRow] {
+        &self.log
+    }
+}
+
+// An actor of one ask, at a desk of its own with ten turns.
+fn actor(alloc: Global, agent: u32) -> Result<Actor<ClosedDesk>, NoMemory>
+    ensures { IfOk result (λ a. IsReady ⟦<ClosedDesk as Desk>⟧.state 10 ((99 ∷ []) ∷ []) a
+        × (left_of ⟦<ClosedDesk as Desk>⟧.state a ≡ 2)) }
+{
+    let mut names = Vec::with_capacity(alloc, 1)?;
+    names.push(Name::new(alloc, b"c")?)?;
+    let mut turns = Vec::with_capacity(alloc, 1)?;
+    turns.push(10)?;
+    let mut items = Vec::with_capacity(alloc, 1)?;
+    items.push(ScriptItem {
+        centre: 0,
+        ask: Ask::GetSpec,
+    })?;
+    let mut scripts = Vec::with_capacity(alloc, 1)?;
+    scripts.push(Script::new(0, items))?;
+    let log = Vec::new(alloc);
+    let desk = ClosedDesk { names, turns, log };
+    Ok(Actor::new(desk, agent, scripts))
+}
+
+#[test]
+fn a_refused_ask_has_its_row(rt: HostRuntime) -> Result<(), Fail> {
+    let alloc = rt.alloc();
+    let names = [Name::new(alloc, b"c")?];
+    let mut one = actor(alloc, 0)?;
+    assert!(rt; one.step(&rt, alloc, &names, &NoGate)? == Step::Moved);
+    let (desk, scripts) = one.finish();
+    assert!(rt; scripts.len() == 1);
+    let denied = match desk.log() {
+        [row] => row.number == 1 && matches!(row.result, LogResult::Refused(Refusal::Denied)),
+        _ => false,
+    };
+    assert!(rt; denied);
+    Ok(())
+}
+
+#[test]
+fn agents_are_driven_to_their_ends(rt: HostRuntime) -> Result<(), Fail> {
+    let alloc = rt.alloc();
+    let names = [Name::new(alloc, b"c")?];
+    let mut alone = [actor(alloc, 0)?];
+    drive(&rt, &mut alone, alloc, &names, 2, &NoGate)?;
+    let [alone] = alone;
+    let (desk, _) = alone.finish();
+    assert!(rt; desk.log().len() == 1);
+    Ok(())
+}

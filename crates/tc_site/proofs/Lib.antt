@@ -1,0 +1,12 @@
+pub mod Places
+pub mod Opening
+pub mod Sweeps
+pub mod Dealt
+pub mod Taken
+pub mod Agreed
+pub mod Calling
+pub mod Turned
+pub mod Told
+pub mod Putting
+pub mod Seeing
+pub mod Sends

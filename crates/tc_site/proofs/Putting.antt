@@ -1,0 +1,104 @@
+-- The reply to a pending row, put into the log, and what holds of the log then.
+use Rattle.std.proofs.Common.{◌≡◌, ◌≢◌, ℕ, ◌<◌, ◌||◌, false, List, ◌∷◌, ◌++◌, Some, AllPairs, Contains, length, get_or, set, sym, ap, ◌∙◌, subst, arith, ⊎_elim}
+use Rattle.std.specs.List.{slice_get}
+use Rattle.std.proofs.lemmas.Bool.{cases_eq, cases_order}
+use Rattle.std.proofs.lemmas.List.{length-append, set_at}
+use Rattle.std.proofs.lemmas.List.Folds.{list_any-append}
+use Rattle.std.proofs.lemmas.Option.{same_Some, slice_get_within, get_or_from_slice_get}
+use Rattle.tc_desk.proofs.Growing.{slice_get_middle, slice_get_beside}
+use Rattle.tc_desk.specs.Decided.{IsDecided, IsDecidedAs, IsRead, IsReadAs}
+use Rattle.tc_desk.specs.Desks.{replied}
+use Rattle.tc_desk.specs.Logs.{any_pending, is_pending}
+use Rattle.tc_desk.specs.declared.rows.LogRow.{LogRow}
+use Rattle.tc_desk.specs.declared.rows.LogResult.TheVariants.{Pending}
+use Rattle.tc_model.specs.Asks.{primitive_of}
+use Rattle.tc_model.specs.declared.asks.Ask.{Ask}
+use Rattle.tc_model.specs.declared.asks.Primitive.{Primitive}
+use Rattle.tc_model.specs.declared.outcomes.Reply.{Reply}
+
+-- a write of a row with its reply
+pub put-set : (log front : List LogRow) (row x : LogRow) (back : List LogRow) (reply : Reply) (place : ℕ) → log ≡ front ++ row ∷ back → place ≡ length front
+    → x ≡ get_or log place x → set log place (replied x reply) ≡ front ++ replied row reply ∷ back
+put-set log front row x back reply place from here value =
+    let is : x ≡ row =
+    value ∙ ap (λ l. get_or l place x) from ∙ ap (λ k. get_or (front ++ row ∷ back) k x) here
+    ∙ get_or_from_slice_get (front ++ row ∷ back) (length front) row x (slice_get_middle front row back) in
+    ap (λ l. set l place (replied x reply)) from ∙ set_at front row back (replied x reply) place (sym here)
+    ∙ ap (λ r. front ++ replied r reply ∷ back) is
+
+-- an element stands at one place of a list whose elements differ
+pub one_place : (xs : List (List ℕ)) (i j : ℕ) (x : List ℕ) → AllPairs ◌≢◌ xs → slice_get xs i ≡ Some x → slice_get xs j ≡ Some x → i ≡ j
+one_place xs i j x differ at-i at-j =
+    let apart : (k n : ℕ) → k < n → slice_get xs k ≡ Some x → slice_get xs n ≡ Some x → ⊥ =
+    λ k n before at-k at-n.
+    differ k n x before (slice_get_within xs n x at-n)
+    (get_or_from_slice_get xs k x x at-k ∙ sym (get_or_from_slice_get xs n x x at-n)) in
+    ⊎_elim (λ same. same)
+    (λ rest. ⊎_elim (λ less. absurd (apart i j less at-i at-j)) (λ more. absurd (apart j i more at-j at-i)) rest) (cases_order i j)
+
+module _ (front : List LogRow) (row : LogRow) (back : List LogRow) (reply : Reply) (pending : row.result ≡ Pending) where
+  abbrev before : List LogRow
+  before = front ++ row ∷ back
+
+  abbrev after : List LogRow
+  after = front ++ replied row reply ∷ back
+
+  pub put-contains : Contains (front ++ row ∷ back) row
+  put-contains = (
+    length front,
+    omega (arith, length-append front (row ∷ back)),
+    get_or_from_slice_get before (length front) row row (slice_get_middle front row back),
+  )
+
+  -- no row is pending any more
+  pub put-settled : any_pending front ≡ false → any_pending back ≡ false → any_pending (front ++ replied row reply ∷ back) ≡ false
+  put-settled none none-behind =
+      list_any-append (λ (r : LogRow). is_pending r.result) front (replied row reply ∷ back)
+      ∙ ap (λ b. b || any_pending (replied row reply ∷ back)) none ∙ none-behind
+
+  -- a row of the log with the reply is a row as it was, or the one that has the reply
+  module _ (k : ℕ) (x : LogRow) (at : slice_get (front ++ replied row reply ∷ back) k ≡ Some x) where
+    here : k ≡ length front → x ≡ replied row reply
+    here is = same_Some x (replied row reply) (sym at ∙ ap (slice_get after) is ∙ slice_get_middle front (replied row reply) back)
+
+    was : k ≡ length front → slice_get (front ++ row ∷ back) k ≡ Some row
+    was is = ap (slice_get before) is ∙ slice_get_middle front row back
+
+    beside : (k ≡ length front → ⊥) → slice_get (front ++ row ∷ back) k ≡ Some x
+    beside other = slice_get_beside front row (replied row reply) back k other ∙ at
+
+    read-at : (ask : Ask) → x.ask ≡ Some ask → IsRead (front ++ row ∷ back) → IsReadAs ask x.result
+    read-at ask asked read =
+        ⊎_elim
+        (λ (is : k ≡ length front).
+        let e = here is in
+        let old : IsReadAs ask Pending =
+        subst (IsReadAs ask) pending (read k row ask (was is) (ap (λ (r : LogRow). r.ask) (sym e) ∙ asked)) in
+        subst (IsReadAs ask) (ap (λ (r : LogRow). r.result) (sym e)) old)
+        (λ other. read k x ask (beside other) asked)
+        (cases_eq k (length front))
+
+    decided-at : (permits : ℕ → Primitive → Type 0) (names : List (List ℕ)) (ask : Ask) (place : ℕ) → x.ask ≡ Some ask
+        → slice_get names place ≡ Some x.centre → IsDecided permits names (front ++ row ∷ back)
+        → IsDecidedAs (permits place (primitive_of ask)) x.result
+    decided-at permits names ask place asked named decided =
+        ⊎_elim
+        (λ (is : k ≡ length front).
+        let e = here is in
+        let old : IsDecidedAs (permits place (primitive_of ask)) Pending =
+        subst (IsDecidedAs (permits place (primitive_of ask))) pending
+        (decided.decided k row ask place (was is) (ap (λ (r : LogRow). r.ask) (sym e) ∙ asked)
+        (named ∙ ap (λ (r : LogRow). Some r.centre) e)) in
+        subst (IsDecidedAs (permits place (primitive_of ask))) (ap (λ (r : LogRow). r.result) (sym e)) old)
+        (λ other. decided.decided k x ask place (beside other) asked named)
+        (cases_eq k (length front))
+
+  pub put-read : IsRead (front ++ row ∷ back) → IsRead (front ++ replied row reply ∷ back)
+  put-read read = λ k x ask at asked. read-at k x at ask asked read
+
+  pub put-decided : (permits : ℕ → Primitive → Type 0) (names : List (List ℕ)) → IsDecided permits names (front ++ row ∷ back)
+      → IsDecided permits names (front ++ replied row reply ∷ back)
+  put-decided permits names decided = record {
+    read = put-read decided.read;
+    decided = λ k x ask place at asked named. decided-at k x at permits names ask place asked named decided;
+  }

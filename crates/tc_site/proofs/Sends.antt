@@ -1,0 +1,45 @@
+-- A desk may go to another thread, where threads may share its site's warden.
+use denote.Param.Send.{IsSend, IsSync, recorded_send, recorded_sync, sendable, struct_send, struct_sync, view_send, view_sync}
+use denote.Ref.{NamedLft}
+use denote.Struct.Declared.{shape}
+use denote.RattleType.{RattleType}
+use Rattle.std.proofs.Crossing.{crosses}
+use Rattle.tc_desk.specs.contracts.rows.LogRow as row
+use Rattle.tc_desk.specs.declared.wardens.Warden as Warden
+use Rattle.tc_shared.proofs.Sends.{core_send, shared_sync}
+use Rattle.tc_site.specs.contracts.desks.AgentDesk as desk
+use Rattle.tc_site.specs.contracts.desks.AgentDesk.TheInside as inside
+use Rattle.tc_site.specs.contracts.sites.Site as site
+use Rattle.tc_site.specs.contracts.sites.Site.TheInside as site_inside
+use Rattle.tc_term.proofs.name.Name.TheSendSync as name
+use Rattle.tc_term.proofs.terms.Args.TheLaws.TheKnot as knot
+use Rattle.tc_turn.proofs.pass.Pass.TheSendSync as pass
+
+-- rows of logs
+pub row_send : IsSend row.the_row
+row_send = search (crosses, knot.crosses, name.the_send, sendable) depth 60 fits 20000
+
+site_inside_sync : (W : RattleType) (g : Warden.Ghosts W.Denot) → IsSync W → IsSync (site_inside.the_row W g)
+site_inside_sync W g warden =
+    let T = site_inside.the_type W g in
+    recorded_sync (site_inside.the_field W g).row _ _ T.to_one
+    (struct_sync (shape T) (
+      (search (crosses, name.the_sync, sendable) depth 60),
+      (search (crosses, shared_sync, sendable) depth 60, (search (crosses, sendable) depth 60, (warden, tt))),
+    ))
+
+pub site_sync : (W : RattleType) (g : Warden.Ghosts W.Denot) → IsSync W → IsSync (site.the_row W g)
+site_sync W g warden = view_sync (site_inside.the_row W g) _ _ _ _ (site_inside_sync W g warden)
+
+inside_send : (κ : NamedLft) (W : RattleType) (g : Warden.Ghosts W.Denot) → IsSync W → IsSend (inside.the_row κ W g)
+inside_send κ W g warden =
+    let T = inside.the_type κ W g in
+    let shared = site_sync W g warden in
+    recorded_send (inside.the_field κ W g).row _ _ T.to_one
+    (struct_send (shape T) (
+      search (shared, sendable),
+      (search sendable, (search (crosses, pass.the_send, core_send, sendable) depth 60, (search (crosses, row_send, sendable) depth 60, (search sendable depth 60, (search sendable depth 60, tt))))),
+    ))
+
+pub desk_send : (κ : NamedLft) (W : RattleType) (g : Warden.Ghosts W.Denot) → IsSync W → IsSend (desk.the_row κ W g)
+desk_send κ W g warden = view_send (inside.the_row κ W g) _ _ _ _ (inside_send κ W g warden)

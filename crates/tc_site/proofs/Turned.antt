@@ -1,0 +1,418 @@
+-- A desk after a call: a pass of it has gone on, its log has a row more, and that row may be pending.
+use Rattle.std.proofs.Common.{◌≡◌, ◌≢◌, ℕ, ◌+◌, ◌<◌, ◌≤◌, Bool, true, false, List, [], ◌∷◌, ◌++◌, Option, Some, None, All, AllPairs, Contains, length, take, refl, sym, ap, ◌∙◌, subst, arith, ⊎_elim}
+use Rattle.std.specs.List.{slice_get}
+use Rattle.std.specs.Option.{is_none, is_some}
+use Rattle.std.proofs.Math.ListN.{set}
+use Rattle.std.proofs.lemmas.Bool.{cases_eq, cases_lt, or_from, true≢false, false≢true}
+use Rattle.std.proofs.lemmas.List.{append-nil, append_assoc, take-append-le, take_all, drop_all}
+use Rattle.std.proofs.lemmas.List.Elements.{All-nil, All-push, All-weaker, Contains-append_right}
+use Rattle.std.proofs.lemmas.List.Folds.{list_any-append}
+use Rattle.std.proofs.lemmas.Option.{none-some, same_Some, slice_get_within, get_or_from_slice_get}
+use Rattle.tc_centre.specs.declared.answers.Answer.{Answer}
+use Rattle.tc_centre.specs.declared.answers.Answer.TheVariants as answer
+use Rattle.tc_desk.specs.Agreeing.{AgreesRefused, AgreesRow, AreLonger, HasRow, HaveRows, IsLonger, IsNextRow, numbered}
+use Rattle.tc_desk.specs.Desks.{with_row}
+use Rattle.tc_desk.specs.Logs.{any_pending, is_pending}
+use Rattle.tc_desk.specs.Operands.{OpOf, Sound}
+use Rattle.tc_desk.specs.Served.{IsCalled, WasFull}
+use Rattle.tc_desk.specs.declared.rows.LogResult.{LogResult}
+use Rattle.tc_desk.specs.declared.rows.LogResult.TheVariants.{Replied, Pending, Refused, Polled}
+use Rattle.tc_desk.specs.declared.rows.LogRow.{LogRow}
+use Rattle.tc_desk.specs.declared.rows.Refusal.{Refusal}
+use Rattle.tc_desk.specs.declared.rows.Refusal.TheVariants as refusal
+use Rattle.tc_desk.proofs.Growing.{Agrees-longer, Agrees-push, HaveRow-longer}
+use Rattle.tc_lists.proofs.Places.{slice_get_pushed}
+use Rattle.tc_model.specs.Calls.{id_of, calls_of}
+use Rattle.tc_model.specs.Choices.{TheFirst}
+use Rattle.tc_model.specs.Entries.{IsFull, pending_after}
+use Rattle.tc_model.specs.Entries as entries
+use Rattle.tc_model.specs.Replies.{reply_in, reply_of}
+use Rattle.tc_model.specs.Run.{IsLegal}
+use Rattle.tc_model.specs.State.{Origin, IsQuiescent, after_history, opening}
+use Rattle.tc_model.specs.declared.asks.Ask.{Ask}
+use Rattle.tc_model.specs.declared.asks.Primitive.{Primitive}
+use Rattle.tc_model.specs.declared.calls.CallId.{CallId}
+use Rattle.tc_model.specs.declared.calls.Op.{Op}
+use Rattle.tc_model.specs.declared.entries.Entry.{Entry}
+use Rattle.tc_model.specs.declared.entries.Entry.TheVariants.{Called}
+use Rattle.tc_model.specs.declared.outcomes.Outcome.{Outcome}
+use Rattle.tc_model.specs.declared.outcomes.Outcome.TheVariants as outcome
+use Rattle.tc_model.specs.declared.outcomes.Reply.{Reply}
+use Rattle.tc_model.specs.declared.outcomes.Reply.TheVariants as reply
+use Rattle.tc_model.proofs.Histories.{reply_in-IsPrefix}
+use Rattle.tc_model.proofs.NextEntry.{reply_in-called}
+use Rattle.tc_shared.specs.Passes.{Keeps, Makes, SeesFull, SeesRoom, call_id}
+use Rattle.tc_turn.specs.Passes.{TurnstileState, PassState}
+use Rattle.tc_site.specs.Desks.{AgentState, IsDesk, WaitsAt, is_held}
+use Rattle.tc_site.specs.Judging.{IsRefusedFor}
+use Rattle.tc_site.specs.Sites.{IsOwnPass, IsSite, histories_of, origins_of}
+use Rattle.tc_site.specs.Turns.{HasGrown, IsTurn, waiting_of}
+use Rattle.tc_site.specs.declared.waiting.WaitingAt.{WaitingAt}
+use Rattle.tc_site.proofs.Calling.{are-set, grown-sees, longer-set}
+use Rattle.tc_site.proofs.Places.{slice_get-map_at, slice_get-map_from, slice_get-set_other, slice_get-set_same}
+
+-- a name has one place
+pub same-place : (names : List (List ℕ)) (i j : ℕ) (name : List ℕ) → AllPairs ◌≢◌ names → slice_get names i ≡ Some name → slice_get names j ≡ Some name → i ≡ j
+same-place names i j name differ here there =
+    let a = get_or_from_slice_get names i name name here in
+    let b = get_or_from_slice_get names j name name there in
+    let m = slice_get_within names i name here in
+    let n = slice_get_within names j name there in
+    ⊎_elim (λ (before : i < j). absurd (differ i j name before n (a ∙ sym b)))
+    (λ (behind : j ≤ i).
+    ⊎_elim (λ (before : j < i). absurd (differ j i name before m (b ∙ sym a)))
+    (λ (last : i ≤ j). let same : i ≡ j = omega (arith, behind, last) in same) (cases_lt j i))
+    (cases_lt i j)
+
+-- a log in which no row is pending, with one more that isn't
+pub settled-push : (log : List LogRow) (row : LogRow) → any_pending log ≡ false → is_pending row.result ≡ false → any_pending (log ++ row ∷ []) ≡ false
+settled-push log row none settled =
+    list_any-append (λ (r : LogRow). is_pending r.result) log (row ∷ [])
+    ∙ or_from (any_pending log) (any_pending (row ∷ [])) none (or_from (is_pending row.result) (any_pending []) settled refl)
+
+-- where no row waits, none is pending
+pub idle-log : (names : List (List ℕ)) (log : List LogRow) (pending : Option WaitingAt) → WaitsAt names log pending → is_some pending ≡ false → any_pending log ≡ false
+idle-log names log None waits idle = waits
+idle-log names log (Some w) waits idle = absurd (true≢false idle)
+
+module _ (names : List (List ℕ)) (log : List LogRow) (centre : List ℕ) (ask : Ask) where
+  -- where the row is pending that has come to this
+  pub waits-turned : (place : ℕ) (became : LogResult) → slice_get names place ≡ Some centre → any_pending log ≡ false
+      → WaitsAt names (with_row log centre (Some ask) became) (waiting_of became (length log) place)
+  waits-turned place Pending named none = record {
+    front = log;
+    row_is = record { number = length log + 1; centre = centre; ask = Some ask; result = Pending };
+    back = [];
+    from = refl;
+    place = refl;
+    pending = refl;
+    settled = none;
+    settled_behind = refl;
+    named = named;
+  }
+  waits-turned place (Replied reply) named none = settled-push log (record { number = length log + 1; centre = centre; ask = Some ask; result = Replied reply }) none refl
+  waits-turned place (Refused why) named none = settled-push log (record { number = length log + 1; centre = centre; ask = Some ask; result = Refused why }) none refl
+  waits-turned place (Polled told) named none = settled-push log (record { number = length log + 1; centre = centre; ask = Some ask; result = Polled told }) none refl
+
+  -- a row that is refused leaves what is pending
+  pub waits-refused : (why : Refusal) (pending : Option WaitingAt) → WaitsAt names log pending → WaitsAt names (with_row log centre (Some ask) (Refused why)) pending
+  waits-refused why None none = settled-push log (record { number = length log + 1; centre = centre; ask = Some ask; result = Refused why }) none refl
+  waits-refused why (Some w) waits =
+      let row : LogRow = record { number = length log + 1; centre = centre; ask = Some ask; result = Refused why } in
+      record {
+        front = waits.front;
+        row_is = waits.row_is;
+        back = waits.back ++ row ∷ [];
+        from = ap (λ (l : List LogRow). l ++ row ∷ []) waits.from ∙ append_assoc waits.front (waits.row_is ∷ waits.back) (row ∷ []);
+        place = waits.place;
+        pending = waits.pending;
+        settled = waits.settled;
+        settled_behind = settled-push waits.back row waits.settled_behind refl;
+        named = waits.named;
+      }
+
+-- a desk that is free holds no turn
+pub none-held : (held : Option ℕ) (k : ℕ) → is_none held ≡ true → is_held held k ≡ false
+none-held None k free = refl
+none-held (Some place) k free = absurd (false≢true free)
+
+-- an outcome without a reply
+pub pending-outcome : (result : Outcome) → ((r : Reply) → reply_of result ≡ Some r → ⊥) → result ≡ outcome.Pending
+pending-outcome outcome.Pending none = refl
+pending-outcome outcome.Done none = absurd (none reply.Done refl)
+pending-outcome (outcome.Took t) none = absurd (none (reply.Tuple t) refl)
+pending-outcome outcome.NoTuple none = absurd (none reply.NoTuple refl)
+pending-outcome (outcome.Spec text) none = absurd (none (reply.Spec text) refl)
+pending-outcome (outcome.Over phase tuple) none = absurd (none (reply.OverBudget phase) refl)
+
+-- what stands between two parts of a list
+pub at-middle : {X : Type 0} (front : List X) (x : X) (back : List X) → slice_get (front ++ x ∷ back) (length front) ≡ Some x
+at-middle [] x back = refl
+at-middle (y ∷ front) x back = at-middle front x back
+
+-- a call that was made
+module _ (t : TurnstileState Origin) (p q : PassState Entry Origin) (number : ℕ) (op : Op) (told : Answer) (m : Makes t p number op told q) where
+  abbrev entry : Entry
+  entry = Called (call_id p number) op m.result m.items
+
+  seen-is : q.seen ≡ m.found ++ entry ∷ m.gaves
+  seen-is = ap (λ (x : PassState Entry Origin). x.seen) m.after
+
+  pub makes-stands : Contains q.seen (Called (call_id p number) op m.result m.items)
+  makes-stands =
+      let behind : Contains (entry ∷ m.gaves) entry = (0, omega arith, refl) in
+      subst (λ es. Contains es entry) (sym seen-is) (Contains-append_right m.found (entry ∷ m.gaves) entry behind)
+
+  -- the reply of its entry is the reply that is known
+  pub makes-reply : (r : Reply) → reply_of m.result ≡ Some r → reply_in q.seen (call_id p number) ≡ Some r
+  makes-reply r is =
+      let id : CallId = call_id p number in
+      let k : ℕ = length m.found in
+      let at : slice_get q.seen k ≡ Some entry = ap (λ es. slice_get es k) seen-is ∙ at-middle m.found entry m.gaves in
+      let legal : IsLegal TheFirst t.origin (take k q.seen) (after_history (opening t.origin) (take k q.seen)) entry = m.finds.own.rest.run k entry at in
+      let front : take k q.seen ≡ m.found =
+      ap (take k) seen-is ∙ take-append-le k m.found (entry ∷ m.gaves) (omega arith) ∙ take_all k m.found (omega arith) in
+      let above : All (λ e. (id_of e).number < id.number) (calls_of id.agent m.found) =
+      subst (λ es. All (λ e. (id_of e).number < id.number) (calls_of id.agent es)) front legal.1.number in
+      reply_in-IsPrefix (m.found ++ entry ∷ []) q.seen id r (m.gaves, append_assoc m.found (entry ∷ []) m.gaves ∙ sym seen-is)
+      (reply_in-called m.found id op m.result m.items above ∙ is)
+
+  -- a call without a reply has waited
+  pub makes-waits : reply_in q.seen (call_id p number) ≡ None → m.result ≡ outcome.Pending
+  makes-waits none = pending-outcome m.result (λ r is. none-some r (sym none ∙ makes-reply r is))
+
+module _ {W : Type 0} (d : AgentState W) (is : IsDesk d) (site : IsSite d.site.names d.site.centres d.site.roles) (free : is_none d.held ≡ true)
+    (place : ℕ) (centre : List ℕ) (named : slice_get d.site.names place ≡ Some centre)
+    (t : TurnstileState Origin) (p : PassState Entry Origin) (at-t : slice_get d.site.centres place ≡ Some t) (at-p : slice_get d.passes place ≡ Some p) where
+  abbrev seen : PassState Entry Origin → List Entry
+  seen = λ x. x.seen
+
+  pub own-pass : IsOwnPass d.agent t p
+  own-pass = is.are.each place t p at-t at-p
+
+  pub pass-free : p.holds ≡ false
+  pass-free = is.holds place p at-p ∙ none-held d.held place free
+
+  mine-seen : calls_of d.agent p.seen ≡ p.mine
+  mine-seen = ap (λ n. calls_of n p.seen) (sym own-pass.number) ∙ own-pass.own.mine
+
+  mine-rows : All (HasRow d.log centre) p.mine
+  mine-rows =
+      subst (All (HasRow d.log centre)) mine-seen
+      (is.agrees.calls place centre p.seen named (slice_get-map_at seen d.passes place p at-p))
+
+  -- what the agent has made at the centre has a number below that of the next row
+  pub pass-next : (number : ℕ) → number ≡ length d.log + 1 → All (λ e. (id_of e).number < number) p.mine
+  pass-next number next =
+      All-weaker (HasRow d.log centre) (λ e. (id_of e).number < number)
+      (λ e h. let within = slice_get_within d.log h.k h.row h.stands in let counted = h.counted in omega (arith, within, counted, next))
+      p.mine mine-rows
+
+  module _ (q : PassState Entry Origin) (keeps : Keeps t p q) where
+    abbrev passes' : List (PassState Entry Origin)
+    passes' = set d.passes place q
+
+    is-set : (k : ℕ) (x : PassState Entry Origin) → slice_get (set d.passes place q) k ≡ Some x → k ≡ place → x ≡ q
+    is-set k x at here = same_Some x q (sym at ∙ ap (slice_get passes') here ∙ slice_get-set_same d.passes place q p at-p)
+
+    pub holds-set : (k : ℕ) (x : PassState Entry Origin) → slice_get (set d.passes place q) k ≡ Some x → x.holds ≡ is_held d.held k
+    holds-set k x at =
+        ⊎_elim
+        (λ (here : k ≡ place). ap (λ (y : PassState Entry Origin). y.holds) (is-set k x at here) ∙ keeps.free ∙ sym (none-held d.held k free))
+        (λ (other : k ≡ place → ⊥). is.holds k x (sym (slice_get-set_other d.passes place k q other) ∙ at))
+        (cases_eq k place)
+
+    mine-new : q.mine ≡ calls_of d.agent q.seen
+    mine-new = sym keeps.own.mine ∙ ap (λ n. calls_of n q.seen) (keeps.number ∙ own-pass.number)
+
+    -- what the agent has made has its rows, if what it has made at this centre has
+    pub rows-set : (log : List LogRow) → ((name : List ℕ) (es : List Entry) → All (HasRow d.log name) es → All (HasRow log name) es)
+        → All (HasRow log centre) q.mine → HaveRows d.site.names (histories_of (set d.passes place q)) d.agent log
+    rows-set log longer mine k name history at there =
+        let after = slice_get-map_from seen passes' k history there in
+        ⊎_elim
+        (λ (here : k ≡ place).
+        let same : name ≡ centre = same_Some name centre (sym at ∙ ap (slice_get d.site.names) here ∙ named) in
+        let now : q.seen ≡ history = ap seen (sym (is-set k after.0 after.1 here)) ∙ after.2 in
+        subst (λ h. All (HasRow log name) (calls_of d.agent h)) now
+        (subst (All (HasRow log name)) mine-new (subst (λ n. All (HasRow log n) q.mine) (sym same) mine)))
+        (λ (other : k ≡ place → ⊥).
+        longer name (calls_of d.agent history)
+        (is.agrees.calls k name history at
+        (slice_get-map_at seen d.passes k after.0 (sym (slice_get-set_other d.passes place k q other) ∙ after.1) ∙ ap Some after.2)))
+        (cases_eq k place)
+
+    -- after a turn that added nothing
+    pub desk-seen : SeesRoom t p q → IsDesk (record d { passes = set d.passes place q })
+    desk-seen room =
+        let same : q.mine ≡ p.mine = ap (λ (x : PassState Entry Origin). x.mine) room.sees.after in
+        let grown : HasGrown (length d.log) p q = grown-sees t p q (length d.log) room.sees in
+        record {
+          agent_is = is.agent_is;
+          are = are-set d.agent (length d.log) place d.site.centres d.passes is.are t p q at-t at-p keeps.own keeps.number;
+          holds = holds-set;
+          agrees = Agrees-longer (origins_of d.site.centres) d.site.names (histories_of d.passes) (histories_of passes') d.agent d.log is.agrees
+              (longer-set d.agent (length d.log) place d.site.centres d.passes is.are t p q at-t at-p keeps.own keeps.number grown)
+              (rows-set d.log (λ name es all. all) (subst (All (HasRow d.log centre)) (sym same) mine-rows));
+          waits = is.waits;
+        }
+
+    module _ (ask : Ask) (op : Op) (sound : OpOf ask (Sound op)) where
+      abbrev next : ℕ
+      next = length d.log + 1
+
+      abbrev row-of : LogResult → LogRow
+      row-of became = record { number = length d.log + 1; centre = centre; ask = Some ask; result = became }
+
+      id-is : call_id p next ≡ numbered d.agent next
+      id-is = ap (λ n. numbered n next) own-pass.number
+
+      call-stands : (told : Answer) (m : Makes t p next op told q) → Contains q.seen (Called (numbered d.agent next) op m.result m.items)
+      call-stands told m = subst (λ (i : CallId). Contains q.seen (Called i op m.result m.items)) id-is (makes-stands t p q next op told m)
+
+      called : (told : Answer) → Makes t p next op told q → IsCalled q.seen (numbered d.agent next) ask
+      called told m = record {
+        op = op;
+        is = sound;
+        called = record { result = m.result; items = m.items; stands = call-stands told m };
+      }
+
+      was-full : (weight pending : ℕ) → SeesFull t p weight pending q → WasFull t.origin q.seen (numbered d.agent next) weight pending
+      was-full weight pending h =
+          let whole : q.seen ≡ take (length q.seen) q.seen = sym (take_all (length q.seen) q.seen (omega arith)) in
+          let same : p.mine ≡ calls_of d.agent q.seen = sym (ap (λ (x : PassState Entry Origin). x.mine) h.sees.after) ∙ mine-new in
+          let before : All (λ e. (id_of e).number < next) (calls_of d.agent q.seen) = subst (All (λ e. (id_of e).number < next)) same (pass-next next refl) in
+          record {
+            n = length q.seen;
+            within = omega arith;
+            quiescent = subst (λ es. IsQuiescent (after_history (opening t.origin) es)) whole keeps.own.rest.quiescent;
+            full = subst (IsFull t.origin) whole h.full;
+            weighed = h.weight_is ∙ ap entries.weight whole;
+            waited = h.pending_is ∙ ap (pending_after t.origin) whole;
+            before = subst (λ es. All (λ e. (id_of e).number < next) (calls_of d.agent es)) whole before;
+            behind = subst (λ es. All (λ e. next < (id_of e).number) (calls_of d.agent es))
+                (sym (drop_all (length q.seen) q.seen (omega arith))) (All-nil (λ e. next < (id_of e).number));
+          }
+
+      refused-agrees : (why : Refusal) → IsTurn t p next op (Refused why) q → AgreesRefused t.origin q.seen (numbered d.agent next) why
+      refused-agrees (refusal.Full weight pending) turn = was-full weight pending turn
+      refused-agrees refusal.TurnsSpent turn = tt
+      refused-agrees refusal.UnknownCentre turn = tt
+      refused-agrees refusal.Waiting turn = tt
+      refused-agrees refusal.Denied turn = tt
+      refused-agrees refusal.TooBig turn = tt
+      refused-agrees refusal.NotGround turn = tt
+      refused-agrees (refusal.BadSpec bad) turn = tt
+      refused-agrees refusal.NoMemory turn = absurd turn
+
+      -- the row agrees with what the pass has seen
+      row-agrees : (became : LogResult) → IsTurn t p next op became q
+          → AgreesRow t.origin q.seen (numbered d.agent next) d.log (length d.log) (row-of became) became
+      row-agrees (Replied r) turn = record {
+        ask = ask;
+        asked = refl;
+        served = (called (answer.Replied r) turn, subst (λ (i : CallId). reply_in q.seen i ≡ Some r) id-is turn.answer);
+      }
+      row-agrees Pending turn = (
+        record { ask = ask; asked = refl; served = called answer.Pending turn },
+        record {
+          op = op;
+          items = turn.items;
+          stands = subst (λ (r : Outcome). Contains q.seen (Called (numbered d.agent next) op r turn.items))
+              (makes-waits t p q next op answer.Pending turn turn.answer) (call-stands answer.Pending turn);
+        },
+      )
+      row-agrees (Refused why) turn = refused-agrees why turn
+      row-agrees (Polled told) turn = absurd turn
+
+      longer-row : (became : LogResult) (name : List ℕ) (es : List Entry) → All (HasRow d.log name) es → All (HasRow (d.log ++ row-of became ∷ []) name) es
+      longer-row became name es all = HaveRow-longer d.log (row-of became ∷ []) name es all
+
+      made-rows : (became : LogResult) (told : Answer) (m : Makes t p next op told q) → (let e : Entry = Called (call_id p next) op m.result m.items in HasRow (d.log ++ row-of became ∷ []) centre e)
+          → All (HasRow (d.log ++ row-of became ∷ []) centre) q.mine
+      made-rows became told m has =
+          let e : Entry = Called (call_id p next) op m.result m.items in
+          subst (All (HasRow (d.log ++ row-of became ∷ []) centre)) (sym (ap (λ (x : PassState Entry Origin). x.mine) m.after))
+          (All-push (HasRow (d.log ++ row-of became ∷ []) centre) p.mine e (longer-row became centre p.mine mine-rows) has)
+
+      same-rows : (became : LogResult) → q.mine ≡ p.mine → All (HasRow (d.log ++ row-of became ∷ []) centre) q.mine
+      same-rows became same = subst (All (HasRow (d.log ++ row-of became ∷ []) centre)) (sym same) (longer-row became centre p.mine mine-rows)
+
+      refused-rows : (why : Refusal) → IsTurn t p next op (Refused why) q → All (HasRow (d.log ++ row-of (Refused why) ∷ []) centre) q.mine
+      refused-rows (refusal.Full weight pending) turn = same-rows (Refused (refusal.Full weight pending)) (ap (λ (x : PassState Entry Origin). x.mine) turn.sees.after)
+      refused-rows refusal.TurnsSpent turn = same-rows (Refused refusal.TurnsSpent) (ap (λ (x : PassState Entry Origin). x.mine) turn.1)
+      refused-rows refusal.UnknownCentre turn = absurd turn
+      refused-rows refusal.Waiting turn = absurd turn
+      refused-rows refusal.Denied turn = absurd turn
+      refused-rows refusal.TooBig turn = absurd turn
+      refused-rows refusal.NotGround turn = absurd turn
+      refused-rows (refusal.BadSpec bad) turn = absurd turn
+      refused-rows refusal.NoMemory turn = absurd turn
+
+      -- what the agent has made at this centre has its rows
+      turn-rows : (became : LogResult) → IsTurn t p next op became q → All (HasRow (d.log ++ row-of became ∷ []) centre) q.mine
+      turn-rows (Replied r) turn = made-rows (Replied r) (answer.Replied r) turn (record {
+        k = length d.log;
+        counted = refl;
+        row = row-of (Replied r);
+        stands = slice_get_pushed d.log (row-of (Replied r));
+        there = refl;
+        made = refl;
+      })
+      turn-rows Pending turn = made-rows Pending answer.Pending turn (record {
+        k = length d.log;
+        counted = refl;
+        row = row-of Pending;
+        stands = slice_get_pushed d.log (row-of Pending);
+        there = refl;
+        made = refl;
+      })
+      turn-rows (Refused why) turn = refused-rows why turn
+      turn-rows (Polled told) turn = absurd turn
+
+      next-row : (became : LogResult) → IsTurn t p next op became q
+          → IsNextRow (origins_of d.site.centres) d.site.names (histories_of (set d.passes place q)) d.agent d.log (row-of became)
+      next-row became turn = record {
+        counted = refl;
+        agrees = λ k origin history at began there.
+            let here : k ≡ place = same-place d.site.names k place centre site.differ at named in
+            let first = slice_get-map_from (λ (x : TurnstileState Origin). x.origin) d.site.centres k origin began in
+            let after = slice_get-map_from seen passes' k history there in
+            let of : t ≡ first.0 = same_Some t first.0 (sym at-t ∙ ap (slice_get d.site.centres) (sym here) ∙ first.1) in
+            let origins : t.origin ≡ origin = ap (λ (x : TurnstileState Origin). x.origin) of ∙ first.2 in
+            let now : q.seen ≡ history = ap seen (sym (is-set k after.0 after.1 here)) ∙ after.2 in
+            subst (λ (o : Origin). AgreesRow o history (numbered d.agent next) d.log (length d.log) (row-of became) became) origins
+            (subst (λ (h : List Entry). AgreesRow t.origin h (numbered d.agent next) d.log (length d.log) (row-of became) became) now (row-agrees became turn));
+      }
+
+      -- after a turn in which the call has come to this
+      pub desk-turned : (became : LogResult) → any_pending d.log ≡ false → HasGrown (length d.log) p q → IsTurn t p (length d.log + 1) op became q
+          → IsDesk (record d { passes = set d.passes place q; log = with_row d.log centre (Some ask) became; pending = waiting_of became (length d.log) place })
+      desk-turned became idle grown turn = record {
+        agent_is = is.agent_is;
+        are = are-set d.agent (length d.log) place d.site.centres d.passes is.are t p q at-t at-p keeps.own keeps.number;
+        holds = holds-set;
+        agrees = Agrees-push (origins_of d.site.centres) d.site.names (histories_of d.passes) (histories_of passes') d.agent d.log (row-of became) is.agrees
+            (longer-set d.agent (length d.log) place d.site.centres d.passes is.are t p q at-t at-p keeps.own keeps.number grown)
+            (next-row became turn) (rows-set (d.log ++ row-of became ∷ []) (longer-row became) (turn-rows became turn));
+        waits = waits-turned d.site.names d.log centre ask place became named idle;
+      }
+
+pub longer-same : (agent top : ℕ) (histories : List (List Entry)) → AreLonger agent top histories histories
+longer-same agent top histories = record {
+  whole = refl;
+  each = λ k old new was now.
+      let same : IsLonger agent top old old = record { more = []; grown = sym (append-nil old); above = All-nil (λ e. top < (id_of e).number) } in
+      subst (IsLonger agent top old) (same_Some old new (sym was ∙ now)) same;
+}
+
+module _ {W : Type 0} (permits : W → ℕ → ℕ → Primitive → Option ℕ) (d : AgentState W) (is : IsDesk d) (centre : List ℕ) (ask asked : Ask) (waits : Bool) where
+  judged-agrees : (why : Refusal) (origin : Origin) (history : List Entry) (id : CallId) → (why ≡ refusal.NoMemory → ⊥) → IsRefusedFor permits d.site d.agent waits centre asked why → AgreesRefused origin history id why
+  judged-agrees (refusal.Full weight pending) origin history id other refused = absurd refused
+  judged-agrees refusal.TurnsSpent origin history id other refused = tt
+  judged-agrees refusal.UnknownCentre origin history id other refused = tt
+  judged-agrees refusal.Waiting origin history id other refused = tt
+  judged-agrees refusal.Denied origin history id other refused = tt
+  judged-agrees refusal.TooBig origin history id other refused = tt
+  judged-agrees refusal.NotGround origin history id other refused = tt
+  judged-agrees (refusal.BadSpec bad) origin history id other refused = tt
+  judged-agrees refusal.NoMemory origin history id other refused = absurd (other refl)
+
+  -- after a call that was refused before its turn
+  pub desk-refused : (why : Refusal) → (why ≡ refusal.NoMemory → ⊥) → IsRefusedFor permits d.site d.agent waits centre asked why
+      → IsDesk (record d { log = with_row d.log centre (Some ask) (Refused why) })
+  desk-refused why other refused =
+      let row : LogRow = record { number = length d.log + 1; centre = centre; ask = Some ask; result = Refused why } in
+      let next : IsNextRow (origins_of d.site.centres) d.site.names (histories_of d.passes) d.agent d.log row = record {
+        counted = refl;
+        agrees = λ k origin history at began there. judged-agrees why origin history (numbered d.agent (length d.log + 1)) other refused;
+      } in
+      record {
+        agent_is = is.agent_is;
+        are = is.are;
+        holds = is.holds;
+        agrees = Agrees-push (origins_of d.site.centres) d.site.names (histories_of d.passes) (histories_of d.passes) d.agent d.log row is.agrees
+            (longer-same d.agent (length d.log) (histories_of d.passes)) next
+            (λ k name history at there. HaveRow-longer d.log (row ∷ []) name (calls_of d.agent history) (is.agrees.calls k name history at there));
+        waits = waits-refused d.site.names d.log centre ask why d.pending is.waits;
+      }

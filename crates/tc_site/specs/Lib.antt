@@ -1,0 +1,6 @@
+pub mod Sites
+pub mod Columns
+pub mod Desks
+pub mod Judging
+pub mod Turns
+pub mod Looking

@@ -1,0 +1,69 @@
+-- What a look for the reply to a pending row makes of a pass and a log.
+use Rattle.std.specs.Prelude.{◌≡◌, ℕ, ◌+◌, ◌<◌, List, ◌∷◌, ◌++◌, length, Option, Some, None, Ok, Err}
+use Rattle.std.specs.declared.result.Result.{Result}
+use Rattle.tc_desk.specs.Desks.{replied}
+use Rattle.tc_desk.specs.declared.desks.DeskFault.{DeskFault}
+use Rattle.tc_desk.specs.declared.desks.DeskFault.TheVariants as fault
+use Rattle.tc_desk.specs.declared.desks.Seen.{Seen}
+use Rattle.tc_desk.specs.declared.desks.Seen.TheVariants as seen
+use Rattle.tc_desk.specs.declared.rows.LogRow.{LogRow}
+use Rattle.tc_model.specs.Replies.{reply_in}
+use Rattle.tc_model.specs.State.{Origin}
+use Rattle.tc_model.specs.declared.entries.Entry.{Entry}
+use Rattle.tc_model.specs.declared.outcomes.Reply.{Reply}
+use Rattle.tc_shared.specs.Passes.{IsSpent, Sees, call_id}
+use Rattle.tc_turn.specs.Passes.{TurnstileState, PassState}
+use Rattle.tc_site.specs.declared.waiting.WaitingAt.{WaitingAt}
+
+-- the log with this reply in the row at a place
+abbrev pub IsPut : List LogRow → ℕ → Reply → List LogRow → Type 0
+IsPut log place reply after = (front : List LogRow) (row : LogRow) (back : List LogRow) → log ≡ front ++ row ∷ back
+    → place ≡ length front → after ≡ front ++ replied row reply ∷ back
+
+-- the call of the row at a place has a reply in what the pass q has seen, and its row has got it
+pub record HasPut (place : ℕ) (log : List LogRow) (q : PassState Entry Origin) (after : List LogRow) : Type 0 where
+  pub reply : Reply
+  pub told : reply_in q.seen (call_id q (place + 1)) ≡ Some reply
+  pub put : IsPut log place reply after
+
+-- it has none, and the log is as it was
+pub record HasNone (place : ℕ) (log : List LogRow) (q : PassState Entry Origin) (after : List LogRow) : Type 0 where
+  pub none : reply_in q.seen (call_id q (place + 1)) ≡ None
+  pub same : after ≡ log
+
+-- what came of one look
+abbrev pub IsLook : TurnstileState Origin → ℕ → PassState Entry Origin → List LogRow → Result Seen DeskFault
+    → PassState Entry Origin → List LogRow → Type 0
+IsLook t place p log (Ok seen.Answered) q after = Sees t p q × HasPut place log q after
+IsLook t place p log (Ok seen.StillPending) q after = Sees t p q × HasNone place log q after
+IsLook t place p log (Err fault.TurnsSpent) q after = IsSpent p q × (after ≡ log)
+IsLook t place p log (Err fault.NoMemory) q after = Sees t p q × (after ≡ log)
+IsLook t place p log (Err fault.Idle) q after = ⊥
+IsLook t place p log (Err (fault.Full weight pending)) q after = ⊥
+
+-- where a row is pending still, after a look
+abbrev pub still_of : WaitingAt → Result Seen DeskFault → Option WaitingAt
+still_of w (Ok seen.Answered) = None
+still_of w (Ok seen.StillPending) = Some w
+still_of w (Err why) = Some w
+
+-- why a wait put no reply: no turn is left, and if one was, the call has no reply in what the pass has seen
+pub record HasWaitedInVain (place : ℕ) (p : PassState Entry Origin) (log : List LogRow) (q : PassState Entry Origin) (after : List LogRow)
+    : Type 0 where
+  pub spent : q.turns ≡ 0
+  pub same : p.turns ≡ 0 → q ≡ p
+  pub none : 0 < p.turns → reply_in q.seen (call_id p (place + 1)) ≡ None
+  pub log_same : after ≡ log
+
+-- what came of a wait
+abbrev pub IsWait : {A : Type 0} → ℕ → PassState Entry Origin → List LogRow → Result A DeskFault → PassState Entry Origin → List LogRow → Type 0
+IsWait place p log (Ok done) q after = HasPut place log q after
+IsWait place p log (Err fault.TurnsSpent) q after = HasWaitedInVain place p log q after
+IsWait place p log (Err fault.NoMemory) q after = after ≡ log
+IsWait place p log (Err fault.Idle) q after = ⊥
+IsWait place p log (Err (fault.Full weight pending)) q after = ⊥
+
+-- where a row is pending still, after a wait
+abbrev pub left_of : {A : Type 0} → WaitingAt → Result A DeskFault → Option WaitingAt
+left_of w (Ok done) = None
+left_of w (Err why) = Some w

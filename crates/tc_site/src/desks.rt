@@ -1,0 +1,189 @@
+//! Desks of agents.
+ghost use Rattle.std.specs.Prelude.{◌≡◌, true};
+ghost use Rattle.tc_site.specs.Desks.{IsNewDesk, IsSound, desk_of};
+
+use crate::judging::{Allowed, judge};
+use crate::kits::{DeskKit, EndedDesk};
+use crate::looking::{left, look_for, still, wait_for};
+use crate::sites::Site;
+use crate::turns::{push_row, told, turn_at, waiting};
+use crate::waiting::WaitingAt;
+use std::alloc::Global;
+use std::marker::Model;
+use std::snapshot::Snapshot;
+use std::sync::Wait;
+use tc_desk::{Desk, DeskFault, LogResult, LogRow, Refusal, Seen, Served, Warden, has_pending};
+use tc_model::Ask;
+use tc_shared::CentrePass;
+use tc_term::Name;
+
+/// The desk of one agent at the centres of a site.
+#[derive(Drop)]
+pub struct AgentDesk<'a, W: Warden> {
+    site: &'a Site<W>,
+    agent: u32,
+    passes: Vec<CentrePass>,
+    log: Vec<LogRow>,
+    pending: Option<WaitingAt>,
+    held: Option<u32>,
+}
+
+impl<'a, W: Warden> Model for AgentDesk<'a, W> {
+    ghost use Rattle.std.specs.Coded.{codes};
+    ghost use Rattle.tc_term.specs.TreeCode.{coded_tree, coded_trees};
+    ghost use Rattle.tc_site.specs.Desks.{AgentState, IsDesk};
+
+    ghost Value = { AgentState W };
+
+    ghost coded = { Prim.hlevel (codes, coded_tree, coded_trees) };
+
+    ghost view = { λ d. record {
+      site = d.site.now;
+      agent = d.agent;
+      passes = d.passes.items;
+      log = d.log.items;
+      pending = d.pending;
+      held = d.held;
+    } };
+
+    ghost invariant = { λ d. IsDesk (record {
+      site = d.site.now;
+      agent = d.agent;
+      passes = d.passes.items;
+      log = d.log.items;
+      pending = d.pending;
+      held = d.held;
+    }) };
+}
+
+impl<'a, W: Warden + Drop> AgentDesk<'a, W> {
+    /// The desk of the kit's agent. It has made no call.
+    pub fn new(alloc: Global, site: &'a Site<W>, kit: DeskKit<W>) -> AgentDesk<'a, W>
+        requires { kit.site ≡ site.now }
+        ensures new { IsNewDesk site.now.names (desk_of result) }
+        ensures site { result.site ≡ site.now }
+        ensures agent { result.agent ≡ kit.agent }
+        ensures sound { IsSound W.permits result.site result.agent result.log }
+    {
+        let _ = site.names();
+        let DeskKit { agent, passes, .. } = kit;
+        AgentDesk {
+            site,
+            agent,
+            passes,
+            log: Vec::new(alloc),
+            pending: None,
+            held: None,
+        }
+    }
+
+    /// Ends the desk. The turns that it has left are gone.
+    pub fn end(self) -> EndedDesk<W>
+        requires free { (desk_of self).free ≡ true }
+        ensures { result ≡ record { site = self.entry.site; agent = self.entry.agent; log = self.entry.log } }
+    {
+        let site = Snapshot::of(self.site);
+        let AgentDesk {
+            site: _,
+            agent,
+            passes,
+            log,
+            pending: _,
+            held: _,
+        } = self;
+        EndedDesk {
+            site,
+            agent,
+            passes,
+            log,
+        }
+    }
+}
+
+impl<'a, W: Warden + Drop> Desk for AgentDesk<'a, W> {
+    type Bond = (Site<W>, u32);
+
+    ghost use Rattle.tc_site.specs.Desks.{IsSound, desk_of};
+
+    ghost bond = { λ d. (d.site, d.agent) };
+
+    ghost state = { λ d. desk_of d };
+
+    ghost sound = { λ d. IsSound W.permits d.site d.agent d.log };
+
+    fn call<R: Wait>(
+        &mut self,
+        rt: &R,
+        alloc: Global,
+        centre: &Name,
+        ask: Ask,
+    ) -> Result<Served, Refusal> {
+        if self.log.reserve(1).is_err() {
+            return Err(Refusal::NoMemory);
+        }
+        let Ok(name) = centre.copy(alloc) else {
+            return Err(Refusal::NoMemory);
+        };
+        let Ok(asked) = ask.copy(alloc) else {
+            return Err(Refusal::NoMemory);
+        };
+        let waits = self.pending.is_some();
+        match judge(alloc, self.site, self.agent, waits, centre, ask) {
+            Ok(Allowed { place, op }) => {
+                let row = self.log.len();
+                let pass = &mut self.passes[place as usize];
+                match turn_at(rt, alloc, self.site.centre(place), pass, row as u64 + 1, op) {
+                    Ok(became) => {
+                        let told = told(&became);
+                        self.pending = waiting(&became, row, place);
+                        push_row(&mut self.log, name, asked, became);
+                        return told;
+                    }
+                    Err(_) => return Err(Refusal::NoMemory),
+                }
+            }
+            Err(why) => match why {
+                Refusal::NoMemory => return Err(why),
+                _ => {
+                    push_row(&mut self.log, name, asked, LogResult::Refused(why));
+                    return Err(why);
+                }
+            },
+        }
+    }
+
+    fn look<R: Wait>(&mut self, rt: &R, alloc: Global) -> Result<Seen, DeskFault> {
+        let Some(at) = self.pending else {
+            return Err(DeskFault::Idle);
+        };
+        let _ = self.site.names();
+        let pass = &mut self.passes[at.centre as usize];
+        let centre = self.site.centre(at.centre);
+        let seen = look_for(rt, alloc, centre, pass, &mut self.log, at.row);
+        self.pending = still(at, &seen);
+        seen
+    }
+
+    fn wait<R: Wait>(&mut self, rt: &R, alloc: Global) -> Result<(), DeskFault> {
+        let Some(at) = self.pending else {
+            return Err(DeskFault::Idle);
+        };
+        let _ = self.site.names();
+        let pass = &mut self.passes[at.centre as usize];
+        let centre = self.site.centre(at.centre);
+        let waited = wait_for(rt, alloc, centre, pass, &mut self.log, at.row);
+        self.pending = left(at, &waited);
+        waited
+    }
+
+    fn poll<R: Wait>(&mut self, _rt: &R, _alloc: Global) -> Result<Seen, DeskFault> {
+        if has_pending(&self.log) {
+            return Err(DeskFault::NoMemory);
+        }
+        Err(DeskFault::Idle)
+    }
+
+    fn log(&self) -> &[LogRow] {
+        &self.log
+    }
+}

@@ -1,0 +1,30 @@
+//! Sites: shared centres, a desk at them for each agent, and who decides what agents may do.
+//!
+//! A desk keeps its agent's log, which agrees with what its passes have seen of the histories. Desks may be used
+//! in threads of their own. Once each has ended, `close` gives the cores back, and the logs.
+//!
+//! ```
+//! let (site, kits) = Site::of_cores(alloc, names, cores, &agents, warden)?;
+//! // in the thread of each kit:
+//! let mut desk = AgentDesk::new(alloc, &site, kit);
+//! let served = desk.call(rt, alloc, &centre, ask);
+//! let ended = desk.end();
+//! // with all ended desks, in order:
+//! let Closed { cores, logs } = site.close(alloc, all)?;
+//! ```
+#![tactic(auto)]
+
+mod closing;
+mod desks;
+mod judging;
+mod kits;
+mod looking;
+mod sharing;
+mod sites;
+mod turns;
+mod waiting;
+
+pub use desks::AgentDesk;
+pub use kits::{Closed, DeskKit, EndedDesk};
+pub use sites::Site;
+pub use tc_lists::NoMemory;

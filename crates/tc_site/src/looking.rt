@@ -1,0 +1,101 @@
+//! Looks for the reply to a pending row, and waits for it.
+ghost use Rattle.std.specs.Prelude.{◌≡◌, ◌+◌, ◌<◌, false, vec_len};
+ghost use Rattle.tc_model.specs.Run.{HasCall};
+ghost use Rattle.tc_shared.specs.Passes.{IsPassOf, Keeps, Waits, call_id};
+ghost use Rattle.tc_site.specs.Looking.{IsLook, IsPut, IsWait, left_of, still_of};
+
+use crate::waiting::WaitingAt;
+use std::alloc::Global;
+use std::sync::Wait;
+use tc_desk::{DeskFault, LogResult, LogRow, Seen};
+use tc_model::Reply;
+use tc_shared::{CentrePass, LookFault, SharedCentre};
+
+/// Looks in one turn for the reply to the call of the row at this place, and puts it there.
+pub(crate) fn look_for<R: Wait>(
+    rt: &R,
+    alloc: Global,
+    centre: &SharedCentre,
+    pass: &mut CentrePass,
+    log: &mut Vec<LogRow>,
+    place: usize,
+) -> Result<Seen, DeskFault>
+    requires own { IsPassOf centre.now pass.old }
+    requires free { pass.old.holds ≡ false }
+    requires inside { place < vec_len log.old }
+    requires called { HasCall (call_id pass.old (place + 1)) pass.old.seen }
+    ensures looked { IsLook centre.now place pass.old log.old.items result pass.new log.new.items }
+    ensures kept { Keeps centre.now pass.old pass.new }
+{
+    match centre.look(rt, alloc, pass, place as u64 + 1) {
+        Ok(Some(reply)) => {
+            put_reply(log, place, reply);
+            return Ok(Seen::Answered);
+        }
+        Ok(None) => return Ok(Seen::StillPending),
+        Err(LookFault::TurnsSpent) => return Err(DeskFault::TurnsSpent),
+        Err(LookFault::NoMemory) => return Err(DeskFault::NoMemory),
+    }
+}
+
+/// Waits for the reply to the call of the row at this place, and puts it there.
+pub(crate) fn wait_for<R: Wait>(
+    rt: &R,
+    alloc: Global,
+    centre: &SharedCentre,
+    pass: &mut CentrePass,
+    log: &mut Vec<LogRow>,
+    place: usize,
+) -> Result<(), DeskFault>
+    requires own { IsPassOf centre.now pass.old }
+    requires free { pass.old.holds ≡ false }
+    requires inside { place < vec_len log.old }
+    requires called { HasCall (call_id pass.old (place + 1)) pass.old.seen }
+    ensures waited { IsWait place pass.old log.old.items result pass.new log.new.items }
+    ensures turns { Waits centre.now pass.old pass.new }
+    ensures kept { Keeps centre.now pass.old pass.new }
+{
+    match centre.wait(rt, alloc, pass, place as u64 + 1) {
+        Ok(reply) => {
+            put_reply(log, place, reply);
+            return Ok(());
+        }
+        Err(LookFault::TurnsSpent) => return Err(DeskFault::TurnsSpent),
+        Err(LookFault::NoMemory) => return Err(DeskFault::NoMemory),
+    }
+}
+
+/// Puts the reply into the row at this place.
+pub(crate) fn put_reply(log: &mut Vec<LogRow>, place: usize, reply: Reply)
+    requires { place < vec_len log.old }
+    ensures { IsPut log.old.items place reply log.new.items }
+{
+    settle(&mut log[place], reply);
+}
+
+// Puts the reply into the row.
+fn settle(row: &mut LogRow, reply: Reply)
+    ensures { row.new ≡ record row.old { result = LogResult.Replied reply } }
+{
+    row.result = LogResult::Replied(reply);
+}
+
+/// Where a row is pending still, after a look.
+pub(crate) fn still(at: WaitingAt, seen: &Result<Seen, DeskFault>) -> Option<WaitingAt>
+    ensures { result ≡ still_of at seen.now }
+{
+    match seen {
+        Ok(Seen::Answered) => None,
+        Ok(Seen::StillPending) | Err(_) => Some(at),
+    }
+}
+
+/// Where a row is pending still, after a wait.
+pub(crate) fn left(at: WaitingAt, waited: &Result<(), DeskFault>) -> Option<WaitingAt>
+    ensures { result ≡ left_of at waited.now }
+{
+    match waited {
+        Ok(()) => None,
+        Err(_) => Some(at),
+    }
+}

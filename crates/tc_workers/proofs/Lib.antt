@@ -1,0 +1,9 @@
+pub mod Grants
+pub mod Follow
+pub mod Closed
+pub mod Patched
+pub mod Seating
+pub mod Leaving
+pub mod Driven
+pub mod Sharing
+pub mod Sends

@@ -1,0 +1,80 @@
+use denote.Param.Send.{param_send, sendable}
+use Rattle.std.proofs.Common.{◌≡◌, ◌∙◌, ◌+◌, ◌*◌, ◌++◌, ℕ, true, List, All, length, map, take, drop, sym, ap, subst, rules, arith}
+use Rattle.std.proofs.lemmas.List.{length-map}
+use Rattle.tc_config.specs.declared.configs.AgentConf.{AgentConf}
+use Rattle.tc_lists.proofs.Parts.{take-append_all}
+use Rattle.tc_policy.specs.declared.grants.Grant.{Grant}
+use Rattle.tc_sched.specs.Clients.{Client}
+use Rattle.tc_sched.specs.Steps.{AllWent, IsReady, left_in}
+use Rattle.tc_site.specs.Desks.{AgentState, IsSound, desk_of}
+use Rattle.tc_site.specs.Sites.{SiteState}
+use Rattle.tc_workers.specs.Crews.{AreLeft, HasRows, bare, ended_of, given_back}
+use Rattle.tc_workers.proofs.Grants.{permits_by}
+use Rattle.tc_workers.proofs.Driven.{driven-agents, driven-free, driven-left, driven-whole, if_ok, if_ok_two, ready}
+use Rattle.tc_workers.proofs.Sends.{roles_desk_send}
+use Rattle.tc_workers.proofs.crew.drive_all.Goals as goal
+use Rattle.tc_workers.proofs.crew.drive_all.Lts as lts
+
+-- an agent at its desk
+abbrev Member : Type 0
+Member = Client (AgentState (List Grant))
+
+-- the agents were driven
+abbrev Driven : List Member → List Member → Type 0
+Driven olds news =
+    AllWent {B = SiteState (List Grant) × ℕ} desk_of (λ (d : AgentState (List Grant)). (d.site, d.agent)) (λ (d : AgentState (List Grant)). IsSound permits_by d.site d.agent d.log)
+    (3 * left_in desk_of olds + 2) olds news
+
+pub drive-requires-clause-ready : goal.drive-requires-clause-ready
+drive-requires-clause-ready g c κs within =
+    let crew = c.in_ok-agents.crew.items in
+    subst (λ (cs : List Member). All (IsReady desk_of (3 * left_in desk_of cs + 2) c.args.names.now) cs) (sym c.deref_mut.ensures.value)
+    (ready permits_by c.args.site.now c.args.names.now c.args.agents.items crew c.requires.can c.in_ok-agents.ensures.crew)
+
+pub end_all-requires-clause-free : goal.end_all-requires-clause-free
+end_all-requires-clause-free g c =
+    let crew : List Member = c.in_ok-agents.crew.items in
+    let news : List Member = c.drive.new.actors in
+    let same = take-append_all news crew c.in_ok-agents.crew.len (search rules) (search rules) in
+    let went : Driven crew news = subst (λ (cs : List Member). Driven cs news) c.deref_mut.ensures.value c.in_ok-drive.ensures.went in
+    subst (All (λ (m : Member). (desk_of m.desk).free ≡ true)) (sym same)
+    (driven-free permits_by c.args.site.now c.args.names.now c.args.agents.items crew news (3 * left_in desk_of crew + 2) c.requires.can c.in_ok-agents.ensures.crew went)
+
+pub end_all-requires-clause-whole : goal.end_all-requires-clause-whole
+end_all-requires-clause-whole g c =
+    let crew : List Member = c.in_ok-agents.crew.items in
+    let news : List Member = c.drive.new.actors in
+    let same = take-append_all news crew c.in_ok-agents.crew.len (search rules) (search rules) in
+    let went : Driven crew news = subst (λ (cs : List Member). Driven cs news) c.deref_mut.ensures.value c.in_ok-drive.ensures.went in
+    let whole = driven-whole permits_by c.args.site.now c.args.names.now c.args.agents.items crew news (3 * left_in desk_of crew + 2) c.requires.can c.in_ok-agents.ensures.crew went in
+    ap length c.in_ok-agents.ensures.agents ∙ length-map c.args.agents.items bare ∙ whole ∙ sym (ap length same)
+
+pub returns-clause-agents : goal.returns-clause-agents
+returns-clause-agents g c =
+    let crew : List Member = c.in_ok-agents.crew.items in
+    let news : List Member = c.drive.new.actors in
+    let agents = c.args.agents.items in
+    let same = take-append_all news crew c.in_ok-agents.crew.len (search rules) (search rules) in
+    let went : Driven crew news = subst (λ (cs : List Member). Driven cs news) c.deref_mut.ensures.value c.in_ok-drive.ensures.went in
+    let whole : List Member = take c.in_ok-agents.crew.len (news ++ drop (length news) crew) in
+    let again = driven-agents permits_by c.args.site.now c.args.names.now agents crew news (3 * left_in desk_of crew + 2) c.requires.can c.in_ok-agents.ensures.crew went in
+    if_ok _ _ c.end_all.result
+    (λ r is. is ∙ ap (λ xs. given_back xs whole) c.in_ok-agents.ensures.agents ∙ ap (given_back (map bare agents)) same ∙ again)
+    c.end_all.ensures.agents
+
+pub returns-clause-ended : goal.returns-clause-ended
+returns-clause-ended g c =
+    let crew : List Member = c.in_ok-agents.crew.items in
+    let news : List Member = c.drive.new.actors in
+    let agents = c.args.agents.items in
+    let same = take-append_all news crew c.in_ok-agents.crew.len (search rules) (search rules) in
+    let went : Driven crew news = subst (λ (cs : List Member). Driven cs news) c.deref_mut.ensures.value c.in_ok-drive.ensures.went in
+    if_ok_two _ _ _ c.end_all.result
+    (λ r ended rows.
+    subst (AreLeft permits_by c.args.site.now agents) (sym (ended ∙ ap (map ended_of) same))
+    (driven-left permits_by c.args.site.now c.args.names.now agents crew news (3 * left_in desk_of crew + 2) c.requires.can c.in_ok-agents.ensures.crew went
+    (subst (All HasRows) same rows)))
+    c.end_all.ensures.ended c.end_all.ensures.rows
+
+pub drive-requires-send-D : goal.drive-requires-send-D
+drive-requires-send-D g c κs within = search (sendable, roles_desk_send) depth 20

@@ -1,0 +1,97 @@
+//! A run of a configuration on many threads.
+ghost use Rattle.std.specs.Prelude.{◌≡◌, ◌<◌, [], length, IfOk};
+ghost use Rattle.tc_config.specs.Good.{IsGood};
+ghost use Rattle.tc_model.specs.Choices.{TheFirst};
+ghost use Rattle.tc_runner.specs.Cores.{Goes, histories, rows_of};
+ghost use Rattle.tc_runner.specs.Plans.{IsFresh};
+
+use crate::crew::drive_all;
+use std::alloc::Global;
+use std::sync::Wait;
+use std::thread::Threads;
+use tc_desk::{Gate, NoGate};
+use tc_lists::NoMemory;
+use tc_runner::{Opened, Plan, go_on};
+use tc_site::{Closed, Site};
+use tc_term::Name;
+
+/// Runs the scripts of a configuration's agents, from their first asks to their ends.
+///
+/// The agents are dealt out to so many workers, each a thread. Once each has ended or waits, the centres
+/// are closed: an agent whose request was answered meanwhile goes on there, in this thread. The gate is
+/// passed before each ask of the workers.
+pub fn work<R: Threads + Wait + Sync, G: Gate + Sync>(
+    rt: &R,
+    alloc: Global,
+    opened: Opened,
+    workers: usize,
+    gate: &G,
+) -> Result<Opened, NoMemory>
+    requires workers { 0 < workers }
+    requires fresh { IsFresh opened.plan opened.cores.items (rows_of opened.logs.items) }
+    requires none { length opened.plan.agents ≡ 0 → opened.cores.items ≡ [] }
+    ensures plan { IfOk result (λ run. run.plan ≡ opened.plan) }
+    ensures good { IfOk result (λ run. IsGood TheFirst run.plan (histories run.plan run.cores.items)
+        (rows_of run.logs.items)) }
+    ensures goes { IfOk result (λ run. Goes run.plan run.cores.items (rows_of run.logs.items)) }
+    ensures none { IfOk result (λ run. length run.plan.agents ≡ 0 → run.cores.items ≡ []) }
+{
+    let left = worked(rt, alloc, opened, workers, gate)?;
+    go_on(alloc, left, &NoGate)
+}
+
+// How far the workers bring the run.
+fn worked<R: Threads + Wait + Sync, G: Gate + Sync>(
+    rt: &R,
+    alloc: Global,
+    opened: Opened,
+    workers: usize,
+    gate: &G,
+) -> Result<Opened, NoMemory>
+    requires workers { 0 < workers }
+    requires fresh { IsFresh opened.plan opened.cores.items (rows_of opened.logs.items) }
+    requires none { length opened.plan.agents ≡ 0 → opened.cores.items ≡ [] }
+    ensures plan { IfOk result (λ left. left.plan ≡ opened.plan) }
+    ensures goes { IfOk result (λ left. Goes left.plan left.cores.items (rows_of left.logs.items)) }
+    ensures none { IfOk result (λ left. length left.plan.agents ≡ 0 → left.cores.items ≡ []) }
+{
+    if opened.plan.agents().is_empty() {
+        return Ok(opened);
+    }
+    shared(rt, alloc, opened, workers, gate)
+}
+
+// How far the workers bring the run of some agents, at centres that they share.
+fn shared<R: Threads + Wait + Sync, G: Gate + Sync>(
+    rt: &R,
+    alloc: Global,
+    opened: Opened,
+    workers: usize,
+    gate: &G,
+) -> Result<Opened, NoMemory>
+    requires workers { 0 < workers }
+    requires some { 0 < length opened.plan.agents }
+    requires fresh { IsFresh opened.plan opened.cores.items (rows_of opened.logs.items) }
+    ensures plan { IfOk result (λ left. left.plan ≡ opened.plan) }
+    ensures goes { IfOk result (λ left. Goes left.plan left.cores.items (rows_of left.logs.items)) }
+{
+    let Opened { plan, cores, .. } = opened;
+    let (centres, roles, agents, config) = plan.into_parts();
+    let names = copies(alloc, &centres)?;
+    let (site, kits) = Site::of_cores(alloc, names, cores, &agents, roles.copy(alloc)?)?;
+    let (agents, ended) = drive_all(rt, alloc, &site, kits, agents, &centres, workers, gate)?;
+    let Closed { cores, logs } = site.close(alloc, ended)?;
+    let plan = Plan::new(centres, roles, agents, config);
+    Ok(Opened { plan, cores, logs })
+}
+
+// The same names.
+fn copies(alloc: Global, names: &[Name]) -> Result<Vec<Name>, NoMemory>
+    ensures { IfOk result (λ copies. copies.items ≡ names.now) }
+{
+    let mut copies = Vec::with_capacity(alloc, names.len())?;
+    for name in names {
+        copies.push(name.copy(alloc)?)?;
+    }
+    Ok(copies)
+}
