@@ -8,7 +8,8 @@ use Rattle.tc_config.specs.declared.faults.ConfigCause.TheVariants as cause
 use Rattle.tc_config.specs.declared.limits.TheConstants.{MOST_BYTES}
 use Rattle.tucson.specs.declared.status.Status.{Status}
 use Rattle.tucson.specs.declared.status.Status.TheVariants.{Ended, WriteFault, Refused, Blocked, ReadFault, NoMemory, Usage}
-use Rattle.tucson.specs.Answer.{Input, Whole, IsAnswer, IsInput, IsDue, IsRun}
+use Rattle.tucson.specs.Answer.{Input, Whole, IsAnswer, IsInput, IsDue}
+use Rattle.tucson.specs.Commands.{IsRun}
 use Rattle.tucson.specs.Ending.{Call, EndsAsDue, Ends, IsUnlessStopped, Tells, Writes}
 
 answers : (call : Call) (status same : Status) (input : Input) (text : List ℕ) → IsInput call.source.left call.source_after.left input → IsDue call.words input status text → (same ≡ status) × (call.sink_after.taken ≡ appended call.sink.taken text) → EndsAsDue call same

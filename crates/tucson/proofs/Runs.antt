@@ -4,10 +4,6 @@ use Rattle.tc_desk.specs.Logs.{any_pending, is_blocked}
 use Rattle.tc_desk.specs.declared.rows.LogRow.{LogRow}
 use Rattle.tc_runner.specs.Cores.{rows_of}
 
--- what holds of two values holds of two that are equal to them
-pub exchanged : {X Y : Type 0} (P : X → Y → Type 0) (x u : X) (y v : Y) → u ≡ x → v ≡ y → P x y → P u v
-exchanged P x u y v p q holds = subst (λ l. P l v) (sym p) (subst (λ l. P x l) (sym q) holds)
-
 or_true : (b : Bool) → (b || true) ≡ true
 or_true true = refl
 or_true false = refl
@@ -20,8 +16,3 @@ blocked_at (l ∷ ls) zero log within is pending =
     sym (ap (λ b. b || is_blocked (rows_of ls)) (ap (λ (v : Vec LogRow Global). any_pending v.items) (sym is) ∙ pending))
 blocked_at (l ∷ ls) (suc i) log within is pending =
     sym (ap (λ b. any_pending l.items || b) (sym (blocked_at ls i log (omega (arith, within)) is pending)) ∙ or_true (any_pending l.items))
-
--- a list as long as an empty one
-pub nil_as_long : {X : Type 0} (xs ys : List X) → length xs ≡ length ys → ys ≡ [] → xs ≡ []
-nil_as_long [] ys same none = refl
-nil_as_long (x ∷ xs) ys same none = absurd (omega (arith, same, ap length none))

@@ -1,5 +1,5 @@
 -- What a call reads, with which status it is to end, and what it is to write.
-use Rattle.std.specs.Prelude.{◌≡◌, ◌⊎◌, ℕ, decimal, Bool, true, false, Option, List, [], ◌∷◌, codes}
+use Rattle.std.specs.Prelude.{◌≡◌, ℕ, decimal, Bool, true, false, Option, List, [], ◌∷◌, codes}
 use Rattle.tc_lists.specs.Texts.{joined}
 use Rattle.tc_io.specs.Sources.{ReadsAll, ReadsPast}
 use Rattle.tc_model.specs.Choices.{TheFirst}
@@ -13,13 +13,9 @@ use Rattle.tc_config.specs.Texts.{IsRefused, Spells}
 use Rattle.tc_config.specs.declared.faults.ConfigCause.{ConfigCause}
 use Rattle.tc_config.specs.declared.faults.ConfigCause.TheVariants as cause
 use Rattle.tc_config.specs.declared.limits.TheConstants.{MOST_BYTES}
+use Rattle.tucson.specs.Commands.{IsRun}
 use Rattle.tucson.specs.declared.status.Status.{Status}
 use Rattle.tucson.specs.declared.status.Status.TheVariants.{Ended, Refused, Blocked, Usage}
-
--- the words of the one command, with and without the number of workers
-abbrev pub IsRun : List (List ℕ) → Type 0
-IsRun words =
-    (words ≡ codes "run" ∷ []) ⊎ (words ≡ codes "run" ∷ codes "--workers" ∷ codes "1" ∷ [])
 
 abbrev pub usage_text : List ℕ
 usage_text = codes "usage: tucson run [--workers N] | verify | load N SEED | serve PORT\n"

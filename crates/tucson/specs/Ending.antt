@@ -5,7 +5,8 @@ use Rattle.tc_io.specs.Sources.{SourceState}
 use Rattle.tc_io.specs.Sinks.{SinkState, AppendsFront, appended}
 use Rattle.tucson.specs.declared.status.Status.{Status}
 use Rattle.tucson.specs.declared.status.Status.TheVariants.{Ended, WriteFault, Blocked, ReadFault, NoMemory}
-use Rattle.tucson.specs.Answer.{IsRun, Input, IsInput, IsDue}
+use Rattle.tucson.specs.Answer.{Input, IsInput, IsDue}
+use Rattle.tucson.specs.Commands.{IsRun}
 
 -- a source, by its meanings, and a sink
 abbrev pub source_of : {S : Type 0} → (S → Option (List ℕ)) → (S → ℕ) → (S → Bool) → S → SourceState

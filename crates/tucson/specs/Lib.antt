@@ -1,3 +1,4 @@
 pub mod Status
+pub mod Commands
 pub mod Answer
 pub mod Ending

@@ -1,21 +1,71 @@
 //! The words of a call.
-ghost use Rattle.std.specs.Prelude.{◌≡◌, ◌↔◌, map, IsTrue};
-ghost use Rattle.tucson.specs.Answer.{IsRun};
+ghost use Rattle.std.specs.Prelude.{◌∷◌, [], ℕ, map, IfNone, IfSome};
+ghost use Rattle.tucson.specs.Commands.{Asks, IsCount, IsRun};
 
-/// Whether the words are those of the one command: `run`, or `run --workers 1`.
-pub fn asks_run(words: &[Vec<u8>]) -> bool
-    ensures { IsTrue result ↔ IsRun (map (λ w. w.items) words.now) }
+use tc_lists::read_number;
+
+/// How many workers there are where the words don't tell.
+const WORKERS: usize = 4;
+
+/// The most workers that words may tell.
+const MOST_WORKERS: u64 = 64;
+
+/// What a call is to do.
+#[derive(Clone, Copy, PartialEq, Eq, Debug)]
+pub enum Command {
+    /// To run a configuration: the agents are dealt out to so many workers, from 1 to 64.
+    Run { workers: usize },
+}
+
+/// The command that the words ask for: `run`, or `run --workers N`.
+pub fn command_of(words: &[Vec<u8>]) -> Option<Command>
+    ensures some { IfSome result (Asks (map (λ w. w.items) words.now)) }
+    ensures none { IfNone result (IsRun (map (λ w. w.items) words.now) → ⊥) }
 {
     match words {
-        [run] => is(run, b"run"),
-        [run, option, count] => is(run, b"run") & is(option, b"--workers") & is(count, b"1"),
-        _ => false,
+        [run] => of_one(run),
+        [run, option, count] => of_three(run, option, count),
+        _ => None,
     }
 }
 
-// Whether the word is this one.
-fn is(word: &Vec<u8>, text: &[u8]) -> bool
-    ensures { IsTrue result ↔ (word.now.items ≡ text.now) }
+// The command that a single word asks for.
+fn of_one(run: &[u8]) -> Option<Command>
+    ensures some { IfSome result (Asks (run.now ∷ [])) }
+    ensures none { IfNone result (IsRun (run.now ∷ []) → ⊥) }
 {
-    word.as_slice() == text
+    if run != b"run".as_slice() {
+        return None;
+    }
+    Some(Command::Run { workers: WORKERS })
+}
+
+// The command that three words ask for.
+fn of_three(run: &[u8], option: &[u8], count: &[u8]) -> Option<Command>
+    ensures some { IfSome result (Asks (run.now ∷ option.now ∷ count.now ∷ [])) }
+    ensures none { IfNone result (IsRun (run.now ∷ option.now ∷ count.now ∷ []) → ⊥) }
+{
+    if run != b"run".as_slice() {
+        return None;
+    }
+    if option != b"--workers".as_slice() {
+        return None;
+    }
+    let workers = count_of(count)?;
+    Some(Command::Run { workers })
+}
+
+// The number of workers that a word tells.
+fn count_of(word: &[u8]) -> Option<usize>
+    ensures some { IfSome result (IsCount word.now) }
+    ensures none { IfNone result ((workers : ℕ) → IsCount word.now workers → ⊥) }
+{
+    let (count, rest) = read_number(word, MOST_WORKERS)?;
+    if count == 0 {
+        return None;
+    }
+    if !rest.is_empty() {
+        return None;
+    }
+    Some(count as usize)
 }

@@ -17,9 +17,7 @@ mod status;
 mod top;
 mod writing;
 
+pub use command::{Command, command_of};
 pub use status::Status;
 pub use tc_config::ConfigCause;
 pub use top::tucson;
-
-#[cfg(test)]
-mod tests;

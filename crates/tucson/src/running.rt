@@ -1,5 +1,5 @@
 //! An input, run: what the configuration that it spells comes to.
-ghost use Rattle.std.specs.Prelude.{◌≡◌, [], ℕ, IfOk, length};
+ghost use Rattle.std.specs.Prelude.{◌≡◌, ◌<◌, [], ℕ, IfOk, length};
 ghost use Rattle.tc_io.specs.Faults.{Counts};
 ghost use Rattle.tc_model.specs.Choices.{TheFirst};
 ghost use Rattle.tc_config.specs.Configurations.{Configuration};
@@ -14,14 +14,25 @@ use crate::refusing::refused;
 use crate::status::Status;
 use crate::writing::write_run;
 use std::alloc::Global;
+use std::sync::Wait;
+use std::thread::Threads;
 use tc_config::{Config, ConfigFault, read_config};
-use tc_desk::NoGate;
+use tc_desk::Gate;
 use tc_io::Sink;
 use tc_lists::NoMemory;
-use tc_runner::{Opened, finish, open};
+use tc_runner::{Opened, go_on, open};
+use tc_workers::work;
 
 /// Answers an input: runs the configuration that it spells, or says why it spells none.
-pub fn answer<K: Sink>(alloc: Global, input: &[u8], sink: &mut K) -> Status
+pub fn answer<R: Threads + Wait + Sync, K: Sink, G: Gate + Sync>(
+    rt: &R,
+    alloc: Global,
+    workers: usize,
+    input: &[u8],
+    sink: &mut K,
+    gate: &G,
+) -> Status
+    requires { 0 < workers }
     ensures tells { Tells (IsAnswer input.now) (sink_of K.taken K.write_faults K.sure sink.old)
         (sink_of K.taken K.write_faults K.sure sink.new) result }
     ensures writes { Counts (result ≡ Status.WriteFault)
@@ -32,14 +43,22 @@ pub fn answer<K: Sink>(alloc: Global, input: &[u8], sink: &mut K) -> Status
         → IsUnlessStopped (Status.Refused clause why) result }
 {
     match read_config(alloc, input) {
-        Ok(config) => run(alloc, config, sink),
+        Ok(config) => run(rt, alloc, workers, config, sink, gate),
         Err(ConfigFault::Bad { clause, cause }) => refused(alloc, clause, cause, sink),
         Err(ConfigFault::NoMemory) => Status::NoMemory,
     }
 }
 
 // Runs a configuration, and writes what came of it.
-fn run<K: Sink>(alloc: Global, config: Config, sink: &mut K) -> Status
+fn run<R: Threads + Wait + Sync, K: Sink, G: Gate + Sync>(
+    rt: &R,
+    alloc: Global,
+    workers: usize,
+    config: Config,
+    sink: &mut K,
+    gate: &G,
+) -> Status
+    requires { 0 < workers }
     ensures tells { Tells (IsOutcome config) (sink_of K.taken K.write_faults K.sure sink.old)
         (sink_of K.taken K.write_faults K.sure sink.new) result }
     ensures writes { Counts (result ≡ Status.WriteFault)
@@ -47,21 +66,30 @@ fn run<K: Sink>(alloc: Global, config: Config, sink: &mut K) -> Status
     ensures reads { result ≡ Status.ReadFault → ⊥ }
     ensures runs { IsEndOfRun result }
 {
-    match ran(alloc, config) {
+    match ran(rt, alloc, workers, config, gate) {
         Ok(run) => write_run(alloc, &run, sink),
         Err(_) => Status::NoMemory,
     }
 }
 
 // A run of the configuration, from its first ask to its end.
-fn ran(alloc: Global, config: Config) -> Result<Opened, NoMemory>
+fn ran<R: Threads + Wait + Sync, G: Gate + Sync>(
+    rt: &R,
+    alloc: Global,
+    workers: usize,
+    config: Config,
+    gate: &G,
+) -> Result<Opened, NoMemory>
+    requires { 0 < workers }
     ensures plan { IfOk result (λ run. run.plan ≡ config) }
     ensures good { IfOk result (λ run. IsGood TheFirst run.plan (histories run.plan run.cores.items)
         (rows_of run.logs.items)) }
     ensures goes { IfOk result (λ run. Goes run.plan run.cores.items (rows_of run.logs.items)) }
     ensures none { IfOk result (λ run. length run.plan.agents ≡ 0 → run.cores.items ≡ []) }
 {
-    let mut run = open(alloc, config)?;
-    finish(alloc, &run.plan, &mut run.cores, &mut run.logs, &NoGate)?;
-    Ok(run)
+    let opened = open(alloc, config)?;
+    if workers == 1 {
+        return go_on(alloc, opened, gate);
+    }
+    work(rt, alloc, opened, workers, gate)
 }

@@ -4,31 +4,37 @@ ghost use Rattle.tc_io.specs.Faults.{Counts};
 ghost use Rattle.tc_config.specs.Configurations.{Configuration};
 ghost use Rattle.tc_config.specs.Texts.{IsRefused, Spells};
 ghost use Rattle.tc_config.specs.declared.faults.ConfigCause.{ConfigCause};
-ghost use Rattle.tucson.specs.Answer.{IsRun};
+ghost use Rattle.tucson.specs.Commands.{IsRun};
 ghost use Rattle.tucson.specs.Ending.{Ends, IsEndOfRun, IsUnlessStopped, sink_of, source_of};
 
-use crate::command::asks_run;
+use crate::command::{Command, command_of};
 use crate::refusing::refused;
 use crate::running::answer;
 use crate::status::Status;
 use crate::writing::written;
 use std::alloc::Global;
+use std::sync::Wait;
+use std::thread::Threads;
 use tc_config::{ConfigCause, MOST_BYTES};
+use tc_desk::Gate;
 use tc_io::{InputFault, Sink, Source, read_all};
 
 const USAGE: &[u8] = b"usage: tucson run [--workers N] | verify | load N SEED | serve PORT\n";
 
-/// Reads a configuration, runs the scripts of its agents on one thread, and writes the histories of
-/// its centres and the logs of its agents.
+/// Reads a configuration, runs the scripts of its agents, dealt out to so many workers, and writes the
+/// histories of its centres and the logs of its agents.
 ///
-/// Under `Ended` and `Blocked` the text holds for each centre one history that is a run from its
-/// configured state, in which each served call of an agent stands once, in script order, and every
-/// reply in the logs is the one that this run gives. Under `Blocked` some agent still waits.
-pub fn tucson<S: Source, K: Sink>(
+/// However the workers' threads interleave, under `Ended` and `Blocked` the text holds for each centre
+/// one history that is a run from its configured state, in which each served call of an agent stands
+/// once, in script order, and every reply in the logs is the one that this run gives. Under `Blocked`
+/// some agent still waits. An agent passes the gate before each of its calls.
+pub fn tucson<R: Threads + Wait + Sync, S: Source, K: Sink, G: Gate + Sync>(
+    rt: &R,
     alloc: Global,
     words: &[Vec<u8>],
     source: &mut S,
     sink: &mut K,
+    gate: &G,
 ) -> Status
     ensures ends { Ends (record {
       words = map (λ w. w.items) words.now;
@@ -54,11 +60,11 @@ pub fn tucson<S: Source, K: Sink>(
         → IfSome (S.left source.old) (λ input. (clause : ℕ) (why : ConfigCause)
         → IsRefused input clause why → IsUnlessStopped (Status.Refused clause why) result) }
 {
-    if !asks_run(words) {
+    let Some(Command::Run { workers }) = command_of(words) else {
         return written(Status::Usage, USAGE, sink);
-    }
+    };
     match read_all(alloc, source, MOST_BYTES) {
-        Ok(input) => answer(alloc, &input, sink),
+        Ok(input) => answer(rt, alloc, workers, &input, sink, gate),
         Err(InputFault::TooLong) => refused(alloc, 0, ConfigCause::Length, sink),
         Err(InputFault::Failed) => Status::ReadFault,
         Err(InputFault::NoMemory) => Status::NoMemory,

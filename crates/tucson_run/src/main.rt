@@ -7,6 +7,7 @@ use std::env;
 use std::io::ErrorKind;
 use std::process::ExitCode;
 use std::rt::Env;
+use tc_desk::NoGate;
 use tc_io::{StdSink, StdSource};
 use tc_lists::NoMemory;
 use tucson::{Status, tucson};
@@ -15,7 +16,7 @@ fn main(rt: HostRuntime) -> ExitCode {
     let mut source = StdSource::new(rt.stdin());
     let mut sink = StdSink::new(rt.stdout());
     let status = match words(&rt) {
-        Ok(words) => tucson(rt.alloc(), &words, &mut source, &mut sink),
+        Ok(words) => tucson(&rt, rt.alloc(), &words, &mut source, &mut sink, &NoGate),
         Err(_) => Status::NoMemory,
     };
     ExitCode::from(status.number())

@@ -3,24 +3,27 @@ use Rattle.tc_config.specs.Configurations.{Configuration}
 use Rattle.tc_config.specs.Texts.{IsRefused, Spells}
 use Rattle.tc_config.specs.declared.faults.ConfigCause.{ConfigCause}
 use Rattle.tc_config.specs.declared.faults.ConfigCause.TheVariants.{Length}
-use Rattle.tucson.specs.Answer.{IsAnswer, IsRun, TooLong, Unread, refused_text, usage_text}
+use Rattle.tucson.specs.Answer.{IsAnswer, TooLong, Unread, refused_text, usage_text}
+use Rattle.tucson.specs.Commands.{Asks, IsRun}
 use Rattle.tucson.specs.Ending.{IsEndOfRun, IsUnlessStopped, Tells, sink_of}
 use Rattle.tucson.specs.declared.status.Status.TheVariants.{Refused, Usage}
 use Rattle.tucson.proofs.Endings.{Ends-told, Ends-written, of_left, of_too_long}
+use Rattle.tucson.proofs.Words.{asked}
 use Rattle.tucson.proofs.top.tucson.Goals as goal
 
 -- the bytes of a word
 abbrev bytes : Vec ℕ Global → List ℕ
 bytes w = w.items
 
-pub returns-then-not-asks_run-clause-ends : goal.returns-then-not-asks_run-clause-ends
-returns-then-not-asks_run-clause-ends g c =
+pub returns-in_default-clause-ends : goal.returns-in_default-clause-ends
+returns-in_default-clause-ends g c =
     let other : IsRun (map bytes c.args.words.now) → ⊥ = search rules in
     Ends-written _ Usage c.written.result Unread usage_text refl (other, refl) c.written.ensures.wrote
 
 pub returns-in-Ok-clause-ends : goal.returns-in-Ok-clause-ends
 returns-in-Ok-clause-ends g c =
-    let run : IsRun (map bytes c.args.words.now) = c.asks_run.ensures.0 c.if-not-asks_run.false in
+    let on : Asks (map bytes c.args.words.now) c.in-Some-Run.field-0 = search rules in
+    let run = asked (map bytes c.args.words.now) c.in-Some-Run.field-0 on in
     Ends-told _ c.answer.result c.in-Ok.input.items run c.in-Ok.ensures.all
     (subst (λ (input : List ℕ). Tells (IsAnswer input) (sink_of g.K.Sink.taken g.K.Sink.write_faults g.K.Sink.sure c.args.sink.now)
     (sink_of g.K.Sink.taken g.K.Sink.write_faults g.K.Sink.sure c.answer.new.sink) c.answer.result) c.deref.ensures.value c.answer.ensures.tells)
@@ -40,7 +43,8 @@ returns-in-Ok-clause-refused g c = λ run.
 
 pub returns-in-Err-TooLong-clause-ends : goal.returns-in-Err-TooLong-clause-ends
 returns-in-Err-TooLong-clause-ends g c =
-    let run : IsRun (map bytes c.args.words.now) = c.asks_run.ensures.0 c.if-not-asks_run.false in
+    let on : Asks (map bytes c.args.words.now) c.in-Some-Run.field-0 = search rules in
+    let run = asked (map bytes c.args.words.now) c.in-Some-Run.field-0 on in
     Ends-written _ (Refused 0 Length) c.refused.result TooLong (refused_text 0 Length)
     (c.in-Err-TooLong.ensures.too_long (ap Err c.in-Err-TooLong.field-0-is)) (run, refl, refl) c.refused.ensures.wrote
 

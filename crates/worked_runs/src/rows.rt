@@ -1,0 +1,161 @@
+//! The rows of a table: configurations, with how they are run.
+use anyhow::anyhow;
+use std::alloc::Global;
+use tc_io::{MemSink, MemSource};
+use tc_lists::{NoMemory, append_number, read_number};
+
+/// The words of a call, where a row names none.
+const USUAL_WORDS: &[u8] = b" run --workers 1";
+
+/// How many bytes a read or a write moves at most, where a row doesn't say so.
+const USUAL_PIECE: u64 = 1 << 16;
+
+/// The most times that a text may be repeated, and the largest number elsewhere in a row.
+const MOST: u64 = 1 << 25;
+
+/// A configuration, with how it is run.
+#[derive(Drop)]
+pub struct Row<'t> {
+    pub name: &'t [u8],
+    pub words: Vec<Vec<u8>>,
+    input: Vec<u8>,
+    reads: Calls,
+    writes: Calls,
+}
+
+/// How many bytes a call moves at most, and the number, from 1, of the one that fails, if one does.
+#[derive(Clone, Copy)]
+struct Calls {
+    piece: u64,
+    failing: Option<u64>,
+}
+
+/// Calls of which none fails.
+const SURE: Calls = Calls {
+    piece: USUAL_PIECE,
+    failing: None,
+};
+
+/// The rows of a table, in order.
+pub fn rows(alloc: Global, table: &[u8]) -> anyhow::Result<Vec<Row<'_>>> {
+    let mut rows = Vec::new(alloc);
+    for line in table
+        .strip_suffix(b"\n")
+        .unwrap_or(table)
+        .split(|byte| *byte == b'\n')
+    {
+        if let Some(name) = line.strip_prefix(b"%% ") {
+            rows.push(Row::new(alloc, name)?)?;
+        } else if let Some(row) = rows.last_mut() {
+            row.add_line(alloc, line)?;
+        }
+    }
+    Ok(rows)
+}
+
+impl<'t> Row<'t> {
+    // The row of this name, without a line.
+    fn new(alloc: Global, name: &'t [u8]) -> Result<Row<'t>, NoMemory> {
+        Ok(Row {
+            name,
+            words: words_of(alloc, USUAL_WORDS)?,
+            input: Vec::new(alloc),
+            reads: SURE,
+            writes: SURE,
+        })
+    }
+
+    // Takes in a line, which is one of the configuration or says how that is run.
+    fn add_line(&mut self, alloc: Global, line: &[u8]) -> anyhow::Result<()> {
+        if let Some(words) = line.strip_prefix(b"%words") {
+            self.words = words_of(alloc, words)?;
+        } else if let Some(calls) = line.strip_prefix(b"%read ") {
+            self.reads = calls_of(calls)?;
+        } else if let Some(calls) = line.strip_prefix(b"%write ") {
+            self.writes = calls_of(calls)?;
+        } else if let Some(repeated) = line.strip_prefix(b"%repeat ") {
+            repeat(repeated, &mut self.input)?;
+        } else {
+            append_line(line, &mut self.input)?;
+        }
+        Ok(())
+    }
+
+    /// The source of the configuration.
+    pub fn source(&self, alloc: Global) -> Result<MemSource, NoMemory> {
+        let input = self.input.clone()?;
+        let failing = failing(alloc, self.reads)?;
+        Ok(MemSource::new(input, self.reads.piece as usize, failing))
+    }
+
+    /// The sink of what is written.
+    pub fn sink(&self, alloc: Global) -> Result<MemSink, NoMemory> {
+        let failing = failing(alloc, self.writes)?;
+        Ok(MemSink::new(alloc, self.writes.piece as usize, failing))
+    }
+}
+
+// The words of a text in which each stands behind a space.
+fn words_of(alloc: Global, text: &[u8]) -> Result<Vec<Vec<u8>>, NoMemory> {
+    let mut words = Vec::new(alloc);
+    for word in text.split(|byte| *byte == b' ').skip(1) {
+        words.push(word.to_vec(alloc)?)?;
+    }
+    Ok(words)
+}
+
+// The numbers of calls that fail.
+fn failing(alloc: Global, calls: Calls) -> Result<Vec<u64>, NoMemory> {
+    let mut numbers = Vec::new(alloc);
+    if let Some(number) = calls.failing {
+        numbers.push(number)?;
+    }
+    Ok(numbers)
+}
+
+// How much calls move, and which of them fails.
+fn calls_of(text: &[u8]) -> anyhow::Result<Calls> {
+    let (piece, behind) = number_at(text)?;
+    let (failing, _) = number_at(behind)?;
+    Ok(Calls {
+        piece,
+        failing: Some(failing),
+    })
+}
+
+// Appends the lines that stand for a number and a text.
+fn repeat(repeated: &[u8], into: &mut Vec<u8>) -> anyhow::Result<()> {
+    let (times, text) = number_at(repeated)?;
+    for number in 0..times {
+        append_numbered(text, number.saturating_add(1), into)?;
+    }
+    Ok(())
+}
+
+// The number at the front of a text, and what stands behind the space behind it.
+fn number_at(text: &[u8]) -> anyhow::Result<(u64, &[u8])> {
+    match read_number(text, MOST) {
+        Some((number, behind)) => Ok((number, behind.strip_prefix(b" ").unwrap_or(behind))),
+        None => Err(anyhow!("a row has no number where it needs one")),
+    }
+}
+
+// Appends a line of the text, with the number in place of each `#`.
+fn append_numbered(text: &[u8], number: u64, into: &mut Vec<u8>) -> Result<(), NoMemory> {
+    for byte in text {
+        if *byte == b'#' {
+            append_number(number, into)?;
+        } else {
+            into.push(*byte)?;
+        }
+    }
+    into.push(b'\n')?;
+    Ok(())
+}
+
+// Appends a line.
+fn append_line(line: &[u8], into: &mut Vec<u8>) -> Result<(), NoMemory> {
+    into.extend_from_slice(line)?;
+    into.push(b'\n')?;
+    Ok(())
+}
