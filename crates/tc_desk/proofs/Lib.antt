@@ -4,3 +4,4 @@ pub mod Histories
 pub mod Texts
 pub mod Growing
 pub mod Fitting
+pub mod Logs

@@ -13,6 +13,7 @@ pub mod Ranges
 pub mod Runs
 pub mod Positions
 pub mod Gets
+pub mod Sets
 pub mod Marks
 pub mod Texts
 pub mod Behind

@@ -27,8 +27,8 @@ use Rattle.tc_runner.specs.Steps.{GoesOn, Touches}
 use Rattle.tc_runner.proofs.Cores.{AreCores-set, AreHistories-set, Follows-served, core-at, cores-whole, history-at}
 use Rattle.tc_runner.proofs.Follow.{Follows-numbers, Follows-refused}
 use Rattle.tc_runner.proofs.Items.{item-placed}
-use Rattle.tc_runner.proofs.Logs.{results-whole}
-use Rattle.tc_runner.proofs.Sets.{slice_get-map_at, slice_get-set_same, slice_get_inside}
+use Rattle.tc_desk.proofs.Logs.{results-whole}
+use Rattle.tc_lists.proofs.Sets.{slice_get-map_at, slice_get-set_same, slice_get_inside}
 
 module _ (c : Configuration) (agent : ℕ) (a : AgentConf) (cores : List Centre) (log : List LogRow) (goes : GoesOn c agent a cores log) where
   pub some-agent : 0 < length c.agents

@@ -27,7 +27,7 @@ use Rattle.tc_runner.specs.Cores.{AreCores, histories, histories_of}
 use Rattle.tc_runner.specs.Results.{HasServed}
 use Rattle.tc_runner.proofs.Follow.{Follows-push, calls-longer}
 use Rattle.tc_runner.proofs.Later.{IsLater, IsLonger, IsLonger-same, IsRow-later}
-use Rattle.tc_runner.proofs.Sets.{slice_get-set_same, slice_get-set_other, slice_get-map_at, slice_get-map_from}
+use Rattle.tc_lists.proofs.Sets.{slice_get-set_same, slice_get-set_other, slice_get-map_at, slice_get-map_from}
 
 -- where each centre is opened, the histories are those of the cores
 histories_of-map : (ss : List CentreConf) (xs : List Centre) → length xs ≡ length ss → histories_of ss xs ≡ map (λ (x : Centre). x.history) xs

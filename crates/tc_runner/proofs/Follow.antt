@@ -23,7 +23,7 @@ use Rattle.tc_model.specs.declared.entries.Entry.{Entry}
 use Rattle.tc_model.specs.declared.entries.Entry.TheVariants.{Called}
 use Rattle.tc_model.specs.declared.outcomes.Reply.{Reply}
 use Rattle.tc_runner.proofs.Later.{IsLater, IsLater-same, IsRow-later}
-use Rattle.tc_runner.proofs.Logs.{any_pending-front, any_pending-none, results-front}
+use Rattle.tc_desk.proofs.Logs.{any_pending-front, any_pending-none, results-front}
 
 module _ (c : Configuration) (agent : ℕ) (a : AgentConf) where
   -- a log has no more rows than there are items

@@ -12,7 +12,7 @@ use Rattle.tc_lists.proofs.Parts.{drop_read}
 use Rattle.tc_lists.proofs.Places.{slice_get_longer}
 use Rattle.tc_model.specs.Scripts.{Lines}
 use Rattle.tc_model.specs.declared.scripts.ScriptItem.{ScriptItem}
-use Rattle.tc_runner.proofs.Sets.{slice_get-map_at, slice_get_inside}
+use Rattle.tc_lists.proofs.Sets.{slice_get-map_at, slice_get_inside}
 
 -- what stands behind a list
 pub slice_get-behind : {X : Type 0} (xs ys : List X) (j k : ℕ) → j ≡ length xs + k → slice_get (xs ++ ys) j ≡ slice_get ys k

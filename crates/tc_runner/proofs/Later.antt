@@ -21,7 +21,7 @@ use Rattle.tc_model.specs.State.{Origin}
 use Rattle.tc_model.specs.declared.asks.Ask.{Ask}
 use Rattle.tc_model.specs.declared.calls.CallId.{CallId}
 use Rattle.tc_model.specs.declared.entries.Entry.{Entry}
-use Rattle.tc_runner.proofs.Sets.{slice_get-as_long}
+use Rattle.tc_lists.proofs.Sets.{slice_get-as_long}
 
 -- what a history has become, where the agent's new entries have numbers above this one
 pub record IsLonger (agent top : ℕ) (old new : List Entry) : Type 0 where

@@ -24,8 +24,8 @@ use Rattle.tc_runner.specs.Clients.{AreClients, IsClient, IsLog, IsWaiting, Wait
 use Rattle.tc_runner.specs.Steps.{IsAnswered}
 use Rattle.tc_runner.specs.declared.clients.Client.{Client}
 use Rattle.tc_runner.proofs.Follow.{Follows-within}
-use Rattle.tc_runner.proofs.Logs.{any_pending-front, any_pending-push, is_pending-true}
-use Rattle.tc_runner.proofs.Sets.{slice_get_inside}
+use Rattle.tc_desk.proofs.Logs.{any_pending-front, any_pending-push, is_pending-true}
+use Rattle.tc_lists.proofs.Sets.{slice_get_inside}
 
 -- nothing is pending behind a row that isn't
 settled-push : (log : List LogRow) (row : LogRow) → any_pending log ≡ false → is_pending row.result ≡ false → any_pending (log ++ row ∷ []) ≡ false

@@ -1,5 +1,3 @@
-pub mod Sets
-pub mod Logs
 pub mod Later
 pub mod Follow
 pub mod Items

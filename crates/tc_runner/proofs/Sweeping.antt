@@ -18,7 +18,7 @@ use Rattle.tc_runner.specs.Steps.{GoesOn, Moves, ServesAt, Touches}
 use Rattle.tc_runner.specs.declared.clients.Client.{Client}
 use Rattle.tc_runner.proofs.Left.{left_in-set}
 use Rattle.tc_runner.proofs.Cores.{Follows-other}
-use Rattle.tc_runner.proofs.Sets.{slice_get-set_other, slice_get-set_same}
+use Rattle.tc_lists.proofs.Sets.{slice_get-set_other, slice_get-set_same}
 
 -- the agents below this one have ended
 pub record EndedBelow (n : ℕ) (c : Configuration) (hs : List (List Entry)) (logs : List (List LogRow)) : Type 0 where

@@ -13,7 +13,7 @@ use Rattle.tc_runner.specs.Clients.{AreClients, IsClient}
 use Rattle.tc_runner.specs.Cores.{Goes, rows_of}
 use Rattle.tc_runner.specs.Steps.{GoesOn, Moves, Touches}
 use Rattle.tc_runner.specs.declared.clients.Client.{Client}
-use Rattle.tc_runner.proofs.Sets.{slice_get-map_at}
+use Rattle.tc_lists.proofs.Sets.{slice_get-map_at}
 use Rattle.tc_runner.proofs.Sweeping.{AreClients-step, Goes-step, GoesOn-of, Sweeping, Sweeping-moved, Sweeping-still}
 
 -- the agent that was read, and the rows of its log

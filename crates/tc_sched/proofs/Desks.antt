@@ -23,7 +23,7 @@ use Rattle.tc_model.specs.declared.asks.Ask.{Ask}
 use Rattle.tc_model.specs.declared.outcomes.Reply.{Reply}
 use Rattle.tc_sched.specs.Clients.{Client, IsActor, IsItemResult, IsOfScripts}
 use Rattle.tc_sched.specs.Steps.{AsksNext, IsCall, IsReady, Went, left, left_of}
-use Rattle.tc_sched.proofs.Logs.{any_pending-push, results-whole}
+use Rattle.tc_desk.proofs.Logs.{any_pending-push, results-whole}
 use Rattle.tc_sched.proofs.Rows.{answered-last, rows-answered, rows-front, rows-push, rows-within, taken-answered, taken-push}
 
 served-item : (how : Served) (result : LogResult) → IsServedBy how result → IsItemResult result

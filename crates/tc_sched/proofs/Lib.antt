@@ -1,4 +1,3 @@
-pub mod Logs
 pub mod Rows
 pub mod Desks
 pub mod Crowds

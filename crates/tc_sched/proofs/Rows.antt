@@ -22,7 +22,7 @@ use Rattle.tc_model.specs.declared.outcomes.Reply.{Reply}
 use Rattle.tc_model.specs.declared.scripts.ScriptItem.{ScriptItem}
 use Rattle.tc_sched.specs.Clients.{IsItemRow, IsOfScripts}
 use Rattle.tc_sched.specs.Steps.{ArePlaced}
-use Rattle.tc_sched.proofs.Logs.{any_pending-front, any_pending-none, any_pending-push, results-front, results-whole}
+use Rattle.tc_desk.proofs.Logs.{any_pending-front, any_pending-none, any_pending-push, results-front, results-whole}
 
 -- the centres of all items are among so many
 steps-placed : (count place : ℕ) (scripts : List Lines) → ArePlaced count scripts

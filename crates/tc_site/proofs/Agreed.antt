@@ -17,7 +17,7 @@ use Rattle.tc_shared.specs.Passes.{IsAtRest}
 use Rattle.tc_turn.specs.Passes.{TurnstileState, PassState}
 use Rattle.tc_site.specs.Columns.{AreClosedFrom, AreColumns, IsClosedAt, IsSeenBy}
 use Rattle.tc_site.specs.Sites.{SiteState, EndedState, AllAgree, AreClosed, AreOfSite, ArePasses, AgreesSeen, HasPasses, IsEndedDesk, IsSite, histories_of, origins_of}
-use Rattle.tc_site.proofs.Places.{slice_get-as_long, slice_get-map_at, slice_get-map_from}
+use Rattle.tc_lists.proofs.Sets.{slice_get-as_long, slice_get-map_at, slice_get-map_from}
 use Rattle.tc_site.proofs.Sweeps.{All-each, AllZip-at}
 use Rattle.tc_site.proofs.Taken.{closed-at, closed-origins}
 

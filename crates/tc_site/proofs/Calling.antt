@@ -23,7 +23,7 @@ use Rattle.tc_shared.specs.declared.answers.CallFault.TheVariants as call
 use Rattle.tc_turn.specs.Passes.{TurnstileState, PassState}
 use Rattle.tc_site.specs.Sites.{IsOwnPass, ArePasses, histories_of}
 use Rattle.tc_site.specs.Turns.{HasGrown, IsTurn, became_of}
-use Rattle.tc_site.proofs.Places.{slice_get-set_same, slice_get-set_other, slice_get-map_from}
+use Rattle.tc_lists.proofs.Sets.{slice_get-set_same, slice_get-set_other, slice_get-map_from}
 
 -- a call's entry of the next number
 module _ (t : TurnstileState Origin) (p q : PassState Entry Origin) (top : ℕ) where

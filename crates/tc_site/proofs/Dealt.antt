@@ -14,7 +14,7 @@ use Rattle.tc_shared.specs.Passes.{IsFreshPassOf, IsPassOf}
 use Rattle.tc_turn.specs.Passes.{TurnstileState, PassState, new_pass, new_passes}
 use Rattle.tc_site.specs.Columns.{AreDealt, AreFreshColumns, AreOpened, columns_of}
 use Rattle.tc_site.specs.Sites.{KitState, SiteState, AreFresh, HasPasses, IsOwnPass, TURNS}
-use Rattle.tc_site.proofs.Places.{slice_get-as_long, slice_get-map_at}
+use Rattle.tc_lists.proofs.Sets.{slice_get-as_long, slice_get-map_at}
 use Rattle.tc_desk.proofs.Growing.{slice_get_middle}
 use Rattle.tc_site.proofs.Sweeps.{Swept, both-push, swept-all, turned}
 

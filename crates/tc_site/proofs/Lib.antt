@@ -1,4 +1,3 @@
-pub mod Places
 pub mod Opening
 pub mod Sweeps
 pub mod Dealt

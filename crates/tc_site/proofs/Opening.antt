@@ -11,7 +11,7 @@ use Rattle.tc_model.specs.declared.entries.Entry.{Entry}
 use Rattle.tc_turn.specs.Passes.{PassState}
 use Rattle.tc_site.specs.Sites.{SiteState, AreFresh, IsSite}
 use Rattle.tc_site.specs.Desks.{AgentState, IsDesk, IsNewDesk, desk_of, turns_of}
-use Rattle.tc_site.proofs.Places.{slice_get-as_long, slice_get_inside, slice_get-map_at, slice_get-map_from}
+use Rattle.tc_lists.proofs.Sets.{slice_get-as_long, slice_get_inside, slice_get-map_at, slice_get-map_from}
 
 module _ {W : Type 0} (s : SiteState W) (agent : ℕ) (passes : List (PassState Entry Origin)) (fresh : AreFresh agent s.centres passes) where
   abbrev new : AgentState W

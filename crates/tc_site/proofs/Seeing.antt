@@ -39,7 +39,7 @@ use Rattle.tc_site.specs.Sites.{AgreesSeen, ArePasses, IsOwnPass, IsSite, histor
 use Rattle.tc_site.specs.Turns.{HasGrown}
 use Rattle.tc_site.specs.declared.waiting.WaitingAt.{WaitingAt}
 use Rattle.tc_site.proofs.Calling.{are-set, longer-set}
-use Rattle.tc_site.proofs.Places.{slice_get-map_at, slice_get-map_from, slice_get-set_other, slice_get-set_same}
+use Rattle.tc_lists.proofs.Sets.{slice_get-map_at, slice_get-map_from, slice_get-set_other, slice_get-set_same}
 use Rattle.tc_site.proofs.Putting.{one_place, put-contains, put-decided, put-read, put-settled}
 
 -- the pass q is p, which has seen more; its agent has made nothing more

@@ -7,7 +7,7 @@ use Rattle.std.proofs.lemmas.Bool.{cases_eq}
 use Rattle.std.proofs.lemmas.List.{append-nil, append_assoc, drop_all, map-set, take_all}
 use Rattle.std.proofs.lemmas.List.Elements.{All-nil, All-cons}
 use Rattle.std.proofs.lemmas.Option.{none-some, same_Some, slice_get_read, slice_get_within}
-use Rattle.tc_site.proofs.Places.{slice_get-map_at, slice_get-set_same, slice_get-set_other}
+use Rattle.tc_lists.proofs.Sets.{slice_get-map_at, slice_get-set_same, slice_get-set_other}
 
 -- the elements below the index have become what they were to become, and the others are as they were
 pub record Swept {X : Type 0} (R : ℕ → X → X → Type 0) (olds news : List X) (index : ℕ) : Type 0 where

@@ -22,7 +22,7 @@ use Rattle.tc_turn.specs.Passes as turnstile
 use Rattle.tc_turn.specs.Passes.{TurnstileState, PassState, end_of, ended_count, AgreesWith}
 use Rattle.tc_site.specs.Columns.{AreClosedFrom, AreColumns, AreTaken, HasLast, HaveLasts, IsClosedAt, IsClosedOver, IsSeenBy, LosesLast}
 use Rattle.tc_site.specs.Sites.{ArePasses, IsOwnPass}
-use Rattle.tc_site.proofs.Places.{slice_get-as_long, slice_get_inside}
+use Rattle.tc_lists.proofs.Sets.{slice_get-as_long, slice_get_inside}
 use Rattle.tc_site.proofs.Sweeps.{All-each, Swept, last-of, swept-all, swept-step, swept-weaker}
 use Rattle.std.proofs.Math.ListN.{set}
 

@@ -44,7 +44,7 @@ use Rattle.tc_site.specs.Judging.{IsAllowed, IsRefusedFor}
 use Rattle.tc_site.specs.Sites.{IsSite, histories_of}
 use Rattle.tc_site.specs.Turns.{HasGrown, IsTurn, IsTurnRefused, told_of, waiting_of}
 use Rattle.tc_site.specs.declared.waiting.WaitingAt.{WaitingAt}
-use Rattle.tc_site.proofs.Places.{slice_get-map_at, slice_get-set_same}
+use Rattle.tc_lists.proofs.Sets.{slice_get-map_at, slice_get-set_same}
 use Rattle.tc_site.proofs.Turned.{idle-log, same-place}
 
 -- the numbers of a list in which one element is replaced

@@ -49,7 +49,7 @@ use Rattle.tc_site.specs.Sites.{IsOwnPass, IsSite, histories_of, origins_of}
 use Rattle.tc_site.specs.Turns.{HasGrown, IsTurn, waiting_of}
 use Rattle.tc_site.specs.declared.waiting.WaitingAt.{WaitingAt}
 use Rattle.tc_site.proofs.Calling.{are-set, grown-sees, longer-set}
-use Rattle.tc_site.proofs.Places.{slice_get-map_at, slice_get-map_from, slice_get-set_other, slice_get-set_same}
+use Rattle.tc_lists.proofs.Sets.{slice_get-map_at, slice_get-map_from, slice_get-set_other, slice_get-set_same}
 
 -- a name has one place
 pub same-place : (names : List (List ℕ)) (i j : ℕ) (name : List ℕ) → AllPairs ◌≢◌ names → slice_get names i ≡ Some name → slice_get names j ≡ Some name → i ≡ j

@@ -22,7 +22,7 @@ use Rattle.tc_model.specs.declared.entries.Entry.{Entry}
 use Rattle.tc_model.specs.declared.entries.Entry.TheVariants.{Called, Gave, Looked}
 use Rattle.tc_runner.proofs.Cores.{core-at, history-at, histories-map}
 use Rattle.tc_runner.proofs.Fresh.{histories-whole}
-use Rattle.tc_runner.proofs.Sets.{slice_get-as_long, slice_get_inside}
+use Rattle.tc_lists.proofs.Sets.{slice_get-as_long, slice_get_inside}
 use Rattle.tc_runner.specs.Cores.{AreCores, Goes, histories}
 use Rattle.tc_shared.specs.Passes.{IsAtRest}
 use Rattle.tc_sched.specs.Clients.{IsOfScripts}

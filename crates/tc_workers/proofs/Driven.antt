@@ -16,7 +16,7 @@ use Rattle.tc_lists.proofs.Parts.{cons_head, cons_tail}
 use Rattle.tc_model.specs.Scripts.{Lines}
 use Rattle.tc_model.specs.declared.asks.Primitive.{Primitive}
 use Rattle.tc_model.specs.declared.scripts.ScriptItem.{ScriptItem}
-use Rattle.tc_runner.proofs.Sets.{slice_get-as_long, slice_get-map_at, slice_get-map_from}
+use Rattle.tc_lists.proofs.Sets.{slice_get-as_long, slice_get-map_at, slice_get-map_from}
 use Rattle.tc_sched.specs.Clients.{Client, IsOfScripts}
 use Rattle.tc_sched.specs.Steps.{AllWent, ArePlaced, IsReady, Went, left_in, left_of}
 use Rattle.tc_site.specs.Desks.{AgentState, IsSound, desk_of}

@@ -22,7 +22,7 @@ use Rattle.tc_model.specs.declared.asks.Ask.{Ask}
 use Rattle.tc_model.specs.declared.calls.CallId.{CallId}
 use Rattle.tc_model.specs.declared.entries.Entry.{Entry}
 use Rattle.tc_model.specs.declared.entries.Entry.TheVariants.{Called, Gave, Looked}
-use Rattle.tc_runner.proofs.Sets.{slice_get-as_long, slice_get-map_at, slice_get-map_from}
+use Rattle.tc_lists.proofs.Sets.{slice_get-as_long, slice_get-map_at, slice_get-map_from}
 use Rattle.tc_sched.specs.Clients.{IsItemResult, IsOfScripts}
 
 -- in a list of different elements each has one place

@@ -8,7 +8,7 @@ use Rattle.tc_lists.proofs.Parts.{take_read}
 use Rattle.tc_lists.proofs.Places.{slice_get_push}
 use Rattle.tc_model.specs.Scripts.{Lines}
 use Rattle.tc_model.specs.declared.asks.Primitive.{Primitive}
-use Rattle.tc_runner.proofs.Sets.{slice_get-map_at}
+use Rattle.tc_lists.proofs.Sets.{slice_get-map_at}
 use Rattle.tc_sched.specs.Clients.{Client}
 use Rattle.tc_site.specs.Desks.{AgentState}
 use Rattle.tc_site.specs.Sites.{AreOfSite, KitState, SiteState}

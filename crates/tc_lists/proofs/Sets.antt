@@ -1,4 +1,4 @@
--- Lists in which one element is replaced, and places in lists that are as long.
+-- Lists in which one element is replaced, and what stands at the places of a list.
 use Rattle.std.proofs.Common.{◌≡◌, ℕ, zero, suc, ◌<◌, List, [], ◌∷◌, Some, length, map, refl, ap, ◌∙◌, sym, arith}
 use Rattle.std.proofs.Math.ListN.{set}
 use Rattle.std.specs.List.{slice_get}
@@ -6,7 +6,7 @@ use Rattle.std.specs.Option.{option_map}
 use Rattle.std.proofs.lemmas.Option.{none-some, slice_get-map}
 use Rattle.tc_lists.proofs.Options.{option_map_some}
 
--- what stands at the place of a write
+-- what stands at the place then
 pub slice_get-set_same : {X : Type 0} (xs : List X) (k : ℕ) (v x : X) → slice_get xs k ≡ Some x → slice_get (set xs k v) k ≡ Some v
 slice_get-set_same [] k v x at = absurd (none-some x at)
 slice_get-set_same (y ∷ ys) zero v x at = refl
@@ -20,21 +20,23 @@ slice_get-set_other (y ∷ ys) zero (suc j) v other = refl
 slice_get-set_other (y ∷ ys) (suc k) zero v other = refl
 slice_get-set_other (y ∷ ys) (suc k) (suc j) v other = slice_get-set_other ys k j v (λ e. other (ap suc e))
 
--- a place of a list is one of another that is as long
+-- a place of a list is one of another as long
 pub slice_get-as_long : {X Y : Type 0} (xs : List X) (ys : List Y) (k : ℕ) (x : X) → length ys ≡ length xs → slice_get xs k ≡ Some x → (y : Y) × (slice_get ys k ≡ Some y)
 slice_get-as_long [] ys k x same at = absurd (none-some x at)
 slice_get-as_long (x ∷ xs) [] k y same at = absurd (omega (arith, same))
 slice_get-as_long (x ∷ xs) (y ∷ ys) zero z same at = (y, refl)
 slice_get-as_long (x ∷ xs) (y ∷ ys) (suc k) z same at = slice_get-as_long xs ys k z (omega (arith, same)) at
 
+-- the image of what stands at a place stands there in the images
+pub slice_get-map_at : {X Y : Type 0} (f : X → Y) (xs : List X) (k : ℕ) (x : X) → slice_get xs k ≡ Some x → slice_get (map f xs) k ≡ Some (f x)
+slice_get-map_at f xs k x at = slice_get-map f xs k ∙ ap (option_map f) at
+
+-- what stands at a place of the images is the image of what stands there
+pub slice_get-map_from : {X Y : Type 0} (f : X → Y) (xs : List X) (k : ℕ) (y : Y) → slice_get (map f xs) k ≡ Some y → (x : X) × (slice_get xs k ≡ Some x) × (f x ≡ y)
+slice_get-map_from f xs k y at = option_map_some f (slice_get xs k) y (sym (slice_get-map f xs k) ∙ at)
+
+-- something stands at each place within a list
 pub slice_get_inside : {X : Type 0} (xs : List X) (k : ℕ) → k < length xs → (x : X) × (slice_get xs k ≡ Some x)
 slice_get_inside [] k inside = absurd (omega (arith, inside))
 slice_get_inside (x ∷ xs) zero inside = (x, refl)
 slice_get_inside (x ∷ xs) (suc k) inside = slice_get_inside xs k (omega (arith, inside))
-
--- the image of what stands at a place, and what it is the image of
-pub slice_get-map_at : {X Y : Type 0} (f : X → Y) (xs : List X) (k : ℕ) (x : X) → slice_get xs k ≡ Some x → slice_get (map f xs) k ≡ Some (f x)
-slice_get-map_at f xs k x at = slice_get-map f xs k ∙ ap (option_map f) at
-
-pub slice_get-map_from : {X Y : Type 0} (f : X → Y) (xs : List X) (k : ℕ) (y : Y) → slice_get (map f xs) k ≡ Some y → (x : X) × (slice_get xs k ≡ Some x) × (f x ≡ y)
-slice_get-map_from f xs k y at = option_map_some f (slice_get xs k) y (sym (slice_get-map f xs k) ∙ at)
