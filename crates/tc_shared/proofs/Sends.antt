@@ -53,74 +53,81 @@ use Rattle.tc_model.specs.contracts.outcomes.Outcome.{the_row as outcome, the_fi
 use Rattle.tc_model.specs.contracts.outcomes.Reply.{the_row as reply, the_field as reply_field}
 use Rattle.tc_model.specs.contracts.entries.Entry.{the_row as entry, the_field as entry_field}
 
+-- what the searches below know from the start
+ruleset of_terms = (sendable, crosses, knot.send-Term, knot.send-Args, name.the_send)
+
+ruleset of_events =
+    (of_terms, callid.the_send, callid.the_field_send, phase.the_field_send, eventop.the_field_send, context.the_send,
+    sign.the_field_send, cmp.the_field_send)
+
 pub args_send : IsSend args
-args_send = search (sendable, crosses, knot.send-Term, knot.send-Args, name.the_send, callid.the_send, callid.the_field_send, phase.the_field_send, eventop.the_field_send, context.the_send, sign.the_field_send, cmp.the_field_send) depth 60
+args_send = search of_events depth 60
 
 pub term_send : IsSend term
-term_send = search (sendable, crosses, knot.send-Term, knot.send-Args, name.the_send, callid.the_send, callid.the_field_send, phase.the_field_send, eventop.the_field_send, context.the_send, sign.the_field_send, cmp.the_field_send, args_send) depth 60
+term_send = search (of_events, args_send) depth 60
 
 pub term_field_send : IsSend term_field.row
-term_field_send = search (sendable, crosses, knot.send-Term, knot.send-Args, name.the_send, callid.the_send, callid.the_field_send, phase.the_field_send, eventop.the_field_send, context.the_send, sign.the_field_send, cmp.the_field_send, args_send, term_send) depth 60
+term_field_send = search (of_events, args_send, term_send) depth 60
 
 pub ground_send : IsSend ground
-ground_send = search (sendable, crosses, knot.send-Term, knot.send-Args, name.the_send, callid.the_send, callid.the_field_send, phase.the_field_send, eventop.the_field_send, context.the_send, sign.the_field_send, cmp.the_field_send, term_send, term_field_send) depth 60
+ground_send = search (of_events, term_send, term_field_send) depth 60
 
 pub pattern_send : IsSend pattern
-pattern_send = search (sendable, crosses, knot.send-Term, knot.send-Args, name.the_send, callid.the_send, callid.the_field_send, phase.the_field_send, eventop.the_field_send, context.the_send, sign.the_field_send, cmp.the_field_send, term_send, term_field_send) depth 60
+pattern_send = search (of_events, term_send, term_field_send) depth 60
 
 pub goal_send : IsSend goal
-goal_send = search (sendable, crosses, knot.send-Term, knot.send-Args, name.the_send, callid.the_send, callid.the_field_send, phase.the_field_send, eventop.the_field_send, context.the_send, sign.the_field_send, cmp.the_field_send, term_send, term_field_send) depth 60
+goal_send = search (of_events, term_send, term_field_send) depth 60
 
 pub goal_field_send : IsSend goal_field.row
-goal_field_send = search (sendable, crosses, knot.send-Term, knot.send-Args, name.the_send, callid.the_send, callid.the_field_send, phase.the_field_send, eventop.the_field_send, context.the_send, sign.the_field_send, cmp.the_field_send, term_send, term_field_send, goal_send) depth 60
+goal_field_send = search (of_events, term_send, term_field_send, goal_send) depth 60
 
 pub reaction_send : IsSend reaction
-reaction_send = search (sendable, crosses, knot.send-Term, knot.send-Args, name.the_send, callid.the_send, callid.the_field_send, phase.the_field_send, eventop.the_field_send, context.the_send, sign.the_field_send, cmp.the_field_send, term_send, term_field_send, goal_send, goal_field_send, ground_send, pattern_send) depth 60
+reaction_send = search (of_events, term_send, term_field_send, goal_send, goal_field_send, ground_send, pattern_send) depth 60
 
 pub clauses_send : IsSend clauses
-clauses_send = search (sendable, crosses, knot.send-Term, knot.send-Args, name.the_send, callid.the_send, callid.the_field_send, phase.the_field_send, eventop.the_field_send, context.the_send, sign.the_field_send, cmp.the_field_send, reaction_send) depth 60
+clauses_send = search (of_events, reaction_send) depth 60
 
 pub op_send : IsSend op
-op_send = search (sendable, crosses, knot.send-Term, knot.send-Args, name.the_send, callid.the_send, callid.the_field_send, phase.the_field_send, eventop.the_field_send, context.the_send, sign.the_field_send, cmp.the_field_send, term_send, term_field_send, ground_send, pattern_send, clauses_send) depth 60
+op_send = search (of_events, term_send, term_field_send, ground_send, pattern_send, clauses_send) depth 60
 
 pub op_field_send : IsSend op_field.row
-op_field_send = search (sendable, crosses, knot.send-Term, knot.send-Args, name.the_send, callid.the_send, callid.the_field_send, phase.the_field_send, eventop.the_field_send, context.the_send, sign.the_field_send, cmp.the_field_send, term_send, term_field_send, ground_send, pattern_send, clauses_send, op_send) depth 60
+op_field_send = search (of_events, term_send, term_field_send, ground_send, pattern_send, clauses_send, op_send) depth 60
 
 pub request_send : IsSend request
-request_send = search (sendable, crosses, knot.send-Term, knot.send-Args, name.the_send, callid.the_send, callid.the_field_send, phase.the_field_send, eventop.the_field_send, context.the_send, sign.the_field_send, cmp.the_field_send, ground_send, pattern_send) depth 60
+request_send = search (of_events, ground_send, pattern_send) depth 60
 
 pub request_field_send : IsSend request_field.row
-request_field_send = search (sendable, crosses, knot.send-Term, knot.send-Args, name.the_send, callid.the_send, callid.the_field_send, phase.the_field_send, eventop.the_field_send, context.the_send, sign.the_field_send, cmp.the_field_send, ground_send, pattern_send, request_send) depth 60
+request_field_send = search (of_events, ground_send, pattern_send, request_send) depth 60
 
 pub effect_send : IsSend effect
-effect_send = search (sendable, crosses, knot.send-Term, knot.send-Args, name.the_send, callid.the_send, callid.the_field_send, phase.the_field_send, eventop.the_field_send, context.the_send, sign.the_field_send, cmp.the_field_send, ground_send) depth 60
+effect_send = search (of_events, ground_send) depth 60
 
 pub effect_field_send : IsSend effect_field.row
-effect_field_send = search (sendable, crosses, knot.send-Term, knot.send-Args, name.the_send, callid.the_send, callid.the_field_send, phase.the_field_send, eventop.the_field_send, context.the_send, sign.the_field_send, cmp.the_field_send, ground_send, effect_send) depth 60
+effect_field_send = search (of_events, ground_send, effect_send) depth 60
 
 pub item_send : IsSend item
-item_send = search (sendable, crosses, knot.send-Term, knot.send-Args, name.the_send, callid.the_send, callid.the_field_send, phase.the_field_send, eventop.the_field_send, context.the_send, sign.the_field_send, cmp.the_field_send, effect_send, effect_field_send, ground_send) depth 60
+item_send = search (of_events, effect_send, effect_field_send, ground_send) depth 60
 
 pub item_field_send : IsSend item_field.row
-item_field_send = search (sendable, crosses, knot.send-Term, knot.send-Args, name.the_send, callid.the_send, callid.the_field_send, phase.the_field_send, eventop.the_field_send, context.the_send, sign.the_field_send, cmp.the_field_send, effect_send, effect_field_send, ground_send, item_send) depth 60
+item_field_send = search (of_events, effect_send, effect_field_send, ground_send, item_send) depth 60
 
 pub outcome_send : IsSend outcome
-outcome_send = search (sendable, crosses, knot.send-Term, knot.send-Args, name.the_send, callid.the_send, callid.the_field_send, phase.the_field_send, eventop.the_field_send, context.the_send, sign.the_field_send, cmp.the_field_send, ground_send) depth 60
+outcome_send = search (of_events, ground_send) depth 60
 
 pub outcome_field_send : IsSend outcome_field.row
-outcome_field_send = search (sendable, crosses, knot.send-Term, knot.send-Args, name.the_send, callid.the_send, callid.the_field_send, phase.the_field_send, eventop.the_field_send, context.the_send, sign.the_field_send, cmp.the_field_send, ground_send, outcome_send) depth 60
+outcome_field_send = search (of_events, ground_send, outcome_send) depth 60
 
 pub reply_send : IsSend reply
-reply_send = search (sendable, crosses, knot.send-Term, knot.send-Args, name.the_send, callid.the_send, callid.the_field_send, phase.the_field_send, eventop.the_field_send, context.the_send, sign.the_field_send, cmp.the_field_send, ground_send) depth 60
+reply_send = search (of_events, ground_send) depth 60
 
 pub reply_field_send : IsSend reply_field.row
-reply_field_send = search (sendable, crosses, knot.send-Term, knot.send-Args, name.the_send, callid.the_send, callid.the_field_send, phase.the_field_send, eventop.the_field_send, context.the_send, sign.the_field_send, cmp.the_field_send, ground_send, reply_send) depth 60
+reply_field_send = search (of_events, ground_send, reply_send) depth 60
 
 pub entry_send : IsSend entry
-entry_send = search (sendable, crosses, knot.send-Term, knot.send-Args, name.the_send, callid.the_send, callid.the_field_send, phase.the_field_send, eventop.the_field_send, context.the_send, sign.the_field_send, cmp.the_field_send, op_send, op_field_send, item_send, item_field_send, outcome_send, outcome_field_send, reply_send, reply_field_send) depth 60
+entry_send = search (of_events, op_send, op_field_send, item_send, item_field_send, outcome_send, outcome_field_send, reply_send, reply_field_send) depth 60
 
 pub entry_field_send : IsSend entry_field.row
-entry_field_send = search (sendable, crosses, knot.send-Term, knot.send-Args, name.the_send, callid.the_send, callid.the_field_send, phase.the_field_send, eventop.the_field_send, context.the_send, sign.the_field_send, cmp.the_field_send, op_send, op_field_send, item_send, item_field_send, outcome_send, outcome_field_send, reply_send, reply_field_send, entry_send) depth 60
+entry_field_send = search (of_events, op_send, op_field_send, item_send, item_field_send, outcome_send, outcome_field_send, reply_send, reply_field_send, entry_send) depth 60
 
 pub held_send : IsSend held
 held_send = search (sendable, crosses, ground_send) depth 60
@@ -134,47 +141,49 @@ rows_send = search (sendable, crosses, held_send, held_field_send, btree.the_sen
 pub bag_send : IsSend bag
 bag_send = search (sendable, crosses, rows_send, bagmark.the_field_send) depth 60
 
+ruleset of_heaps = (of_terms, args_send, term_send, term_field_send, global.the_send, galloc.the_frees)
+
 pub added_send : IsSend added
-added_send = search (sendable, crosses, knot.send-Term, knot.send-Args, args_send, term_send, term_field_send, name.the_send, global.the_send, galloc.the_frees, log.the_send) depth 60
+added_send = search (of_heaps, log.the_send) depth 60
 
 pub added_field_send : IsSend added_field.row
-added_field_send = search (sendable, crosses, knot.send-Term, knot.send-Args, args_send, term_send, term_field_send, name.the_send, global.the_send, galloc.the_frees, log.the_send) depth 60
+added_field_send = search (of_heaps, log.the_send) depth 60
 
 pub solving_send : IsSend solving
-solving_send = search (sendable, crosses, knot.send-Term, knot.send-Args, args_send, term_send, term_field_send, name.the_send, global.the_send, galloc.the_frees, added_send, added_field_send, arena.the_field_send, links.the_field_send, walk.the_field_send, sizes.the_field_send) depth 60
+solving_send = search (of_heaps, added_send, added_field_send, arena.the_field_send, links.the_field_send, walk.the_field_send, sizes.the_field_send) depth 60
 
 pub solving_field_send : IsSend solving_field.row
-solving_field_send = search (sendable, crosses, knot.send-Term, knot.send-Args, args_send, term_send, term_field_send, name.the_send, global.the_send, galloc.the_frees, added_send, added_field_send, arena.the_field_send, links.the_field_send, walk.the_field_send, sizes.the_field_send) depth 60
+solving_field_send = search (of_heaps, added_send, added_field_send, arena.the_field_send, links.the_field_send, walk.the_field_send, sizes.the_field_send) depth 60
 
 pub store_send : IsSend store
-store_send = search (sendable, crosses, knot.send-Term, knot.send-Args, args_send, term_send, term_field_send, name.the_send, global.the_send, galloc.the_frees, solving_send, solving_field_send) depth 60
+store_send = search (of_heaps, solving_send, solving_field_send) depth 60
 
 pub change_send : IsSend change
-change_send = search (sendable, crosses, knot.send-Term, knot.send-Args, args_send, term_send, term_field_send, name.the_send, global.the_send, galloc.the_frees, request_send, request_field_send) depth 60
+change_send = search (of_heaps, request_send, request_field_send) depth 60
 
 pub change_field_send : IsSend change_field.row
-change_field_send = search (sendable, crosses, knot.send-Term, knot.send-Args, args_send, term_send, term_field_send, name.the_send, global.the_send, galloc.the_frees, request_send, request_field_send) depth 60
+change_field_send = search (of_heaps, request_send, request_field_send) depth 60
 
 pub pending_send : IsSend pending
-pending_send = search (sendable, crosses, knot.send-Term, knot.send-Args, args_send, term_send, term_field_send, name.the_send, global.the_send, galloc.the_frees, change_send, change_field_send, request_send, request_field_send, pendingindex.the_field_send) depth 60
+pending_send = search (of_heaps, change_send, change_field_send, request_send, request_field_send, pendingindex.the_field_send) depth 60
 
 pub spec_send : IsSend spec
-spec_send = search (sendable, crosses, knot.send-Term, knot.send-Args, args_send, term_send, term_field_send, name.the_send, global.the_send, galloc.the_frees, clauses_send, specindex.the_field_send) depth 60
+spec_send = search (of_heaps, clauses_send, specindex.the_field_send) depth 60
 
 pub founding_send : IsSend founding
-founding_send = search (sendable, crosses, knot.send-Term, knot.send-Args, args_send, term_send, term_field_send, name.the_send, global.the_send, galloc.the_frees, ground_send, clauses_send) depth 60
+founding_send = search (of_heaps, ground_send, clauses_send) depth 60
 
 pub founding_field_send : IsSend founding_field.row
-founding_field_send = search (sendable, crosses, knot.send-Term, knot.send-Args, args_send, term_send, term_field_send, name.the_send, global.the_send, galloc.the_frees, ground_send, clauses_send) depth 60
+founding_field_send = search (of_heaps, ground_send, clauses_send) depth 60
 
 pub holdings_send : IsSend holdings
-holdings_send = search (sendable, crosses, knot.send-Term, knot.send-Args, args_send, term_send, term_field_send, name.the_send, global.the_send, galloc.the_frees, founding_send, founding_field_send, spec_send, store_send, bag_send, pending_send, entry_send, entry_field_send) depth 60
+holdings_send = search (of_heaps, founding_send, founding_field_send, spec_send, store_send, bag_send, pending_send, entry_send, entry_field_send) depth 60
 
 pub holdings_field_send : IsSend holdings_field.row
-holdings_field_send = search (sendable, crosses, knot.send-Term, knot.send-Args, args_send, term_send, term_field_send, name.the_send, global.the_send, galloc.the_frees, founding_send, founding_field_send, spec_send, store_send, bag_send, pending_send, entry_send, entry_field_send) depth 60
+holdings_field_send = search (of_heaps, founding_send, founding_field_send, spec_send, store_send, bag_send, pending_send, entry_send, entry_field_send) depth 60
 
 pub core_send : IsSend core
-core_send = search (sendable, crosses, knot.send-Term, knot.send-Args, args_send, term_send, term_field_send, name.the_send, global.the_send, galloc.the_frees, holdings_send, holdings_field_send, hashmap.the_send) depth 60
+core_send = search (of_heaps, holdings_send, holdings_field_send, hashmap.the_send) depth 60
 
 pub shared_sync : IsSync shared
 shared_sync = search (sendable, crosses, turnstile.the_sync, bells.the_sync, core_send, entry_send) depth 60
