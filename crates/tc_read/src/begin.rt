@@ -61,7 +61,7 @@ pub fn begin<'a>(alloc: Global, stack: &mut Stack, token: Token<'a>, rest: Token
         } => held(stack, integer(false, value, place), 0, rest),
         Token::Word(name) => named(stack, Name::new(alloc, name)?, rest),
         Token::Quoted(inside) => {
-            let name = Name::from_vec(unquoted(alloc, inside)?);
+            let name = Name::from_vec(alloc, unquoted(alloc, inside)?)?;
             named(stack, name, rest)
         }
         Token::Symbol(sign) => signed(alloc, stack, sign, rest),

@@ -36,7 +36,7 @@ fn quoted_name<'a>(alloc: Global, bytes: &'a [u8]) -> ReadName<'a>
     if is_name(&name) {
         return Ok(None);
     }
-    Ok(Some((Name::from_vec(name), rest_from(bytes, end))))
+    Ok(Some((Name::from_vec(alloc, name)?, rest_from(bytes, end))))
 }
 
 /// The name at the front, and what stands behind it. A plain one has at most so many bytes.

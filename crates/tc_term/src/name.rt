@@ -8,9 +8,9 @@ use std::marker::Model;
 use tc_lists::NoMemory;
 
 /// The most bytes of a name for which no memory is taken.
-const SHORT: usize = 16;
+const SHORT: usize = 14;
 
-/// A list of bytes, of any length and in any encoding. Up to 16 lie in the name itself.
+/// A list of bytes, of any length and in any encoding. Up to 14 lie in the name itself, which takes 16 bytes.
 #[derive(Debug)]
 pub struct Name {
     letters: Letters,
@@ -23,11 +23,11 @@ impl Drop for Name {
     }
 }
 
-// Where the bytes lie: in the first places of so many, or in memory of their own.
+// Where the bytes lie: in the first places of so many, or in memory of their own, behind one pointer.
 #[derive(Debug, Drop)]
 enum Letters {
-    Short(usize, [u8; SHORT]),
-    Long(Vec<u8>),
+    Short(u8, [u8; SHORT]),
+    Long(Box<Vec<u8>>),
 }
 
 impl Model for Name {
@@ -43,40 +43,46 @@ impl Model for Name {
 }
 
 impl Name {
-    /// The name of these bytes, which are copied. Up to 16 take no memory.
+    /// The name of these bytes, which are copied. Up to 14 take no memory.
     pub fn new(alloc: Global, bytes: &[u8]) -> Result<Name, NoMemory>
         ensures { IfOk result (λ name. name ≡ bytes.now) }
     {
         if bytes.len() <= SHORT {
             return Ok(Name::short(bytes));
         }
-        Ok(Name {
-            letters: Letters::Long(Vec::from_slice(alloc, bytes)?),
-        })
+        Name::long(alloc, Vec::from_slice(alloc, bytes)?)
     }
 
-    /// The name of bytes that are handed over. No memory is taken.
-    pub fn from_vec(bytes: Vec<u8>) -> Name
-        ensures { result ≡ bytes.items }
+    /// The name of bytes that are handed over and not copied where they are more than 14. Up to 14 take no
+    /// memory.
+    pub fn from_vec(alloc: Global, bytes: Vec<u8>) -> Result<Name, NoMemory>
+        ensures { IfOk result (λ name. name ≡ bytes.items) }
     {
         if bytes.len() <= SHORT {
-            return Name::short(&bytes);
+            return Ok(Name::short(&bytes));
         }
-        Name {
-            letters: Letters::Long(bytes),
-        }
+        Name::long(alloc, bytes)
     }
 
     // The name of so few bytes.
     fn short(bytes: &[u8]) -> Name
-        requires { length bytes.now ≤ 16 }
+        requires { length bytes.now ≤ 14 }
         ensures { result ≡ bytes.now }
     {
         let mut places = [0; SHORT];
         places[..bytes.len()].copy_from_slice(bytes);
         Name {
-            letters: Letters::Short(bytes.len(), places),
+            letters: Letters::Short(bytes.len() as u8, places),
         }
+    }
+
+    // The name of any bytes, with memory of their own.
+    fn long(alloc: Global, bytes: Vec<u8>) -> Result<Name, NoMemory>
+        ensures { IfOk result (λ name. name ≡ bytes.items) }
+    {
+        Ok(Name {
+            letters: Letters::Long(Box::new(alloc, bytes)?),
+        })
     }
 
     /// Its bytes, of any value.
@@ -84,7 +90,7 @@ impl Name {
         ensures { result.now ≡ self.now }
     {
         match &self.letters {
-            Letters::Short(count, places) => &places[..*count],
+            Letters::Short(count, places) => &places[..*count as usize],
             Letters::Long(bytes) => bytes,
         }
     }
@@ -97,9 +103,7 @@ impl Name {
             Letters::Short(count, places) => Ok(Name {
                 letters: Letters::Short(*count, *places),
             }),
-            Letters::Long(bytes) => Ok(Name {
-                letters: Letters::Long(Vec::from_slice(alloc, bytes)?),
-            }),
+            Letters::Long(bytes) => Name::long(alloc, Vec::from_slice(alloc, bytes)?),
         }
     }
 }

@@ -151,7 +151,7 @@ impl Arena {
             ((name : List ℕ) × (shape_of self.now atom ≡ AtomNode name) × (most < length name))) }
     {
         if atom >= FIRST_NAME {
-            let name = Name::from_vec(name_of(alloc, atom - FIRST_NAME)?);
+            let name = Name::from_vec(alloc, name_of(alloc, atom - FIRST_NAME)?)?;
             return Ok(Some(name));
         }
         let Node::Atom { from, len } = self.nodes[atom] else {

@@ -8,7 +8,7 @@ use tc_term::Name;
 
 // A name of so many letters.
 fn name(alloc: Global, letters: usize) -> Result<Name, NoMemory> {
-    Ok(Name::from_vec(vec![in alloc; b'a'; letters]?))
+    Name::from_vec(alloc, vec![in alloc; b'a'; letters]?)
 }
 
 // A log of one row, that of an ask which waits at a centre with a name of so many letters.

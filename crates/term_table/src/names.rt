@@ -21,7 +21,7 @@ pub fn print_name_of(alloc: Global, parts: &[Term], into: &mut Vec<u8>) -> anyho
 // Whether a name has these bytes, as its copy has and the name that is made of them.
 fn is_kept(alloc: Global, name: &Name, bytes: &[u8]) -> anyhow::Result<bool> {
     let copy = name.copy(alloc)?;
-    let other = Name::from_vec(bytes.to_vec(alloc)?);
+    let other = Name::from_vec(alloc, bytes.to_vec(alloc)?)?;
     Ok(name.bytes() == bytes && copy == *name && other == *name)
 }
 
@@ -41,7 +41,7 @@ pub fn print_bytes(alloc: Global, numbers: &[Term], into: &mut Vec<u8>) -> anyho
         bytes.push(u8::try_from(*byte)?)?;
     }
     let mut text = Vec::new(alloc);
-    print_name(alloc, &Name::from_vec(bytes), &mut text)?;
+    print_name(alloc, &Name::from_vec(alloc, bytes)?, &mut text)?;
     append_bytes(&text, into)?;
     Ok(())
 }

@@ -80,7 +80,7 @@ fn compound(alloc: Global, name: &Name, args: Vec<Term>) -> Result<Term, NoMemor
 fn long(alloc: Global, part: &[u8], times: i64) -> anyhow::Result<Term> {
     let mut bytes = Vec::new(alloc);
     repeat(part, times, &mut bytes)?;
-    Ok(Term::Atom(Name::from_vec(bytes)))
+    Ok(Term::Atom(Name::from_vec(alloc, bytes)?))
 }
 
 // The term under so many compounds of this name.

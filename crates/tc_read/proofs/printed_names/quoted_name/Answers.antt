@@ -27,7 +27,7 @@ pub returns : goal.returns
 returns c = λ s e.
     let at = IfSome-at (λ q. IsQuotedAt c.args.bytes.now 0 q.0.items q.1) c.in_ok-name.field-0 (c.in-Some.name, c.in-Some.end)
     c.in-Some.is c.in_ok-name.ensures.found in
-    ap (λ n. Some (n, c.rest_from.result.now)) c.from_vec.ensures
+    ap (λ n. Some (n, c.rest_from.result.now)) c.in_ok-from_vec.ensures
     ∙ ap (λ r. Some (c.in-Some.name.items, r))
     (c.rest_from.ensures ∙ drop_behind c.args.bytes.now (quoted c.in-Some.name.items) at.rest c.in-Some.end at.stands at.place)
     ∙ ap (λ b. if b then None else Some (c.in-Some.name.items, at.rest))

@@ -18,7 +18,7 @@ returns-then-atom-ge-FIRST_NAME c =
     record {
       name =
           shape_in-name a.nodes.items a.text.items c.args.atom c.if-atom-ge-FIRST_NAME.true (atom_below a c.args.atom c.if-atom-ge-FIRST_NAME.true c.requires.atom)
-          ∙ ap AtomNode (sym (c.from_vec-name.ensures ∙ c.in_ok-name_of.ensures));
+          ∙ ap AtomNode (sym (c.in_ok-name.ensures ∙ c.in_ok-name_of.ensures));
       longer = tt;
     }
 
