@@ -3,7 +3,7 @@ use Rattle.std.proofs.Common.{◌≡◌, ℕ, zero, suc, ◌<◌, List, [], ◌�
 use Rattle.std.proofs.Math.ListN.{set}
 use Rattle.std.specs.List.{slice_get}
 use Rattle.std.specs.Option.{option_map}
-use Rattle.std.proofs.lemmas.Option.{none-some, slice_get-map}
+use Rattle.std.proofs.lemmas.Option.{none-some, same_Some, slice_get-map}
 use Rattle.tc_lists.proofs.Options.{option_map_some}
 
 -- what stands at the place then
@@ -40,3 +40,14 @@ pub slice_get_inside : {X : Type 0} (xs : List X) (k : ℕ) → k < length xs �
 slice_get_inside [] k inside = absurd (omega (arith, inside))
 slice_get_inside (x ∷ xs) zero inside = (x, refl)
 slice_get_inside (x ∷ xs) (suc k) inside = slice_get_inside xs k (omega (arith, inside))
+
+-- the images of a list in which an element is replaced by one that has the same image
+pub map-set_like : {X Y : Type 0} (f : X → Y) (xs : List X) (k : ℕ) (x v : X) → slice_get xs k ≡ Some x → f v ≡ f x → map f (set xs k v) ≡ map f xs
+map-set_like f [] k x v at same = refl
+map-set_like f (y ∷ ys) zero x v at same = ap (λ z. z ∷ map f ys) (same ∙ ap f (sym (same_Some y x at)))
+map-set_like f (y ∷ ys) (suc k) x v at same = ap (λ zs. f y ∷ zs) (map-set_like f ys k x v at same)
+
+pub map-set_both : {X Y : Type 0} (f : X → Y) (xs : List X) (k : ℕ) (u v : X) → f u ≡ f v → map f (set xs k u) ≡ map f (set xs k v)
+map-set_both f [] k u v same = refl
+map-set_both f (y ∷ ys) zero u v same = ap (λ z. z ∷ map f ys) same
+map-set_both f (y ∷ ys) (suc k) u v same = ap (λ zs. f y ∷ zs) (map-set_both f ys k u v same)

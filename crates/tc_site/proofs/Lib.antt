@@ -8,4 +8,5 @@ pub mod Turned
 pub mod Told
 pub mod Putting
 pub mod Seeing
+pub mod Polled
 pub mod Sends

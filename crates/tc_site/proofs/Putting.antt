@@ -1,16 +1,17 @@
 -- The reply to a pending row, put into the log, and what holds of the log then.
-use Rattle.std.proofs.Common.{◌≡◌, ◌≢◌, ℕ, ◌<◌, ◌||◌, false, List, ◌∷◌, ◌++◌, Some, AllPairs, Contains, length, get_or, set, sym, ap, ◌∙◌, subst, arith, ⊎_elim}
-use Rattle.std.specs.List.{slice_get}
-use Rattle.std.proofs.lemmas.Bool.{cases_eq, cases_order}
+use Rattle.std.proofs.Common.{◌≡◌, ◌≢◌, ℕ, ◌<◌, ◌||◌, false, List, [], ◌∷◌, ◌++◌, Some, AllPairs, Contains, length, get_or, set, refl, sym, ap, ◌∙◌, subst, arith, ⊎_elim}
+use Rattle.std.specs.List.{slice_get, list_any}
+use Rattle.std.proofs.lemmas.Bool.{cases_eq, cases_order, or_from, or_parts, true≢false}
 use Rattle.std.proofs.lemmas.List.{length-append, set_at}
 use Rattle.std.proofs.lemmas.List.Folds.{list_any-append}
 use Rattle.std.proofs.lemmas.Option.{same_Some, slice_get_within, get_or_from_slice_get}
 use Rattle.tc_desk.proofs.Growing.{slice_get_middle, slice_get_beside}
 use Rattle.tc_desk.specs.Decided.{IsDecided, IsDecidedAs, IsRead, IsReadAs}
 use Rattle.tc_desk.specs.Desks.{replied}
-use Rattle.tc_desk.specs.Logs.{any_pending, is_pending}
+use Rattle.tc_desk.specs.Logs.{any_pending, is_pending, is_served}
 use Rattle.tc_desk.specs.declared.rows.LogRow.{LogRow}
-use Rattle.tc_desk.specs.declared.rows.LogResult.TheVariants.{Pending}
+use Rattle.tc_desk.specs.declared.rows.LogResult.{LogResult}
+use Rattle.tc_desk.specs.declared.rows.LogResult.TheVariants.{Replied, Pending, Refused, Polled}
 use Rattle.tc_model.specs.Asks.{primitive_of}
 use Rattle.tc_model.specs.declared.asks.Ask.{Ask}
 use Rattle.tc_model.specs.declared.asks.Primitive.{Primitive}
@@ -35,6 +36,19 @@ one_place xs i j x differ at-i at-j =
     (get_or_from_slice_get xs k x x at-k ∙ sym (get_or_from_slice_get xs n x x at-n)) in
     ⊎_elim (λ same. same)
     (λ rest. ⊎_elim (λ less. absurd (apart i j less at-i at-j)) (λ more. absurd (apart j i more at-j at-i)) rest) (cases_order i j)
+
+-- a row that is pending was served
+pending-served : (result : LogResult) → is_served result ≡ false → is_pending result ≡ false
+pending-served (Replied reply) unserved = refl
+pending-served Pending unserved = absurd (true≢false unserved)
+pending-served (Refused why) unserved = refl
+pending-served (Polled told) unserved = refl
+
+pub unserved-settled : (rows : List LogRow) → list_any (λ (r : LogRow). is_served r.result) rows ≡ false → any_pending rows ≡ false
+unserved-settled [] none = refl
+unserved-settled (row ∷ rows) none =
+    let parts = or_parts (is_served row.result) (list_any (λ (r : LogRow). is_served r.result) rows) none in
+    or_from (is_pending row.result) (any_pending rows) (pending-served row.result parts.0) (unserved-settled rows parts.1)
 
 module _ (front : List LogRow) (row : LogRow) (back : List LogRow) (reply : Reply) (pending : row.result ≡ Pending) where
   abbrev before : List LogRow

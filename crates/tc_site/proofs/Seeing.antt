@@ -40,20 +40,20 @@ use Rattle.tc_site.specs.Turns.{HasGrown}
 use Rattle.tc_site.specs.declared.waiting.WaitingAt.{WaitingAt}
 use Rattle.tc_site.proofs.Calling.{are-set, longer-set}
 use Rattle.tc_lists.proofs.Sets.{slice_get-map_at, slice_get-map_from, slice_get-set_other, slice_get-set_same}
-use Rattle.tc_site.proofs.Putting.{one_place, put-contains, put-decided, put-read, put-settled}
+use Rattle.tc_site.proofs.Putting.{one_place, put-contains, put-decided, put-read, put-settled, unserved-settled}
 
 -- the pass q is p, which has seen more; its agent has made nothing more
 pub record HasSeen (p q : PassState Entry Origin) : Type 0 where
   pub known : IsPrefix p.seen q.seen
   pub mine : q.mine ≡ p.mine
 
-seen-sees : (t : TurnstileState Origin) (p q : PassState Entry Origin) → Sees t p q → HasSeen p q
+pub seen-sees : (t : TurnstileState Origin) (p q : PassState Entry Origin) → Sees t p q → HasSeen p q
 seen-sees t p q sees = record {
   known = sees.finds.known;
   mine = ap (λ (x : PassState Entry Origin). x.mine) sees.after;
 }
 
-seen-same : (p q : PassState Entry Origin) → q ≡ p → HasSeen p q
+pub seen-same : (p q : PassState Entry Origin) → q ≡ p → HasSeen p q
 seen-same p q same = record {
   known = ([], append-nil p.seen ∙ ap (λ (x : PassState Entry Origin). x.seen) (sym same));
   mine = ap (λ (x : PassState Entry Origin). x.mine) same;
@@ -115,7 +115,7 @@ module _ {W : Type 0} (d : AgentState W) (is : IsDesk d) (site : IsSite d.site.n
       let place = waiting.place in
       omega (arith, same, place, length-append waiting.front (waiting.row_is ∷ waiting.back))
 
-  stands : slice_get d.log w.row ≡ Some waiting.row_is
+  pub stands : slice_get d.log w.row ≡ Some waiting.row_is
   stands =
       ap (λ l. slice_get l w.row) waiting.from ∙ ap (slice_get (waiting.front ++ waiting.row_is ∷ waiting.back)) waiting.place
       ∙ slice_get_middle waiting.front waiting.row_is waiting.back
@@ -135,7 +135,7 @@ module _ {W : Type 0} (d : AgentState W) (is : IsDesk d) (site : IsSite d.site.n
     pub own-pass : IsOwnPass d.agent t p
     own-pass = is.are.each w.centre t p at-t at-p
 
-    row-at : (histories : List (List Entry)) (history : List Entry) → Agrees (origins_of d.site.centres) d.site.names histories d.agent d.log → slice_get histories w.centre ≡ Some history
+    pub row-at : (histories : List (List Entry)) (history : List Entry) → Agrees (origins_of d.site.centres) d.site.names histories d.agent d.log → slice_get histories w.centre ≡ Some history
         → AgreesRow t.origin history (numbered d.agent (w.row + 1)) d.log w.row waiting.row_is Pending
     row-at histories history agrees there =
         subst (AgreesRow t.origin history (numbered d.agent (w.row + 1)) d.log w.row waiting.row_is) waiting.pending
@@ -294,7 +294,7 @@ module _ {W : Type 0} (d : AgentState W) (is : IsDesk d) (site : IsSite d.site.n
         answered-settled : any_pending log ≡ false
         answered-settled =
             ap any_pending log-is
-            ∙ put-settled waiting.front waiting.row_is waiting.back has.reply waiting.pending waiting.settled waiting.settled_behind
+            ∙ put-settled waiting.front waiting.row_is waiting.back has.reply waiting.pending waiting.settled (unserved-settled waiting.back waiting.unserved_behind)
 
         pub answered-desk : IsDesk (with_log log None)
         answered-desk = record {
@@ -308,12 +308,12 @@ module _ {W : Type 0} (d : AgentState W) (is : IsDesk d) (site : IsSite d.site.n
           waits = answered-settled;
         }
 
-        answered-read : IsRead d.log → IsRead log
+        pub answered-read : IsRead d.log → IsRead log
         answered-read read =
             subst IsRead (sym log-is)
             (put-read waiting.front waiting.row_is waiting.back has.reply waiting.pending (subst IsRead waiting.from read))
 
-        answered-sound : (permits : W → ℕ → ℕ → Primitive → Option ℕ) → IsSound permits d.site d.agent d.log → IsSound permits d.site d.agent log
+        pub answered-sound : (permits : W → ℕ → ℕ → Primitive → Option ℕ) → IsSound permits d.site d.agent d.log → IsSound permits d.site d.agent log
         answered-sound permits sound role at =
             subst (IsDecided (Permits permits d.site.warden role) d.site.names) (sym log-is)
             (put-decided waiting.front waiting.row_is waiting.back has.reply waiting.pending (Permits permits d.site.warden role) d.site.names
@@ -562,6 +562,7 @@ pub record HasPass {W : Type 0} (d : AgentState W) (w : WaitingAt) (t : Turnstil
   pub waiting : IsWaitingAt d.site.names d.log w
   pub at_centre : slice_get d.site.centres w.centre ≡ Some t
   pub at_pass : slice_get d.passes w.centre ≡ Some p
+  pub at_row : slice_get d.log w.row ≡ Some waiting.row_is
   pub own : IsPassOf t p
   pub held : p.holds ≡ false
   pub called : HasCall (call_id p (w.row + 1)) p.seen
@@ -577,6 +578,7 @@ has-pass d is site w t p at at-t value free =
       waiting = waiting;
       at_centre = at-t;
       at_pass = at-p;
+      at_row = stands d is site w waiting;
       own = (own-pass d is site w waiting t p at-t at-p).own;
       held = is.holds w.centre p at-p ∙ none-held d.held w.centre free;
       called = waits-called d is site w waiting t p at-t at-p;

@@ -1,6 +1,6 @@
 -- A desk after a call: a pass of it has gone on, its log has a row more, and that row may be pending.
 use Rattle.std.proofs.Common.{◌≡◌, ◌≢◌, ℕ, ◌+◌, ◌<◌, ◌≤◌, Bool, true, false, List, [], ◌∷◌, ◌++◌, Option, Some, None, All, AllPairs, Contains, length, take, refl, sym, ap, ◌∙◌, subst, arith, ⊎_elim}
-use Rattle.std.specs.List.{slice_get}
+use Rattle.std.specs.List.{slice_get, list_any}
 use Rattle.std.specs.Option.{is_none, is_some}
 use Rattle.std.proofs.Math.ListN.{set}
 use Rattle.std.proofs.lemmas.Bool.{cases_eq, cases_lt, or_from, true≢false, false≢true}
@@ -12,7 +12,7 @@ use Rattle.tc_centre.specs.declared.answers.Answer.{Answer}
 use Rattle.tc_centre.specs.declared.answers.Answer.TheVariants as answer
 use Rattle.tc_desk.specs.Agreeing.{AgreesRefused, AgreesRow, AreLonger, HasRow, HaveRows, IsLonger, IsNextRow, numbered}
 use Rattle.tc_desk.specs.Desks.{with_row}
-use Rattle.tc_desk.specs.Logs.{any_pending, is_pending}
+use Rattle.tc_desk.specs.Logs.{any_pending, is_pending, is_served}
 use Rattle.tc_desk.specs.Operands.{OpOf, Sound}
 use Rattle.tc_desk.specs.Served.{IsCalled, WasFull}
 use Rattle.tc_desk.specs.declared.rows.LogResult.{LogResult}
@@ -43,7 +43,7 @@ use Rattle.tc_model.proofs.Histories.{reply_in-IsPrefix}
 use Rattle.tc_model.proofs.NextEntry.{reply_in-called}
 use Rattle.tc_shared.specs.Passes.{Keeps, Makes, SeesFull, SeesRoom, call_id}
 use Rattle.tc_turn.specs.Passes.{TurnstileState, PassState}
-use Rattle.tc_site.specs.Desks.{AgentState, IsDesk, WaitsAt, is_held}
+use Rattle.tc_site.specs.Desks.{AgentState, IsDesk, IsWaitingAt, WaitsAt, is_held}
 use Rattle.tc_site.specs.Judging.{IsRefusedFor}
 use Rattle.tc_site.specs.Sites.{IsOwnPass, IsSite, histories_of, origins_of}
 use Rattle.tc_site.specs.Turns.{HasGrown, IsTurn, waiting_of}
@@ -70,6 +70,29 @@ settled-push log row none settled =
     list_any-append (λ (r : LogRow). is_pending r.result) log (row ∷ [])
     ∙ or_from (any_pending log) (any_pending (row ∷ [])) none (or_from (is_pending row.result) (any_pending []) settled refl)
 
+-- rows of which none was served, with one more that wasn't
+pub unserved-push : (rows : List LogRow) (row : LogRow) → list_any (λ (r : LogRow). is_served r.result) rows ≡ false → is_served row.result ≡ false
+    → list_any (λ (r : LogRow). is_served r.result) (rows ++ row ∷ []) ≡ false
+unserved-push rows row none unserved =
+    list_any-append (λ (r : LogRow). is_served r.result) rows (row ∷ [])
+    ∙ or_from (list_any (λ (r : LogRow). is_served r.result) rows) (list_any (λ (r : LogRow). is_served r.result) (row ∷ [])) none
+    (or_from (is_served row.result) false unserved refl)
+
+-- a row that was not served behind the others leaves where one is pending
+abbrev pub waits-behind : (names : List (List ℕ)) (log : List LogRow) (w : WaitingAt) (row : LogRow) → IsWaitingAt names log w → is_served row.result ≡ false
+    → IsWaitingAt names (log ++ row ∷ []) w
+waits-behind names log w row waits unserved = record {
+  front = waits.front;
+  row_is = waits.row_is;
+  back = waits.back ++ row ∷ [];
+  from = ap (λ (l : List LogRow). l ++ row ∷ []) waits.from ∙ append_assoc waits.front (waits.row_is ∷ waits.back) (row ∷ []);
+  place = waits.place;
+  pending = waits.pending;
+  settled = waits.settled;
+  unserved_behind = unserved-push waits.back row waits.unserved_behind unserved;
+  named = waits.named;
+}
+
 -- where no row waits, none is pending
 pub idle-log : (names : List (List ℕ)) (log : List LogRow) (pending : Option WaitingAt) → WaitsAt names log pending → is_some pending ≡ false → any_pending log ≡ false
 idle-log names log None waits idle = waits
@@ -87,7 +110,7 @@ module _ (names : List (List ℕ)) (log : List LogRow) (centre : List ℕ) (ask 
     place = refl;
     pending = refl;
     settled = none;
-    settled_behind = refl;
+    unserved_behind = refl;
     named = named;
   }
   waits-turned place (Replied reply) named none = settled-push log (record { number = length log + 1; centre = centre; ask = Some ask; result = Replied reply }) none refl
@@ -98,18 +121,7 @@ module _ (names : List (List ℕ)) (log : List LogRow) (centre : List ℕ) (ask 
   pub waits-refused : (why : Refusal) (pending : Option WaitingAt) → WaitsAt names log pending → WaitsAt names (with_row log centre (Some ask) (Refused why)) pending
   waits-refused why None none = settled-push log (record { number = length log + 1; centre = centre; ask = Some ask; result = Refused why }) none refl
   waits-refused why (Some w) waits =
-      let row : LogRow = record { number = length log + 1; centre = centre; ask = Some ask; result = Refused why } in
-      record {
-        front = waits.front;
-        row_is = waits.row_is;
-        back = waits.back ++ row ∷ [];
-        from = ap (λ (l : List LogRow). l ++ row ∷ []) waits.from ∙ append_assoc waits.front (waits.row_is ∷ waits.back) (row ∷ []);
-        place = waits.place;
-        pending = waits.pending;
-        settled = waits.settled;
-        settled_behind = settled-push waits.back row waits.settled_behind refl;
-        named = waits.named;
-      }
+      waits-behind names log w (record { number = length log + 1; centre = centre; ask = Some ask; result = Refused why }) waits refl
 
 -- a desk that is free holds no turn
 pub none-held : (held : Option ℕ) (k : ℕ) → is_none held ≡ true → is_held held k ≡ false
@@ -222,20 +234,79 @@ module _ {W : Type 0} (d : AgentState W) (is : IsDesk d) (site : IsSite d.site.n
         (slice_get-map_at seen d.passes k after.0 (sym (slice_get-set_other d.passes place k q other) ∙ after.1) ∙ ap Some after.2)))
         (cases_eq k place)
 
-    -- after a turn that added nothing
+    -- after the pass has seen more, to which the agent added nothing
+    pub desk-longer : HasGrown (length d.log) p q → q.mine ≡ p.mine → IsDesk (record d { passes = set d.passes place q })
+    desk-longer grown same = record {
+      agent_is = is.agent_is;
+      are = are-set d.agent (length d.log) place d.site.centres d.passes is.are t p q at-t at-p keeps.own keeps.number;
+      holds = holds-set;
+      agrees = Agrees-longer (origins_of d.site.centres) d.site.names (histories_of d.passes) (histories_of passes') d.agent d.log is.agrees
+          (longer-set d.agent (length d.log) place d.site.centres d.passes is.are t p q at-t at-p keeps.own keeps.number grown)
+          (rows-set d.log (λ name es all. all) (subst (All (HasRow d.log centre)) (sym same) mine-rows));
+      waits = is.waits;
+    }
+
     pub desk-seen : SeesRoom t p q → IsDesk (record d { passes = set d.passes place q })
-    desk-seen room =
-        let same : q.mine ≡ p.mine = ap (λ (x : PassState Entry Origin). x.mine) room.sees.after in
-        let grown : HasGrown (length d.log) p q = grown-sees t p q (length d.log) room.sees in
+    desk-seen room = desk-longer (grown-sees t p q (length d.log) room.sees) (ap (λ (x : PassState Entry Origin). x.mine) room.sees.after)
+
+    -- what the agent has made at this centre has its rows, with one row more
+    pub rows-same : (row : LogRow) → q.mine ≡ p.mine → All (HasRow (d.log ++ row ∷ []) centre) q.mine
+    rows-same row same =
+        subst (All (HasRow (d.log ++ row ∷ []) centre)) (sym same) (HaveRow-longer d.log (row ∷ []) centre p.mine mine-rows)
+
+    pub rows-made : (row : LogRow) (e : Entry) → q.mine ≡ p.mine ++ e ∷ [] → HasRow (d.log ++ row ∷ []) centre e → All (HasRow (d.log ++ row ∷ []) centre) q.mine
+    rows-made row e more has =
+        subst (All (HasRow (d.log ++ row ∷ []) centre)) (sym more)
+        (All-push (HasRow (d.log ++ row ∷ []) centre) p.mine e (HaveRow-longer d.log (row ∷ []) centre p.mine mine-rows) has)
+
+    -- a turn that found the centre full
+    pub was-full : (weight pending : ℕ) → SeesFull t p weight pending q → WasFull t.origin q.seen (numbered d.agent (length d.log + 1)) weight pending
+    was-full weight pending h =
+        let whole : q.seen ≡ take (length q.seen) q.seen = sym (take_all (length q.seen) q.seen (omega arith)) in
+        let same : p.mine ≡ calls_of d.agent q.seen = sym (ap (λ (x : PassState Entry Origin). x.mine) h.sees.after) ∙ mine-new in
+        let before : All (λ e. (id_of e).number < length d.log + 1) (calls_of d.agent q.seen) =
+        subst (All (λ e. (id_of e).number < length d.log + 1)) same (pass-next (length d.log + 1) refl) in
         record {
-          agent_is = is.agent_is;
-          are = are-set d.agent (length d.log) place d.site.centres d.passes is.are t p q at-t at-p keeps.own keeps.number;
-          holds = holds-set;
-          agrees = Agrees-longer (origins_of d.site.centres) d.site.names (histories_of d.passes) (histories_of passes') d.agent d.log is.agrees
-              (longer-set d.agent (length d.log) place d.site.centres d.passes is.are t p q at-t at-p keeps.own keeps.number grown)
-              (rows-set d.log (λ name es all. all) (subst (All (HasRow d.log centre)) (sym same) mine-rows));
-          waits = is.waits;
+          n = length q.seen;
+          within = omega arith;
+          quiescent = subst (λ es. IsQuiescent (after_history (opening t.origin) es)) whole keeps.own.rest.quiescent;
+          full = subst (IsFull t.origin) whole h.full;
+          weighed = h.weight_is ∙ ap entries.weight whole;
+          waited = h.pending_is ∙ ap (pending_after t.origin) whole;
+          before = subst (λ es. All (λ e. (id_of e).number < length d.log + 1) (calls_of d.agent es)) whole before;
+          behind = subst (λ es. All (λ e. length d.log + 1 < (id_of e).number) (calls_of d.agent es))
+              (sym (drop_all (length q.seen) q.seen (omega arith))) (All-nil (λ e. length d.log + 1 < (id_of e).number));
         }
+
+    -- with a row more that agrees with what the pass has seen
+    module _ (row : LogRow) (pending : Option WaitingAt) (counted : row.number ≡ length d.log + 1) (of : row.centre ≡ centre) where
+      next-row : AgreesRow t.origin q.seen (numbered d.agent (length d.log + 1)) d.log (length d.log) row row.result
+          → IsNextRow (origins_of d.site.centres) d.site.names (histories_of (set d.passes place q)) d.agent d.log row
+      next-row agrees = record {
+        counted = counted;
+        agrees = λ k origin history at began there.
+            let here : k ≡ place = same-place d.site.names k place centre site.differ (at ∙ ap Some of) named in
+            let first = slice_get-map_from (λ (x : TurnstileState Origin). x.origin) d.site.centres k origin began in
+            let after = slice_get-map_from seen passes' k history there in
+            let same : t ≡ first.0 = same_Some t first.0 (sym at-t ∙ ap (slice_get d.site.centres) (sym here) ∙ first.1) in
+            let origins : t.origin ≡ origin = ap (λ (x : TurnstileState Origin). x.origin) same ∙ first.2 in
+            let now : q.seen ≡ history = ap seen (sym (is-set k after.0 after.1 here)) ∙ after.2 in
+            subst (λ (o : Origin). AgreesRow o history (numbered d.agent (length d.log + 1)) d.log (length d.log) row row.result) origins
+            (subst (λ (h : List Entry). AgreesRow t.origin h (numbered d.agent (length d.log + 1)) d.log (length d.log) row row.result) now agrees);
+      }
+
+      pub desk-pushed : HasGrown (length d.log) p q → AgreesRow t.origin q.seen (numbered d.agent (length d.log + 1)) d.log (length d.log) row row.result
+          → All (HasRow (d.log ++ row ∷ []) centre) q.mine → WaitsAt d.site.names (d.log ++ row ∷ []) pending
+          → IsDesk (record d { passes = set d.passes place q; log = d.log ++ row ∷ []; pending = pending })
+      desk-pushed grown agrees made waits = record {
+        agent_is = is.agent_is;
+        are = are-set d.agent (length d.log) place d.site.centres d.passes is.are t p q at-t at-p keeps.own keeps.number;
+        holds = holds-set;
+        agrees = Agrees-push (origins_of d.site.centres) d.site.names (histories_of d.passes) (histories_of passes') d.agent d.log row is.agrees
+            (longer-set d.agent (length d.log) place d.site.centres d.passes is.are t p q at-t at-p keeps.own keeps.number grown)
+            (next-row agrees) (rows-set (d.log ++ row ∷ []) (λ name es all. HaveRow-longer d.log (row ∷ []) name es all) made);
+        waits = waits;
+      }
 
     module _ (ask : Ask) (op : Op) (sound : OpOf ask (Sound op)) where
       abbrev next : ℕ
@@ -256,23 +327,6 @@ module _ {W : Type 0} (d : AgentState W) (is : IsDesk d) (site : IsSite d.site.n
         is = sound;
         called = record { result = m.result; items = m.items; stands = call-stands told m };
       }
-
-      was-full : (weight pending : ℕ) → SeesFull t p weight pending q → WasFull t.origin q.seen (numbered d.agent next) weight pending
-      was-full weight pending h =
-          let whole : q.seen ≡ take (length q.seen) q.seen = sym (take_all (length q.seen) q.seen (omega arith)) in
-          let same : p.mine ≡ calls_of d.agent q.seen = sym (ap (λ (x : PassState Entry Origin). x.mine) h.sees.after) ∙ mine-new in
-          let before : All (λ e. (id_of e).number < next) (calls_of d.agent q.seen) = subst (All (λ e. (id_of e).number < next)) same (pass-next next refl) in
-          record {
-            n = length q.seen;
-            within = omega arith;
-            quiescent = subst (λ es. IsQuiescent (after_history (opening t.origin) es)) whole keeps.own.rest.quiescent;
-            full = subst (IsFull t.origin) whole h.full;
-            weighed = h.weight_is ∙ ap entries.weight whole;
-            waited = h.pending_is ∙ ap (pending_after t.origin) whole;
-            before = subst (λ es. All (λ e. (id_of e).number < next) (calls_of d.agent es)) whole before;
-            behind = subst (λ es. All (λ e. next < (id_of e).number) (calls_of d.agent es))
-                (sym (drop_all (length q.seen) q.seen (omega arith))) (All-nil (λ e. next < (id_of e).number));
-          }
 
       refused-agrees : (why : Refusal) → IsTurn t p next op (Refused why) q → AgreesRefused t.origin q.seen (numbered d.agent next) why
       refused-agrees (refusal.Full weight pending) turn = was-full weight pending turn
@@ -305,18 +359,13 @@ module _ {W : Type 0} (d : AgentState W) (is : IsDesk d) (site : IsSite d.site.n
       row-agrees (Refused why) turn = refused-agrees why turn
       row-agrees (Polled told) turn = absurd turn
 
-      longer-row : (became : LogResult) (name : List ℕ) (es : List Entry) → All (HasRow d.log name) es → All (HasRow (d.log ++ row-of became ∷ []) name) es
-      longer-row became name es all = HaveRow-longer d.log (row-of became ∷ []) name es all
-
       made-rows : (became : LogResult) (told : Answer) (m : Makes t p next op told q) → (let e : Entry = Called (call_id p next) op m.result m.items in HasRow (d.log ++ row-of became ∷ []) centre e)
           → All (HasRow (d.log ++ row-of became ∷ []) centre) q.mine
       made-rows became told m has =
-          let e : Entry = Called (call_id p next) op m.result m.items in
-          subst (All (HasRow (d.log ++ row-of became ∷ []) centre)) (sym (ap (λ (x : PassState Entry Origin). x.mine) m.after))
-          (All-push (HasRow (d.log ++ row-of became ∷ []) centre) p.mine e (longer-row became centre p.mine mine-rows) has)
+          rows-made (row-of became) (Called (call_id p next) op m.result m.items) (ap (λ (x : PassState Entry Origin). x.mine) m.after) has
 
       same-rows : (became : LogResult) → q.mine ≡ p.mine → All (HasRow (d.log ++ row-of became ∷ []) centre) q.mine
-      same-rows became same = subst (All (HasRow (d.log ++ row-of became ∷ []) centre)) (sym same) (longer-row became centre p.mine mine-rows)
+      same-rows became same = rows-same (row-of became) same
 
       refused-rows : (why : Refusal) → IsTurn t p next op (Refused why) q → All (HasRow (d.log ++ row-of (Refused why) ∷ []) centre) q.mine
       refused-rows (refusal.Full weight pending) turn = same-rows (Refused (refusal.Full weight pending)) (ap (λ (x : PassState Entry Origin). x.mine) turn.sees.after)
@@ -350,33 +399,12 @@ module _ {W : Type 0} (d : AgentState W) (is : IsDesk d) (site : IsSite d.site.n
       turn-rows (Refused why) turn = refused-rows why turn
       turn-rows (Polled told) turn = absurd turn
 
-      next-row : (became : LogResult) → IsTurn t p next op became q
-          → IsNextRow (origins_of d.site.centres) d.site.names (histories_of (set d.passes place q)) d.agent d.log (row-of became)
-      next-row became turn = record {
-        counted = refl;
-        agrees = λ k origin history at began there.
-            let here : k ≡ place = same-place d.site.names k place centre site.differ at named in
-            let first = slice_get-map_from (λ (x : TurnstileState Origin). x.origin) d.site.centres k origin began in
-            let after = slice_get-map_from seen passes' k history there in
-            let of : t ≡ first.0 = same_Some t first.0 (sym at-t ∙ ap (slice_get d.site.centres) (sym here) ∙ first.1) in
-            let origins : t.origin ≡ origin = ap (λ (x : TurnstileState Origin). x.origin) of ∙ first.2 in
-            let now : q.seen ≡ history = ap seen (sym (is-set k after.0 after.1 here)) ∙ after.2 in
-            subst (λ (o : Origin). AgreesRow o history (numbered d.agent next) d.log (length d.log) (row-of became) became) origins
-            (subst (λ (h : List Entry). AgreesRow t.origin h (numbered d.agent next) d.log (length d.log) (row-of became) became) now (row-agrees became turn));
-      }
-
       -- after a turn in which the call has come to this
       pub desk-turned : (became : LogResult) → any_pending d.log ≡ false → HasGrown (length d.log) p q → IsTurn t p (length d.log + 1) op became q
           → IsDesk (record d { passes = set d.passes place q; log = with_row d.log centre (Some ask) became; pending = waiting_of became (length d.log) place })
-      desk-turned became idle grown turn = record {
-        agent_is = is.agent_is;
-        are = are-set d.agent (length d.log) place d.site.centres d.passes is.are t p q at-t at-p keeps.own keeps.number;
-        holds = holds-set;
-        agrees = Agrees-push (origins_of d.site.centres) d.site.names (histories_of d.passes) (histories_of passes') d.agent d.log (row-of became) is.agrees
-            (longer-set d.agent (length d.log) place d.site.centres d.passes is.are t p q at-t at-p keeps.own keeps.number grown)
-            (next-row became turn) (rows-set (d.log ++ row-of became ∷ []) (longer-row became) (turn-rows became turn));
-        waits = waits-turned d.site.names d.log centre ask place became named idle;
-      }
+      desk-turned became idle grown turn =
+          desk-pushed (row-of became) (waiting_of became (length d.log) place) refl refl grown (row-agrees became turn) (turn-rows became turn)
+          (waits-turned d.site.names d.log centre ask place became named idle)
 
 pub longer-same : (agent top : ℕ) (histories : List (List Entry)) → AreLonger agent top histories histories
 longer-same agent top histories = record {

@@ -1,12 +1,13 @@
 -- What contracts see of an agent's desk.
 use Rattle.std.specs.Prelude.{◌≡◌, ℕ, ◌+◌, ◌<◌, nat_eq, Bool, true, false, List, [], ◌∷◌, ◌++◌, length, map}
 use Rattle.std.specs.Prelude.{Option, None, Some, slice_get, slice_index}
+use Rattle.std.specs.List.{list_any}
 use Rattle.std.specs.Option.{is_none}
 use Rattle.std.proofs.Common.{get_or}
 use Rattle.tc_desk.specs.Agreeing.{numbered}
 use Rattle.tc_desk.specs.Decided.{IsDecided}
 use Rattle.tc_desk.specs.Desks.{DeskState}
-use Rattle.tc_desk.specs.Logs.{any_pending}
+use Rattle.tc_desk.specs.Logs.{any_pending, is_served}
 use Rattle.tc_desk.specs.declared.rows.LogRow.{LogRow}
 use Rattle.tc_desk.specs.declared.rows.LogResult.TheVariants.{Pending}
 use Rattle.tc_model.specs.Replies.{reply_in}
@@ -51,7 +52,8 @@ desk_of d = record {
   free = is_none d.held;
 }
 
--- the row at this place alone is pending, and it is one of this centre
+-- the row at this place alone is pending, and it is one of this centre; no row behind it was served, but there may be
+-- refused ones and ones that polled
 pub record IsWaitingAt (names : List (List ℕ)) (log : List LogRow) (w : WaitingAt) : Type 0 where
   pub front : List LogRow
   pub row_is : LogRow
@@ -60,7 +62,7 @@ pub record IsWaitingAt (names : List (List ℕ)) (log : List LogRow) (w : Waitin
   pub place : w.row ≡ length front
   pub pending : row_is.result ≡ Pending
   pub settled : any_pending front ≡ false
-  pub settled_behind : any_pending back ≡ false
+  pub unserved_behind : list_any (λ (row : LogRow). is_served row.result) back ≡ false
   pub named : slice_get names w.centre ≡ Some row_is.centre
 
 -- where the pending row is, if there is one

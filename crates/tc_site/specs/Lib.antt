@@ -4,3 +4,4 @@ pub mod Desks
 pub mod Judging
 pub mod Turns
 pub mod Looking
+pub mod Polling

@@ -5,6 +5,7 @@ ghost use Rattle.tc_site.specs.Desks.{IsNewDesk, IsSound, desk_of};
 use crate::judging::{Allowed, judge};
 use crate::kits::{DeskKit, EndedDesk};
 use crate::looking::{left, look_for, still, wait_for};
+use crate::polling::poll_for;
 use crate::sites::Site;
 use crate::turns::{push_row, told, turn_at, waiting};
 use crate::waiting::WaitingAt;
@@ -12,7 +13,7 @@ use std::alloc::Global;
 use std::marker::Model;
 use std::snapshot::Snapshot;
 use std::sync::Wait;
-use tc_desk::{Desk, DeskFault, LogResult, LogRow, Refusal, Seen, Served, Warden, has_pending};
+use tc_desk::{Desk, DeskFault, LogResult, LogRow, Refusal, Seen, Served, Warden};
 use tc_model::Ask;
 use tc_shared::CentrePass;
 use tc_term::Name;
@@ -136,7 +137,7 @@ impl<'a, W: Warden + Drop> Desk for AgentDesk<'a, W> {
                     Ok(became) => {
                         let told = told(&became);
                         self.pending = waiting(&became, row, place);
-                        push_row(&mut self.log, name, asked, became);
+                        push_row(&mut self.log, name, Some(asked), became);
                         return told;
                     }
                     Err(_) => return Err(Refusal::NoMemory),
@@ -145,7 +146,7 @@ impl<'a, W: Warden + Drop> Desk for AgentDesk<'a, W> {
             Err(why) => match why {
                 Refusal::NoMemory => return Err(why),
                 _ => {
-                    push_row(&mut self.log, name, asked, LogResult::Refused(why));
+                    push_row(&mut self.log, name, Some(asked), LogResult::Refused(why));
                     return Err(why);
                 }
             },
@@ -176,11 +177,16 @@ impl<'a, W: Warden + Drop> Desk for AgentDesk<'a, W> {
         waited
     }
 
-    fn poll<R: Wait>(&mut self, _rt: &R, _alloc: Global) -> Result<Seen, DeskFault> {
-        if has_pending(&self.log) {
-            return Err(DeskFault::NoMemory);
-        }
-        Err(DeskFault::Idle)
+    fn poll<R: Wait>(&mut self, rt: &R, alloc: Global) -> Result<Seen, DeskFault> {
+        let Some(at) = self.pending else {
+            return Err(DeskFault::Idle);
+        };
+        let _ = self.site.names();
+        let pass = &mut self.passes[at.centre as usize];
+        let centre = self.site.centre(at.centre);
+        let polled = poll_for(rt, alloc, centre, pass, &mut self.log, at.row);
+        self.pending = still(at, &polled);
+        polled
     }
 
     fn log(&self) -> &[LogRow] {

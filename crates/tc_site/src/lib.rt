@@ -19,6 +19,7 @@ mod desks;
 mod judging;
 mod kits;
 mod looking;
+mod polling;
 mod sharing;
 mod sites;
 mod turns;

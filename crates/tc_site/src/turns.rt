@@ -1,5 +1,5 @@
 //! An agent's turns at a centre.
-ghost use Rattle.std.specs.Prelude.{◌≡◌, ℕ, ◌+◌, ◌<◌, ◌++◌, ◌∷◌, [], false, All, Some, IfOk, OnErr, vec_len, vec_capacity, Ok, Err};
+ghost use Rattle.std.specs.Prelude.{◌≡◌, ℕ, ◌+◌, ◌<◌, ◌++◌, ◌∷◌, [], false, All, IfOk, OnErr, vec_len, vec_capacity, Ok, Err};
 ghost use Rattle.tc_desk.specs.Desks.{with_row};
 ghost use Rattle.tc_model.specs.Calls.{id_of};
 ghost use Rattle.tc_shared.specs.Passes.{IsPassOf, Keeps, SeesRoom};
@@ -52,15 +52,15 @@ fn came_to(answer: Result<Answer, CallFault>) -> Result<LogResult, NoMemory>
 }
 
 /// Puts a row behind the others. There is room.
-pub(crate) fn push_row(log: &mut Vec<LogRow>, centre: Name, ask: Ask, became: LogResult)
+pub(crate) fn push_row(log: &mut Vec<LogRow>, centre: Name, ask: Option<Ask>, became: LogResult)
     requires { vec_len log.old < vec_capacity log.old }
-    ensures { log.new.items ≡ with_row log.old.items centre (Some ask) became }
+    ensures { log.new.items ≡ with_row log.old.items centre ask became }
 {
     let number = log.len() as u64 + 1;
     let row = LogRow {
         number,
         centre,
-        ask: Some(ask),
+        ask,
         result: became,
     };
     match log.push(row) {
