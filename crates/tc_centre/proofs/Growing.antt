@@ -1,9 +1,10 @@
 -- Histories that grow by several entries.
-use Rattle.std.proofs.Common.{◌≡◌, ◌++◌, ◌<◌, ℕ, List, [], ◌∷◌, All, ◌+◌, ◌-◌, length, length-append, take, drop, append_assoc, sym, ap, subst, ◌∙◌, ◌≤◌, arith}
+use Rattle.std.proofs.Common.{◌≡◌, ◌++◌, ◌<◌, ℕ, List, [], ◌∷◌, All, Some, slice_get, ◌+◌, ◌-◌, length, length-append, take, drop, append_assoc, sym, ap, subst, ◌∙◌, ◌≤◌, arith}
 use Rattle.std.proofs.Math.Seq.{drop-append_seam, take-append_seam, drop-append-add}
 use Rattle.std.proofs.lemmas.List.{take_all, take-append-drop, length-drop}
 use Rattle.std.proofs.lemmas.List.Elements.{All-append}
 use Rattle.std.proofs.lemmas.List.Sums.{sum_by-append}
+use Rattle.tc_lists.proofs.Places.{slice_get_longer, slice_get_pushed}
 use Rattle.tc_model.specs.Calls.{id_of, calls_of}
 use Rattle.tc_model.specs.Entries.{weight, weight_of}
 use Rattle.tc_model.specs.Replies.{reply_of, reply_in}
@@ -12,6 +13,7 @@ use Rattle.tc_model.specs.declared.calls.Op.{Op}
 use Rattle.tc_model.specs.declared.entries.Entry.{Entry}
 use Rattle.tc_model.specs.declared.entries.Entry.TheVariants.{Called}
 use Rattle.tc_centre.specs.Held.{Answers, Calls, Grows, IsLonger, Keeps}
+use Rattle.tc_centre.specs.Places.{IsCallAt}
 use Rattle.tc_centre.specs.Turns.{IsGave}
 use Rattle.tc_centre.specs.declared.holdings.Holdings.{Holdings}
 use Rattle.tc_centre.proofs.FreshReplies.{outcome_in-fresh}
@@ -70,6 +72,19 @@ module _ (id : CallId) (op : Op) (old new : List Entry) (n : ℕ) (start : n ≡
   grown-longer =
       let count = ap length grown.history ∙ length-append old (Called id op grown.result grown.items ∷ grown.gaves) in
       omega (arith, start, count)
+
+  pub grown-call : IsCallAt new n id
+  grown-call =
+      let e : Entry = Called id op grown.result grown.items in
+      record {
+        op = op;
+        result = grown.result;
+        items = grown.items;
+        stands =
+            subst (λ es. slice_get es n ≡ Some e) (sym (grown.history ∙ sym (append_assoc old (e ∷ []) grown.gaves)))
+            (slice_get_longer (old ++ e ∷ []) grown.gaves n e
+            (subst (λ m. slice_get (old ++ e ∷ []) m ≡ Some e) (sym start) (slice_get_pushed old e)));
+      }
 
   pub grown-answers : All IsGave (drop (n + 1) new)
   grown-answers =

@@ -25,15 +25,6 @@ use Rattle.tc_model.proofs.Runs.{IsRun-well_formed}
 use Rattle.tc_model.proofs.WaitingCalls.{waiting-run}
 use Rattle.tc_centre.specs.Places.{reply_from, IsToldAt, IsIndex}
 
-pub index-none : IsIndex (λ id. None) []
-index-none id = λ has. absurd (omega (arith, has.stands.1))
-
--- indexes that agree are of the same history
-pub index-agrees : (history : List Entry) (f g : CallId → Option ℕ) → ((id : CallId) → g id ≡ f id)
-    → IsIndex f history → IsIndex g history
-index-agrees history f g same index id =
-    subst (λ o. MatchOption o (HasCall id history → ⊥) (IsToldAt history id)) (sym (same id)) (index id)
-
 module _ (history : List Entry) (e : Entry) where
   -- what stands at a place for a call stays, where the entry is none of it
   told-stays : (id : CallId) → (IsCallOf id e → ⊥)

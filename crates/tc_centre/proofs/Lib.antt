@@ -8,6 +8,8 @@ pub mod Growing
 pub mod Called
 pub mod Specified
 pub mod Turned
+pub mod CallLists
+pub mod AgentPlaces
 pub mod Indexed
 pub mod Noting
 pub mod Typed

@@ -1,9 +1,8 @@
--- Noting the entries of a run one after another keeps an index.
+-- Noting the entries of a turn one after another keeps the places those of the history.
 use Rattle.std.proofs.Common.{◌≡◌, ℕ, ◌+◌, ◌-◌, ◌<◌, ◌≤◌, ◌⊎◌, All, cond, List, [], ◌∷◌, ◌++◌, Option, Some, None, length, slice_get, get_or, take, drop, refl, sym, ap, subst, ◌∙◌, ⊎_elim, arith}
-use Rattle.std.proofs.lemmas.Bool.{cases_lt}
 use Rattle.std.proofs.lemmas.List.{length-take-le, length-drop, take_more, take-append-drop, get_or-drop}
-use Rattle.std.proofs.lemmas.Option.{slice_get-get_or, slice_get_within, get_or_from_slice_get}
-use Rattle.tc_model.specs.Calls.{same_id, IsCallOf}
+use Rattle.std.proofs.lemmas.Option.{slice_get_within, get_or_from_slice_get}
+use Rattle.tc_model.specs.Calls.{id_of, calls_of, same_id}
 use Rattle.tc_model.specs.Choices.{AnyOne}
 use Rattle.tc_model.specs.Run.{IsRun, IsLegal}
 use Rattle.tc_model.specs.State.{State, opening, after_history}
@@ -15,91 +14,88 @@ use Rattle.tc_model.specs.declared.outcomes.Reply.{Reply}
 use Rattle.tc_model.specs.declared.entries.Entry.{Entry}
 use Rattle.tc_model.specs.declared.entries.Entry.TheVariants.{Called, Gave, Looked}
 use Rattle.tc_model.proofs.Runs.{EachEntry-append}
-use Rattle.tc_centre.specs.Places.{IsIndex, IsSomeRun}
+use Rattle.tc_centre.specs.Places.{place_in, ArePlaces, IsCallAt, IsSomeRun, Puts}
 use Rattle.tc_centre.specs.Turns.{IsGave}
-use Rattle.tc_centre.proofs.Indexed.{index-called, index-gave, index-looked, answered-place}
+use Rattle.tc_centre.proofs.AgentPlaces.{puts-place, puts-rise}
+use Rattle.tc_centre.proofs.Indexed.{index-called, index-gave, answered-place}
 
--- the entry is a call of this id, or an answer to it
-abbrev pub IsOf : CallId → Entry → Type 0
-IsOf id e =
-    ((op : Op) × (result : Outcome) × (items : List Item) × (e ≡ Called id op result items))
-    ⊎ ((result : Outcome) × (items : List Item) × (e ≡ Gave id result items))
-
-module _ (entries : List Entry) (run : IsSomeRun entries) (place : ℕ) (e : Entry) (f g : CallId → Option ℕ)
-    (within : place < length entries) (at : e ≡ get_or entries place e) (index : IsIndex f (take place entries)) where
+module _ (entries : List Entry) (run : IsSomeRun entries) (place : ℕ) (e : Entry) (stands : slice_get entries place ≡ Some e) where
   abbrev before : List Entry
   before = take place entries
 
   abbrev state : State
   state = after_history (opening run.0) before
 
-  stands : slice_get entries place ≡ Some e
-  stands = slice_get-get_or entries place e within ∙ ap Some (sym at)
-
-  legal : IsLegal AnyOne run.0 before state e
-  legal = run.1 place e stands
+  legal : (x : Entry) → e ≡ x → IsLegal AnyOne run.0 before state x
+  legal x is = subst (IsLegal AnyOne run.0 before state) is (run.1 place e stands)
 
   run-before : IsRun run.0 before
   run-before =
       EachEntry-append (IsLegal AnyOne run.0) (opening run.0) before (drop place entries)
       (subst (IsRun run.0) (sym (take-append-drop place entries)) run.1)
 
-  grown : (x : Entry) → e ≡ x → take (place + 1) entries ≡ before ++ x ∷ []
-  grown x is = take_more entries place e within ∙ ap (λ y. before ++ y ∷ []) (sym at ∙ is)
+  within : place < length entries
+  within = slice_get_within entries place e stands
 
-  pub note-room : (id : CallId) (n : ℕ) → IsOf id e
-      → ((j : CallId) (x : Entry) → slice_get entries place ≡ Some x → IsCallOf j x → 0 < n) → f id ≡ None → 0 < n
-  note-room id n of room none =
-      ⊎_elim
-      (λ (call : (op : Op) × (result : Outcome) × (items : List Item) × (e ≡ Called id op result items)).
-      room id e stands (subst (IsCallOf id) (sym call.3) refl))
-      (λ (gave : (result : Outcome) × (items : List Item) × (e ≡ Gave id result items)).
-      absurd
-      (answered-place run.0 before f f index run-before id gave.0 gave.1
-      (subst (IsLegal AnyOne run.0 before state) gave.2 legal) none))
-      of
+  grown : (x : Entry) → e ≡ x → before ++ x ∷ [] ≡ take (place + 1) entries
+  grown x is =
+      sym (take_more entries place e within ∙ ap (λ y. before ++ y ∷ []) (get_or_from_slice_get entries place e e stands ∙ is))
 
-  pub note-set : (id : CallId) → IsOf id e → ((j : CallId) → g j ≡ cond (same_id id j) (Some place) (f j))
-      → IsIndex g (take (place + 1) entries)
-  note-set id of sets =
-      let count : length before ≡ place = length-take-le place entries (omega (arith, within)) in
-      let last : (j : CallId) → g j ≡ cond (same_id id j) (Some (length before)) (f j) =
-      λ j. subst (λ n. g j ≡ cond (same_id id j) (Some n) (f j)) (sym count) (sets j) in
-      ⊎_elim
-      (λ (call : (op : Op) × (result : Outcome) × (items : List Item) × (e ≡ Called id op result items)).
-      subst (IsIndex g) (sym (grown (Called id call.0 call.1 call.2) call.3))
-      (index-called run.0 before f g index id call.0 call.1 call.2
-      (subst (IsLegal AnyOne run.0 before state) call.3 legal).1 last))
-      (λ (gave : (result : Outcome) × (items : List Item) × (e ≡ Gave id result items)).
-      subst (IsIndex g) (sym (grown (Gave id gave.0 gave.1) gave.2))
-      (index-gave run.0 before f g index run-before id gave.0 gave.1
-      (subst (IsLegal AnyOne run.0 before state) gave.2 legal) last))
-      of
+  -- a call's number is above those of the entries that its agent made before
+  pub number-above : (id : CallId) (op : Op) (result : Outcome) (items : List Item) → e ≡ Called id op result items
+      → All (λ d. (id_of d).number < id.number) (calls_of id.agent before)
+  number-above id op result items is = (legal (Called id op result items) is).1.number
 
-  pub note-looked : (id : CallId) (asked : ℕ) (reply : Option Reply) → e ≡ Looked id asked reply
-      → IsIndex f (take (place + 1) entries)
-  note-looked id asked reply is =
-      subst (IsIndex f) (sym (grown (Looked id asked reply) is))
-      (index-looked before id asked reply f (subst (IsLegal AnyOne run.0 before state) is legal).1.number index)
+  module _ (old new : List (List (ℕ × ℕ))) (places : ArePlaces old before) where
+    sets : (id : CallId) → Puts id place old new
+        → (j : CallId) → place_in new j ≡ cond (same_id id j) (Some (length before)) (place_in old j)
+    sets id puts j =
+        subst (λ n. place_in new j ≡ cond (same_id id j) (Some n) (place_in old j))
+        (sym (length-take-le place entries (omega (arith, within)))) (puts-place id place old new puts j)
 
-no-call : (id : CallId) (e : Entry) → IsGave e → IsCallOf id e → ⊥
-no-call id (Called i op result items) gave call = gave
-no-call id (Gave i result items) gave call = call
-no-call id (Looked i asked reply) gave call = call
+    pub noted-call : (id : CallId) (op : Op) (result : Outcome) (items : List Item) → e ≡ Called id op result items
+        → Puts id place old new → ArePlaces new (take (place + 1) entries)
+    noted-call id op result items is puts =
+        subst (ArePlaces new) (grown (Called id op result items) is) (record {
+          index = index-called run.0 before (place_in old) (place_in new) places.index id op result items
+              (legal (Called id op result items) is).1 (sets id puts);
+          rise = puts-rise id place old new puts places.rise;
+        })
 
--- where answers stand behind a place, no call does
-pub call-is-first : (entries : List Entry) (before place : ℕ) (id : CallId) (e : Entry)
-    → All IsGave (drop (before + 1) entries) → before ≤ place → slice_get entries place ≡ Some e
-    → IsCallOf id e → place ≡ before
-call-is-first entries before place id e answers behind at call =
+    pub noted-answer : (id : CallId) (result : Outcome) (items : List Item) → e ≡ Gave id result items
+        → Puts id place old new → ArePlaces new (take (place + 1) entries)
+    noted-answer id result items is puts =
+        subst (ArePlaces new) (grown (Gave id result items) is) (record {
+          index = index-gave run.0 before (place_in old) (place_in new) places.index run-before id result items
+              (legal (Gave id result items) is) (sets id puts);
+          rise = puts-rise id place old new puts places.rise;
+        })
+
+  -- what is answered has a place
+  pub answered-there : (old : List (List (ℕ × ℕ))) → ArePlaces old before
+      → (id : CallId) (result : Outcome) (items : List Item) → e ≡ Gave id result items → place_in old id ≡ None → ⊥
+  answered-there old places id result items is none =
+      answered-place run.0 before (place_in old) (place_in old) places.index run-before id result items
+      (legal (Gave id result items) is) none
+
+-- behind a call there are answers
+pub answer-behind : (entries : List Entry) (start place : ℕ) (e : Entry) → All IsGave (drop start entries)
+    → start ≤ place → slice_get entries place ≡ Some e → IsGave e
+answer-behind entries start place e answers behind at =
     let within : place < length entries = slice_get_within entries place e at in
-    ⊎_elim
-    (λ (past : before < place).
-    let k : ℕ = place - (before + 1) in
-    let there : get_or (drop (before + 1) entries) k e ≡ e =
-    get_or-drop (before + 1) entries k e ∙ ap (λ n. get_or entries n e) (omega (arith, past))
+    let k : ℕ = place - start in
+    let there : get_or (drop start entries) k e ≡ e =
+    get_or-drop start entries k e ∙ ap (λ n. get_or entries n e) (omega (arith, behind))
     ∙ get_or_from_slice_get entries place e e at in
-    let count = length-drop (before + 1) entries in
-    absurd (no-call id e (subst IsGave there (answers k e (omega (arith, count, past, within)))) call))
-    (λ (here : place ≤ before). omega (arith, here, behind))
-    (cases_lt before place)
+    subst IsGave there (answers k e (omega (arith, length-drop start entries, behind, within)))
+
+-- an answer is neither a call nor a look
+pub no-other : (e : Entry) → IsGave e
+    → ((id : CallId) × (op : Op) × (result : Outcome) × (items : List Item) × (e ≡ Called id op result items))
+    ⊎ ((id : CallId) × (asked : ℕ) × (reply : Option Reply) × (e ≡ Looked id asked reply)) → ⊥
+no-other e gave other =
+    ⊎_elim
+    (λ (call : (id : CallId) × (op : Op) × (result : Outcome) × (items : List Item) × (e ≡ Called id op result items)).
+    subst IsGave call.4 gave)
+    (λ (look : (id : CallId) × (asked : ℕ) × (reply : Option Reply) × (e ≡ Looked id asked reply)). subst IsGave look.3 gave)
+    other

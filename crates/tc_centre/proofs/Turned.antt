@@ -14,7 +14,7 @@ use Rattle.tc_model.specs.declared.entries.Entry.{Entry}
 use Rattle.tc_model.specs.declared.entries.Entry.TheVariants.{Called, Looked}
 use Rattle.tc_centre.specs.Centre.{Centre}
 use Rattle.tc_centre.specs.Held.{origin_of, IsSettled, IsAtRest, IsSame, Keeps, Grows}
-use Rattle.tc_centre.specs.Places.{IsIndex}
+use Rattle.tc_centre.specs.Places.{place_in, ArePlaces}
 use Rattle.tc_centre.specs.Turns.{IsAnswer, Serves, IsPoll, Tells}
 use Rattle.tc_centre.specs.declared.answers.Answer.{Answer}
 use Rattle.tc_centre.specs.declared.answers.Poll.{Poll}
@@ -82,13 +82,16 @@ module _ (f : Founding) (old new : List Entry) (clauses : List Rule) (rows : Lis
   look-weight asked kept weighs grown =
       ap (λ w. w + 1) weighs ∙ sym (ap weight grown ∙ weight-push old (Looked id asked (reply_in old (earlier id asked))))
 
-  -- the index of the old history is one of the new
-  pub look-places : (asked : ℕ) (f : CallId → Option ℕ) → IsNext centre.origin centre.history id → IsIndex f old
-      → new ≡ old ++ Looked id asked (reply_in old (earlier id asked)) ∷ [] → IsIndex f new
-  look-places asked f next index grown =
+  -- the places of the old history are those of the new
+  pub look-places : (asked : ℕ) (lists : List (List (ℕ × ℕ))) → IsNext centre.origin centre.history id → ArePlaces lists old
+      → new ≡ old ++ Looked id asked (reply_in old (earlier id asked)) ∷ [] → ArePlaces lists new
+  look-places asked lists next places grown =
       let P : Centre → Type 0 = λ k. IsNext k.origin k.history id in
-      subst (IsIndex f) (sym grown)
-      (index-looked old id asked (reply_in old (earlier id asked)) f (subst P (sym view) next).number index)
+      subst (ArePlaces lists) (sym grown) (record {
+        index = index-looked old id asked (reply_in old (earlier id asked)) (place_in lists) (subst P (sym view) next).number
+            places.index;
+        rise = places.rise;
+      })
 
 module _ (old new : Holdings) where
   -- a turn has been served

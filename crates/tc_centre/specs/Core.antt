@@ -4,7 +4,7 @@ use Rattle.tc_model.specs.Typed.{IsTypedCall}
 use Rattle.tc_centre.specs.Centre.{Centre, weight_in}
 use Rattle.tc_centre.specs.Held.{origin_of, IsAtRest}
 use Rattle.tc_centre.specs.Numbers.{AreLast}
-use Rattle.tc_centre.specs.Places.{place_in, IsIndex}
+use Rattle.tc_centre.specs.Places.{lists_of, ArePlaces}
 use Rattle.tc_centre.specs.declared.centre.Core.TheInside.{Inside}
 
 -- the centre that a core stands for
@@ -16,7 +16,8 @@ centre_of c = record { origin = origin_of c.held.founding; history = c.held.hist
 pub record IsSound (c : Inside) : Type 0 where
   pub rest : IsAtRest c.held
   pub weight : c.weight ≡ weight_in (centre_of c)
-  pub places : IsIndex (place_in c.places) c.held.history.items
+  pub places : ArePlaces (lists_of c.places.items) c.held.history.items
+  pub lists : length c.places.items ≡ length c.held.founding.agents.items
   pub agents : length c.numbers.items ≡ length c.held.founding.agents.items
   pub numbers : AreLast c.numbers.items c.held.history.items
   pub typed : All IsTypedCall c.held.history.items

@@ -4,14 +4,14 @@ ghost use Rattle.std.specs.Prelude.{IfOk, OnOk, OnErr};
 ghost use Rattle.tc_model.specs.Replies.{reply_in};
 ghost use Rattle.tc_model.specs.declared.limits.TheConstants.{MOST_BUDGET, MOST_WEIGHT};
 ghost use Rattle.tc_model.specs.Run.{HasCall, earlier};
-ghost use Rattle.tc_centre.specs.Places.{place_in, IsIndex};
+ghost use Rattle.tc_centre.specs.Places.{lists_of, ArePlaces};
 ghost use Rattle.tc_centre.specs.Turns.{IsPoll};
 
 use crate::answers::{Answer, Poll, PollFault, TurnFault};
 use crate::founding::{Founding, fill};
 use crate::holdings::Holdings;
 use crate::numbers::{no_numbers, note_number};
-use crate::places::{Places, has_call, note_turn, reply_to_call};
+use crate::places::{Places, has_call, make_room, no_places, note_turn, reply_to_call};
 use crate::serving::{guarded, typed_id};
 use crate::weights::weigh;
 use std::alloc::Global;
@@ -85,6 +85,7 @@ impl Core {
             tuples: Snapshot::of(&tuples),
             clauses: Snapshot::of(&clauses),
         };
+        let places = no_places(alloc, founding.agents.len())?;
         let numbers = no_numbers(alloc, founding.agents.len())?;
         let bag = fill(alloc, tuples)?;
         let held = Holdings {
@@ -97,7 +98,7 @@ impl Core {
         };
         Ok(Core {
             held,
-            places: Places::new(alloc),
+            places,
             numbers,
             weight: 0,
         })
@@ -124,14 +125,14 @@ impl Core {
                 pending: waiting,
             });
         }
-        if self.places.reserve(1).is_err() {
+        if make_room(&mut self.places, id.agent).is_err() {
             return Err(TurnFault::NoMemory);
         }
         let before = self.held.history.len();
         match guarded(alloc, &mut self.held, id, op) {
             Ok(answer) => {
                 self.weight += weigh(&self.held.history[before..]);
-                note_turn(&mut self.places, &self.held.history, before);
+                note_turn(&mut self.places, &self.held.history, id, before);
                 note_number(&mut self.numbers, id);
                 Ok(answer)
             }
@@ -281,7 +282,7 @@ fn look_up(
     places: &Places,
     history: &mut Vec<Entry>,
 ) -> Result<Poll, NoMemory>
-    requires places { IsIndex (place_in places.now) history.old.items }
+    requires places { ArePlaces (lists_of places.now.items) history.old.items }
     requires called { HasCall (earlier id asked) history.old.items }
     ensures poll { IfOk result (IsPoll (reply_in history.old.items (earlier id asked))) }
     ensures appended { OnOk result (history.new.items ≡ history.old.items

@@ -6,6 +6,7 @@
 #![tactic(auto)]
 
 mod answers;
+mod calls;
 mod centre;
 mod chronicle;
 mod founding;

@@ -13,7 +13,6 @@ use Rattle.std.proofs.collections.BTreeMap.TheSendSync as btree
 use Rattle.std.proofs.alloc.Global.TheSendSync as global
 use Rattle.std.below.std_heap.proofs.GlobalAllocator.TheSendSync as galloc
 use Rattle.std.proofs.collections.BTreeSet.TheSendSync as btreeset
-use Rattle.std.proofs.collections.HashMap.TheSendSync as hashmap
 use Rattle.tc_bag.proofs.index.Index.TheSendSync as bagindex
 use Rattle.tc_bag.proofs.slots.Mark.TheSendSync as bagmark
 use Rattle.tc_bag.specs.contracts.slots.Held.{the_row as held, the_field as held_field}
@@ -183,7 +182,7 @@ pub holdings_field_send : IsSend holdings_field.row
 holdings_field_send = search (of_heaps, founding_send, founding_field_send, spec_send, store_send, bag_send, pending_send, entry_send, entry_field_send) depth 60
 
 pub core_send : IsSend core
-core_send = search (of_heaps, holdings_send, holdings_field_send, hashmap.the_send) depth 60
+core_send = search (of_heaps, holdings_send, holdings_field_send) depth 60
 
 pub shared_sync : IsSync shared
 shared_sync = search (sendable, crosses, turnstile.the_sync, bells.the_sync, core_send, entry_send) depth 60

@@ -1,11 +1,10 @@
-use Rattle.std.proofs.Common.{◌≡◌, ◌<◌, ◌≤◌, take}
-use Rattle.std.specs.HashMap.{spare}
-use Rattle.tc_centre.specs.Places.{IsIndex, place_in}
+use Rattle.std.proofs.Common.{◌≡◌, ◌+◌, ◌≤◌, length, take}
+use Rattle.tc_centre.specs.Places.{ArePlaces, lists_of}
 use Rattle.tc_centre.proofs.places.note_turn.Given as goal
 
 abbrev pub invariant-loop-place : goal.invariant-loop-place
 invariant-loop-place l = record {
-  behind : l.before ≤ l.place;
-  room : l.place ≡ l.before → 0 < spare l.places;
-  index : IsIndex (place_in l.places) (take l.place l.history);
+  behind : l.before + 1 ≤ l.place;
+  places : ArePlaces (lists_of l.places.items) (take l.place l.history);
+  agents : length l.places.items ≡ length l.initial.places.items;
 }

@@ -7,7 +7,7 @@ use Rattle.tc_centre.proofs.Typed.{typed-push}
 use Rattle.tc_centre.proofs.Numbered.{look-numbers}
 use Rattle.tc_centre.proofs.Turned.{tells, look-settled, look-weight, look-places}
 use Rattle.tc_model.specs.Run.{IsNext, HasCall, earlier}
-use Rattle.tc_centre.specs.Places.{place_in}
+use Rattle.tc_centre.specs.Places.{lists_of}
 use Rattle.tc_centre.proofs.centre.Core.poll.Goals as goal
 
 has_call : (c : goal.After-note_number) → HasCall (earlier c.args.id c.args.asked) c.self.inside.held.history.items
@@ -29,7 +29,8 @@ invariant_of-self c = record {
       c.args.asked c.self.inside.weight c.self.invariant.weight c.in-Ok.ensures.appended;
   places = look-places c.self.inside.held.founding c.self.inside.held.history.items c.look_up.new.history.items
       c.self.inside.held.spec c.self.inside.held.bag.now c.self.inside.held.bag.next c.self.inside.held.pending.now c.args.self.now c.args.id c.self.view_is
-      c.args.asked (place_in c.self.inside.places) c.requires c.self.invariant.places c.in-Ok.ensures.appended;
+      c.args.asked (lists_of c.self.inside.places.items) c.requires c.self.invariant.places c.in-Ok.ensures.appended;
+  lists = c.self.invariant.lists;
   agents = c.note_number.ensures.agents ∙ c.self.invariant.agents;
   numbers = look-numbers c.self.inside.held.history.items c.look_up.new.history.items c.args.id c.self.inside.numbers.items
       c.note_number.new.numbers.items (next c).number c.note_number.ensures.noted c.self.invariant.numbers c.args.asked

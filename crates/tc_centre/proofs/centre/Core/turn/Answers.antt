@@ -4,16 +4,15 @@ use Rattle.tc_centre.specs.Centre.{Centre}
 use Rattle.tc_centre.specs.Numbers.{AreLast}
 use Rattle.tc_centre.specs.declared.founding.Founding.{Founding}
 use Rattle.tc_centre.proofs.Numbered.{turn-numbers}
-use Rattle.std.proofs.Common.{◌+◌, ◌∙◌, All, length, take, drop, sym, ap, subst, rules}
+use Rattle.std.proofs.Common.{◌+◌, ◌∙◌, All, length, take, drop, sym, ap, subst}
 use Rattle.tc_bag.specs.Stock.{Stock}
 use Rattle.tc_pending.specs.Waiting.{Waiting}
 use Rattle.tc_model.specs.Entries.{weight}
 use Rattle.tc_model.proofs.Runs.{IsRun-first}
 use Rattle.tc_centre.specs.Held.{origin_of}
-use Rattle.tc_centre.specs.Places.{place_in, IsIndex, IsSomeRun}
+use Rattle.tc_centre.specs.Places.{lists_of, ArePlaces, IsCallAt, IsSomeRun}
 use Rattle.tc_centre.specs.Turns.{IsGave}
-use Rattle.tc_centre.proofs.Growing.{grown-before, grown-answers, weight-grown, slice-whole}
-use Rattle.tc_centre.proofs.Indexed.{index-agrees}
+use Rattle.tc_centre.proofs.Growing.{grown-before, grown-answers, grown-call, weight-grown, slice-whole}
 use Rattle.tc_centre.proofs.Turned.{serves-held, same-rest}
 use Rattle.tc_centre.proofs.centre.Core.turn.Goals as goal
 
@@ -30,14 +29,33 @@ note_turn-requires-clause-answers c =
     (grown-answers c.args.id c.args.op c.self.inside.held.history.items c.guarded.new.held.history.items c.len-before.result
     (c.len-before.ensures ∙ c.self.inside.held.history.ok.0) c.in-Ok.ensures.served.grown)
 
+pub note_turn-requires-clause-called : goal.note_turn-requires-clause-called
+note_turn-requires-clause-called c =
+    subst (λ es. IsCallAt es c.len-before.result c.args.id) (sym c.deref-in-Ok.ensures.value)
+    (grown-call c.args.id c.args.op c.self.inside.held.history.items c.guarded.new.held.history.items c.len-before.result
+    (c.len-before.ensures ∙ c.self.inside.held.history.ok.0) c.in-Ok.ensures.served.grown)
+
 pub note_turn-requires-clause-places : goal.note_turn-requires-clause-places
 note_turn-requires-clause-places c =
-    subst (IsIndex (place_in c.reserve.new.self))
+    subst (ArePlaces (lists_of c.make_room.new.places.items))
     (sym (ap (take c.len-before.result) c.deref-in-Ok.ensures.value
     ∙ grown-before c.args.id c.args.op c.self.inside.held.history.items c.guarded.new.held.history.items c.len-before.result
     (c.len-before.ensures ∙ c.self.inside.held.history.ok.0) c.in-Ok.ensures.served.grown))
-    (index-agrees c.self.inside.held.history.items (place_in c.self.inside.places) (place_in c.reserve.new.self)
-    (λ id. c.reserve.ensures.entries.2 (id.agent, id.number)) c.self.invariant.places)
+    (c.make_room.ensures.kept c.self.inside.held.history.items c.self.invariant.places)
+
+-- where there was no room nothing else has changed
+pub invariant_of-self : goal.invariant_of-self
+invariant_of-self c = record {
+  rest = c.self.invariant.rest;
+  weight = c.self.invariant.weight;
+  places = c.make_room.ensures.kept c.self.inside.held.history.items c.self.invariant.places;
+  lists = c.make_room.ensures.agents ∙ c.self.invariant.lists;
+  agents = c.self.invariant.agents;
+  numbers = c.self.invariant.numbers;
+  typed = c.self.invariant.typed;
+  bag_unmarked = c.self.invariant.bag_unmarked;
+  pending_unmarked = c.self.invariant.pending_unmarked;
+}
 
 pub invariant_of-self-in-Err : goal.invariant_of-self-in-Err
 invariant_of-self-in-Err c =
@@ -46,9 +64,10 @@ invariant_of-self-in-Err c =
       rest = same-rest c.self.inside.held c.guarded.new.held told c.self.invariant.rest;
       weight = c.self.invariant.weight ∙ ap weight (sym told.history);
       places =
-          subst (IsIndex (place_in c.reserve.new.self)) (sym told.history)
-          (index-agrees c.self.inside.held.history.items (place_in c.self.inside.places) (place_in c.reserve.new.self)
-          (λ id. c.reserve.ensures.entries.2 (id.agent, id.number)) c.self.invariant.places);
+          subst (ArePlaces (lists_of c.make_room.new.places.items)) (sym told.history)
+          (c.make_room.ensures.kept c.self.inside.held.history.items c.self.invariant.places);
+      lists = c.make_room.ensures.agents ∙ c.self.invariant.lists
+          ∙ ap (λ (f : Founding). length f.agents.items) (sym told.founding);
       agents = c.self.invariant.agents ∙ ap (λ (f : Founding). length f.agents.items) (sym told.founding);
       numbers = subst (AreLast c.self.inside.numbers.items) (sym told.history) c.self.invariant.numbers;
       typed = subst (All IsTypedCall) (sym told.history) c.self.invariant.typed;
@@ -69,7 +88,9 @@ invariant_of-self-in-Ok c =
           (c.len-before.ensures ∙ c.self.inside.held.history.ok.0) told.grown)
           c.self.invariant.weight
           (c.weigh.ensures ∙ ap weight (slice-whole c.guarded.new.held.history.items c.deref.result.now c.len-before.result c.deref.ensures.value));
-      places = search (rules, c.note_turn.ensures);
+      places = subst (ArePlaces (lists_of c.note_turn.new.places.items)) c.deref-in-Ok.ensures.value c.note_turn.ensures.places;
+      lists = c.note_turn.ensures.agents ∙ c.make_room.ensures.agents ∙ c.self.invariant.lists
+          ∙ ap (λ (f : Founding). length f.agents.items) (sym told.kept.founding);
       agents = c.note_number.ensures.agents ∙ c.self.invariant.agents
           ∙ ap (λ (f : Founding). length f.agents.items) (sym told.kept.founding);
       numbers = turn-numbers c.self.inside.held.history.items c.guarded.new.held.history.items c.args.id c.self.inside.numbers.items
