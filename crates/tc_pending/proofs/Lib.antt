@@ -4,4 +4,5 @@ pub mod Newly
 pub mod Coded
 pub mod Rising
 pub mod Filed
+pub mod Truths
 pub mod Lookups

@@ -1,5 +1,5 @@
 -- Serial numbers of requests, and an index of them by codes.
-use Rattle.std.specs.Prelude.{ℕ, ◌≡◌, ◌<◌, ◌≤◌, List, length, slice_index_or, slice_get, Some, IsTrue}
+use Rattle.std.specs.Prelude.{ℕ, ◌≡◌, ◌%◌, ◌<◌, ◌≤◌, false, List, length, slice_index_or, slice_get, Some, IsTrue}
 use Rattle.std.specs.BTreeSet.{contains}
 use Rattle.tc_term.specs.Tree.{Tree}
 use Rattle.tc_bag.specs.Ages.{pair_cmp}
@@ -9,9 +9,11 @@ use Rattle.tc_pending.specs.Answers.{AsksFor}
 use Rattle.tc_pending.specs.Codes.{code_of}
 use Rattle.tc_pending.specs.Rising.{Rises}
 
--- the index has the pair of a code and a serial number
+-- the index has the pair of a code and a serial number, and that such a code was entered
 abbrev pub Has : Index → ℕ → ℕ → Type 0
-Has index code serial = IsTrue (contains pair_cmp index.pairs (code, serial))
+Has index code serial =
+    IsTrue (contains pair_cmp index.pairs (code, serial))
+    × IsTrue (slice_index_or index.entered.items (code % 1024) false)
 
 -- the index has the first so many pairs of these codes and serial numbers
 abbrev pub HasFirst : Index → List ℕ → List ℕ → ℕ → Type 0

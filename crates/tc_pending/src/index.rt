@@ -1,5 +1,5 @@
 //! Serial numbers of requests by the codes of their templates.
-ghost use Rattle.std.specs.Prelude.{ℕ, ◌≡◌, ◌<◌, ◌≤◌, true, length, slice_index_or, OnOk, IfSome, IfNone};
+ghost use Rattle.std.specs.Prelude.{ℕ, ◌≡◌, ◌<◌, ◌≤◌, true, IsTrue, length, slice_index_or, OnOk, IfSome, IfNone};
 ghost use Rattle.tc_pending.specs.Rising.{Rises};
 ghost use Rattle.tc_pending.specs.Filed.{Has, IsFiled, KeepsAll};
 
@@ -11,10 +11,15 @@ use tc_lists::NoMemory;
 // Up to so many requests their codes are gone through, which is then faster than look-ups.
 const FEW: usize = 32;
 
-/// Pairs of a code and a serial number, in order.
+// So many remainders of codes are told apart.
+const REMAINDERS: u64 = 1024;
+
+/// Pairs of a code and a serial number, in order; and for each remainder of a code, once there was a
+/// pair, whether one with such a code was ever entered.
 #[derive(Drop)]
 pub(crate) struct Index {
     pairs: BTreeSet<(u64, u64)>,
+    entered: Vec<bool>,
 }
 
 impl Index {
@@ -22,7 +27,16 @@ impl Index {
     pub(crate) fn new(alloc: Global) -> Index {
         Index {
             pairs: BTreeSet::new(alloc),
+            entered: Vec::new(alloc),
         }
+    }
+
+    /// Whether there may be a pair of this code.
+    pub(crate) fn may_have(&self, code: u64) -> bool
+        ensures { (s : ℕ) → Has self.now code s → IsTrue result }
+    {
+        let place = (code % REMAINDERS) as usize;
+        place < self.entered.len() && self.entered[place]
     }
 
     /// The least serial number of this code that is at least `from`.
@@ -31,6 +45,9 @@ impl Index {
             × ((s : ℕ) → from ≤ s → s < serial → Has self.now code s → ⊥)) }
         ensures none { IfNone result ((s : ℕ) → from ≤ s → Has self.now code s → ⊥) }
     {
+        if !self.may_have(code) {
+            return None;
+        }
         let (found, serial) = self.pairs.range((code, from)..).next()?;
         if *found == code { Some(*serial) } else { None }
     }
@@ -45,12 +62,14 @@ impl Index {
         }
     }
 
-    // Enters a pair.
+    // Enters a pair. Where it is the first, memory is taken for the remainders.
     fn enter(&mut self, code: u64, serial: u64) -> Result<(), NoMemory>
         ensures entered { OnOk result (Has self.new code serial) }
         ensures kept { (c s : ℕ) → Has self.old c s → Has self.new c s }
     {
+        self.entered.resize(REMAINDERS as usize, false)?;
         self.pairs.insert((code, serial))?;
+        self.entered[(code % REMAINDERS) as usize] = true;
         Ok(())
     }
 

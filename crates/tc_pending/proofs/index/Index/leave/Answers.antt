@@ -11,7 +11,9 @@ at_none (Some n) none is = absurd (true≢false none)
 pub returns-then-is_none : goal.returns-then-is_none
 returns-then-is_none c = λ d k inside has.
     let never = at_none c.place_of.result (c.is_none.ensures ∙ ap not c.if-is_none.true) c.place_of.ensures.none in
-    let number = get_or c.args.serials.now k 0 in
-    c.remove.ensures.updates.2 (d, number)
-    (apart c.args.code c.args.serial d number (λ same. never k (inside, sym same)))
-    ∙ has
+    let number = get_or c.args.serials.now k 0 in (
+      c.remove.ensures.updates.2 (d, number)
+          (apart c.args.code c.args.serial d number (λ same. never k (inside, sym same)))
+          ∙ has.0,
+      has.1,
+    )

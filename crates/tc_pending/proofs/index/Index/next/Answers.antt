@@ -10,7 +10,7 @@ use Rattle.tc_pending.proofs.index.Index.next.Goals as goal
 pub returns-in_err-found-clause-none : goal.returns-in_err-found-clause-none
 returns-in_err-found-clause-none c =
     subst (λ o. IfNone o ((a : ℕ) → c.args.from ≤ a → Has c.args.self.now c.args.code a → ⊥)) (sym c.from_residual.ensures)
-    (λ a up has. true≢false (sym has ∙ (c.range.ensures.in_range tt).5 c.in_err-found.ensures.steps.0 (c.args.code, a)
+    (λ a up has. true≢false (sym has.0 ∙ (c.range.ensures.in_range tt).5 c.in_err-found.ensures.steps.0 (c.args.code, a)
     (within c.args.code c.args.from a up, tt)))
 
 pub returns-then-found-code-clause-found : goal.returns-then-found-code-clause-found
@@ -23,7 +23,7 @@ returns-then-found-code-clause-found c =
       within_back code c.args.from first.1 (subst (λ d. IsLeBy pair_cmp (code, c.args.from) (d, first.1)) c.if-found-code.true start),
       λ a up below has.
           let least_age = within_back code first.1 a
-          (subst (λ d. IsLeBy pair_cmp (d, first.1) (code, a)) c.if-found-code.true (least a up has)) in
+          (subst (λ d. IsLeBy pair_cmp (d, first.1) (code, a)) c.if-found-code.true (least a up has.0)) in
           absurd (omega (arith, least_age, below)),
     )
 
@@ -34,4 +34,8 @@ returns-else-found-code-clause-none c = λ a up has.
     let split = c.in_ok-found.ensures.steps in
     let start = range_start c.args.self.now.pairs code c.args.from c.range.result c.next.new.self first split (c.range.ensures.in_range tt) in
     let least = range_least c.args.self.now.pairs code c.args.from c.range.result c.next.new.self first split (c.range.ensures.in_range tt) in
-    c.if-found-code.false (sym (between code c.args.from first.0 first.1 a start (least a up has)))
+    c.if-found-code.false (sym (between code c.args.from first.0 first.1 a start (least a up has.0)))
+
+pub returns-then-not-may_have-clause-none : goal.returns-then-not-may_have-clause-none
+returns-then-not-may_have-clause-none c = λ a up has.
+    true≢false (sym (c.may_have.ensures a has) ∙ c.if-not-may_have.true)
