@@ -2,7 +2,8 @@ pub mod Additions
 pub mod Agreement
 pub mod Ages
 pub mod Pairs
-pub mod Entries
+pub mod ByAge
+pub mod Gaps
 pub mod Searching
 pub mod Logged
 pub mod Stocks

@@ -5,7 +5,7 @@ use Rattle.std.proofs.lemmas.Bool.Decides.{nat_tests}
 use Rattle.std.proofs.lemmas.List.Elements.{All-weaker, All-map, All-filter, filter_passes}
 use Rattle.tc_bag.specs.Slots.{Slot, InOrder, IsLogged, is_there, stays, revived_at, revived}
 use Rattle.std.proofs.lemmas.List.{drop_all}
-use Rattle.tc_bag.proofs.Entries.{behind_others, map-others, map-alike}
+use Rattle.tc_bag.proofs.ByAge.{behind_others, map-others, map-alike}
 use Rattle.tc_bag.proofs.Searching.{less_or}
 use Rattle.tc_lists.proofs.Filters.{filter_all}
 use Rattle.tc_lists.proofs.Parts.{split_read}

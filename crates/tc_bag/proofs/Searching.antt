@@ -3,14 +3,7 @@ use Rattle.std.proofs.Common.{◌≡◌, ◌<◌, ◌≤◌, ◌==◌, ◌⊎◌
 use Rattle.std.proofs.lemmas.Bool.{cases_Bool, eqb-true, eq-eqb, ne_eqb}
 use Rattle.std.proofs.lemmas.List.Elements.{All-head, All-tail, All-cons, All-nil}
 use Rattle.std.specs.Option.{IfSome, IfNone, IsSome}
-use Rattle.std.specs.BTreeMap.{BTreeMap, is_at}
-use Rattle.std.specs.BTreeMap.Range.{IsLeBy, IsRangeOf, IsEntryInRange}
-use Rattle.std.specs.Map.{lookup}
-use Rattle.std.specs.Ordering.{nat_cmp}
-use Rattle.std.specs.declared.ops.Bound.TheVariants.{Included, Unbounded}
 use Rattle.std.proofs.lemmas.Bool.Decides.{nat_tests}
-use Rattle.tc_bag.specs.declared.slots.Held.{Held}
-use Rattle.tc_bag.proofs.Entries.{lookup_none, lookup_all}
 use Rattle.tc_lists.specs.Firsts.{IsFirst}
 use Rattle.tc_term.specs.Tree.{Tree, Variable, Atomic, Number, Compound}
 use Rattle.tc_bag.specs.declared.index.Index.{Index}
@@ -19,7 +12,7 @@ use Rattle.tc_bag.specs.declared.key.Key.TheVariants.{Any}
 use Rattle.tc_bag.specs.Ages.{Has, HasRow}
 use Rattle.tc_bag.specs.Codes.{key_code, first_code, code_like}
 use Rattle.tc_bag.specs.Keys.{first_of, first_argument, key_of, IsLike}
-use Rattle.tc_bag.specs.Held.{slot_of, slots_of, IsFindable}
+use Rattle.tc_bag.specs.Places.{IsFindable}
 use Rattle.tc_bag.specs.Slots.{Slot, slot, InOrder, IsThereLike, is_there, tuple_there}
 use Rattle.tc_lists.proofs.Elements.{All-append_right}
 use Rattle.tc_lists.proofs.Firsts.{All-from_NoneOf, NoneOf-from_All}
@@ -143,74 +136,43 @@ pub IfNone-weaker : {X : Type 0} (P Q : Type 0) (o : Option X) → (P → Q) →
 IfNone-weaker P Q None weaker has = weaker has
 IfNone-weaker P Q (Some x) weaker has = tt
 
--- numbers in order
-pub below_le : (a b : ℕ) → a ≤ b → IsLeBy nat_cmp a b
-below_le a b up = grind (arith, nat_tests)
-
-pub le_below : (a b : ℕ) → IsLeBy nat_cmp a b → a ≤ b
-le_below a b up = grind (arith, nat_tests)
-
--- each slot is found by its age
-pub slot_found : (es : List (ℕ × Held)) → All (λ s. lookup (is_at (nat_cmp s.age)) es ≡ None → ⊥) (slots_of es)
-slot_found es k d inside none = lookup_none (get_or (slots_of es) k d).age es none k d inside refl
-
-pub is_found : {X : Type 0} (o : Option X) → (o ≡ None → ⊥) → IsSome o
-is_found None some = absurd (some refl)
-is_found (Some x) some = cc
-
 most : (a b m n : ℕ) → m ≡ max a b → a ≤ n → b ≤ n → m ≤ n
 most a b m n is left right = omega (arith, is, left, right)
 
 at_least : (a b m n : ℕ) → m ≡ max a b → m ≤ n → a ≤ n
 at_least a b m n is up = omega (arith, is, up)
 
-module _ (m : BTreeMap ℕ Held) (from : ℕ) (r : List (ℕ × Held)) (range : IsRangeOf nat_cmp (Included from) Unbounded m r) where
-  pub none_from : r ≡ [] → All (λ s. from ≤ s.age → ⊥) (slots_of m.entries)
-  none_from empty k d inside up =
-      let s = get_or (slots_of m.entries) k d in
-      slot_found m.entries k d inside (range.5 empty s.age (below_le from s.age up, tt))
+module _ (start : ℕ) (whole : Bool) (index : Index) (ss : List Slot) (findable : All (IsFindable start whole index) ss) where
+  -- rows that are there are not older than the start, so a search may begin there
+  pub none_there : (from begin : ℕ) → begin ≡ max from start → All (λ s. begin ≤ s.age → ⊥) ss
+      → All (λ s. from ≤ s.age → IsTrue (is_there s) → ⊥) ss
+  none_there from begin is none k d inside up there =
+      none k d inside (most from start begin _ is up (findable k d inside there).0)
 
-  pub least_from : (e : ℕ × Held) (rest : List (ℕ × Held)) → r ≡ e ∷ rest
-      → (from ≤ e.0) × All (λ s. from ≤ s.age → s.age < e.0 → ⊥) (slots_of m.entries)
-  least_from e rest split = (
-    le_below from e.0 (subst (λ xs. IfSome (slice_get xs 0) (IsEntryInRange nat_cmp (Included from) Unbounded m)) split range.1).0.0,
-    λ k d inside up below.
-        let s = get_or (slots_of m.entries) k d in
-        let least = subst (λ xs. IfSome (slice_get xs 0) (λ f. IsLeBy nat_cmp f.0 s.age)) split
-        (range.2 s.age (below_le from s.age up, tt) (is_found _ (slot_found m.entries k d inside))) in
-        absurd (omega (arith, below, le_below e.0 s.age least)),
+  pub least_there : (from begin age : ℕ) → begin ≡ max from start → (begin ≤ age) × All (λ s. begin ≤ s.age → s.age < age → ⊥) ss
+      → (from ≤ age) × All (λ s. from ≤ s.age → s.age < age → IsTrue (is_there s) → ⊥) ss
+  least_there from begin age is least = (
+    at_least from start begin age is least.0,
+    λ k d inside up below there. least.1 k d inside (most from start begin _ is up (findable k d inside there).0) below,
   )
 
--- rows that are there are not older than the start, so a search may begin there
-module _ (m : BTreeMap ℕ Held) (start from : ℕ) (whole : Bool) (index : Index) (findable : All (IsFindable start whole index) (slots_of m.entries))
-    (r : List (ℕ × Held)) (begin : ℕ) (is : begin ≡ max from start) (range : IsRangeOf nat_cmp (Included begin) Unbounded m r) where
-  pub none_there : r ≡ [] → All (λ s. from ≤ s.age → IsTrue (is_there s) → ⊥) (slots_of m.entries)
-  none_there empty k d inside up there =
-      none_from m begin r range empty k d inside (most from start begin _ is up (findable k d inside there).0)
-
-  pub least_there : (e : ℕ × Held) (rest : List (ℕ × Held)) → r ≡ e ∷ rest
-      → (from ≤ e.0) × All (λ s. from ≤ s.age → s.age < e.0 → IsTrue (is_there s) → ⊥) (slots_of m.entries)
-  least_there e rest split =
-      let least = least_from m begin r range e rest split in (
-        at_least from start begin e.0 is least.0,
-        λ k d inside up below there. least.1 k d inside (most from start begin _ is up (findable k d inside there).0) below,
-      )
-
-module _ (m : BTreeMap ℕ Held) (start : ℕ) (whole : Bool) (index : Index) (findable : All (IsFindable start whole index) (slots_of m.entries))
-    (order : InOrder (slots_of m.entries))
-    (r : List (ℕ × Held)) (range : IsRangeOf nat_cmp (Included start) Unbounded m r) where
-  -- the first row from the start on isn't there, so none up to it is
-  pub gone_to : (e : ℕ × Held) (rest : List (ℕ × Held)) → r ≡ e ∷ rest → (e.1.taken ≡ 0 → ⊥)
-      → All (λ s. s.age ≤ e.0 → IsTrue (is_there s) → ⊥) (slots_of m.entries)
-  gone_to e rest split gone k d inside up there =
-      let s = get_or (slots_of m.entries) k d in
-      let least = least_from m start r range e rest split in
-      elim (less_or s.age e.0) [
-        | inl less ↦ least.1 k d inside (findable k d inside there).0 less
-        | inr above ↦
-            let same : s.age ≡ e.0 = omega (arith, up, above) in
-            let found : lookup (is_at (nat_cmp e.0)) m.entries ≡ Some e.1 =
-            (subst (λ xs. IfSome (slice_get xs 0) (IsEntryInRange nat_cmp (Included start) Unbounded m)) split range.1).1 in
-            let is : s ≡ slot_of (s.age, e.1) = lookup_all e.0 m.entries e.1 order found k d inside same in
-            gone (eqb-true e.1.taken 0 (sym (ap is_there is) ∙ there))
+  -- the start may go to the first row from it on
+  pub findable_from : (age : ℕ) → All (λ s. start ≤ s.age → s.age < age → ⊥) ss → All (IsFindable age whole index) ss
+  findable_from age none k d inside there =
+      let has = findable k d inside there in
+      elim (less_or (get_or ss k d).age age) [
+        | inl less ↦ absurd (none k d inside has.0 less)
+        | inr up ↦ (up, has.1)
       ]
+
+  -- and behind it, where it isn't there
+  pub findable_behind : (age n next : ℕ) → All (λ s. start ≤ s.age → s.age < age → ⊥) ss → All (λ s. s.age ≡ age → s.taken ≡ n) ss
+      → (n ≡ 0 → ⊥) → next ≤ age + 1 → All (IsFindable next whole index) ss
+  findable_behind age n next none taken gone up k d inside there =
+      let s = get_or ss k d in
+      let has = findable_from age none k d inside there in
+      let other : s.age ≡ age → ⊥ = λ same. gone (sym (taken k d inside same) ∙ eqb-true s.taken 0 there) in
+      (behind s.age has.0 other, has.1)
+    where
+      behind : (a : ℕ) → age ≤ a → (a ≡ age → ⊥) → next ≤ a
+      behind a not_below other = omega (arith, up, not_below, other)

@@ -13,7 +13,8 @@ use Rattle.tc_bag.specs.Slots.{Slot, slot, row_of, is_there, is_older, was_there
 use Rattle.tc_bag.proofs.Ages.{IsOther, without_age-none, tuple_at-none}
 use Rattle.tc_lists.specs.Marks.{IsBack, IsGivenUp, Climbs}
 use Rattle.tc_lists.proofs.Marks.{Climbs-more, Climbs-push, Climbs-pop}
-use Rattle.tc_bag.proofs.Entries.{behind_others, map-others, filter-others, slice_get-seam}
+use Rattle.tc_bag.proofs.ByAge.{behind_others, map-others, filter-others}
+use Rattle.tc_bag.proofs.Gaps.{slice_get-seam}
 use Rattle.tc_bag.proofs.Logged.{InOrder-map, InOrder-filter, read_more, read_take, taken_within, nil_from}
 use Rattle.tc_lists.proofs.Filters.{IsTold, filter_all, map-filter-append, map-filter_alike, map-filter_at, map-filter_changed, map-filter_fail}
 use Rattle.tc_lists.proofs.Firsts.{All-from_NoneOf, NoneOf-from_All}

@@ -4,4 +4,4 @@ pub mod Codes
 pub mod Stock
 pub mod Ages
 pub mod Slots
-pub mod Held
+pub mod Places

@@ -3,7 +3,6 @@ ghost use Rattle.std.specs.Prelude.{ℕ, ◌≡◌, ◌≢◌, ◌<◌, ◌≤�
 ghost use Rattle.tc_bag.specs.Ages.{Has, HasRow};
 
 use crate::codes::{first_code, tuple_code};
-use crate::slots::Held;
 use std::alloc::Global;
 use std::collections::BTreeSet;
 use tc_lists::NoMemory;
@@ -85,9 +84,9 @@ impl Index {
     }
 
     /// Removes a row that is held no more.
-    pub(crate) fn drop_row(&mut self, age: u64, held: Held)
+    pub(crate) fn drop_row(&mut self, age: u64, tuple: Ground)
         ensures kept { (c a : ℕ) → a ≢ age → Has self.old c a → Has self.new c a }
     {
-        self.leave_row(age, &held.tuple);
+        self.leave_row(age, &tuple);
     }
 }

@@ -17,6 +17,7 @@ mod index;
 mod key;
 mod laws;
 mod log;
+mod places;
 mod rows;
 mod slots;
 

@@ -1,15 +1,15 @@
 //! Rows by age, and an index of their ages.
-ghost use Rattle.std.specs.Prelude.{ℕ, ◌≡◌, map, All, OnOk};
-ghost use Rattle.tc_bag.specs.Slots.{InOrder, with_taken};
+ghost use Rattle.std.specs.Prelude.{ℕ, ◌≡◌, All, OnOk};
+ghost use Rattle.std.specs.Option.{option_copied, option_map};
 ghost use Rattle.tc_bag.specs.Ages.{Has};
-ghost use Rattle.tc_bag.specs.Held.{slots_of, IsEntered};
+ghost use Rattle.tc_bag.specs.Places.{slots_of, slot_if, IsEntered};
 
 use crate::codes::code_like;
 use crate::index::Index;
 use crate::key::{Lent, is_like};
-use crate::slots::Held;
+use crate::places::Places;
+use crate::slots::Place;
 use std::alloc::Global;
-use std::collections::BTreeMap;
 use std::marker::Model;
 use tc_lists::NoMemory;
 use tc_term::{Ground, Term};
@@ -21,7 +21,7 @@ use tc_term::{Ground, Term};
 /// came back to it, it isn't `whole`, and searches go through the rows.
 #[derive(Drop)]
 pub(crate) struct Rows {
-    held: BTreeMap<u64, Held>,
+    places: Places,
     index: Index,
     whole: bool,
     start: u64,
@@ -32,15 +32,15 @@ impl Model for Rows {
     ghost use Rattle.std.specs.Coded.{codes};
     ghost use Rattle.tc_term.specs.TreeCode.{coded_tree};
     ghost use Rattle.tc_bag.specs.Slots.{Slot};
-    ghost use Rattle.tc_bag.specs.Held.{slots_of, IsFindable};
+    ghost use Rattle.tc_bag.specs.Places.{IsFindable};
 
     ghost Value = { List Slot };
 
     ghost coded = { Prim.hlevel (codes, coded_tree) };
 
-    ghost view = { λ r. slots_of r.held.entries };
+    ghost view = { λ r. r.places };
 
-    ghost invariant = { λ r. All (IsFindable r.start r.whole r.index) (slots_of r.held.entries) };
+    ghost invariant = { λ r. All (IsFindable r.start r.whole r.index) r.places };
 }
 
 impl Rows {
@@ -59,7 +59,7 @@ impl Rows {
         ensures { result ≡ [] }
     {
         Rows {
-            held: BTreeMap::new(alloc),
+            places: Places::new(alloc),
             index: Index::new(alloc),
             whole: true,
             start: 0,
@@ -71,7 +71,7 @@ impl Rows {
         ensures len { result ≡ length self.now }
         ensures small { result < 2 ^ 63 }
     {
-        self.held.len()
+        self.places.len()
     }
 
     /// How many rows are there.
@@ -79,8 +79,8 @@ impl Rows {
         ensures { result ≡ length (filter is_there self.now) }
     {
         let mut count = 0;
-        for held in self.held.values() {
-            if held.taken == 0 {
+        for place in self.places.list() {
+            if let Some(_tuple) = place.there() {
                 count += 1;
             }
         }
@@ -91,12 +91,7 @@ impl Rows {
     pub(crate) fn get(&self, age: u64) -> Option<&Ground>
         ensures { option_copied result ≡ tuple_there age self.now }
     {
-        let held = self.held.get(&age)?;
-        if held.taken == 0 {
-            Some(&held.tuple)
-        } else {
-            None
-        }
+        self.places.find(age)?.there()
     }
 
     /// The first row that is there, is not older than `from`, agrees with the key and has this
@@ -173,8 +168,8 @@ impl Rows {
             × All (λ s. from ≤ s.age → s.age < age → IsTrue (is_there s) → ⊥) self.now) }
         ensures none { IfNone result (All (λ s. from ≤ s.age → IsTrue (is_there s) → ⊥) self.now) }
     {
-        let (age, _) = self.held.range(from.max(self.start)..).next()?;
-        Some(*age)
+        let (age, _) = self.places.first_from(from.max(self.start))?;
+        Some(age)
     }
 
     /// The tuple of this place, from 0, of those whose rows are there.
@@ -182,10 +177,10 @@ impl Rows {
         ensures { option_copied result ≡ slice_get (tuples_there self.now) i }
     {
         let mut left = i;
-        for held in self.held.values() {
-            if held.taken == 0 {
+        for place in self.places.list() {
+            if let Some(tuple) = place.there() {
                 if left == 0 {
-                    return Some(&held.tuple);
+                    return Some(tuple);
                 }
                 left -= 1;
             }
@@ -204,15 +199,15 @@ impl Rows {
             self.index.leave_row(age, &tuple);
             return Err(tuple);
         }
-        match self.held.insert(age, Held { tuple, taken: 0 }) {
-            Ok(_) => {
-                self.start = self.start.min(age);
+        let empty = self.places.len() == 0;
+        match self.places.push(age, tuple) {
+            Ok(()) => {
+                self.start = if empty { age } else { self.start.min(age) };
                 Ok(())
             }
-            Err(failed) => {
-                let (_, held) = failed.value;
-                self.index.leave_row(age, &held.tuple);
-                Err(held.tuple)
+            Err(tuple) => {
+                self.index.leave_row(age, &tuple);
+                Err(tuple)
             }
         }
     }
@@ -222,8 +217,19 @@ impl Rows {
         requires order { InOrder self.old }
         ensures { self.new ≡ filter (is_not_of age) self.old }
     {
-        if let Some(held) = self.held.remove(&age) {
-            self.index.drop_row(age, held);
+        self.drop_row(age);
+        if age <= self.start {
+            self.skip_gone();
+        }
+    }
+
+    // Removes the row of this age, and leaves the start.
+    fn drop_row(&mut self, age: u64)
+        requires order { InOrder self.old }
+        ensures { self.new ≡ filter (is_not_of age) self.old }
+    {
+        if let Some(tuple) = self.places.remove(age) {
+            self.index.drop_row(age, tuple);
         }
     }
 
@@ -242,7 +248,7 @@ impl Rows {
         requires order { InOrder self.old }
         ensures { self.new ≡ filter (is_not_of age) self.old }
     {
-        let _held = self.held.remove(&age);
+        let _tuple = self.places.remove(age);
     }
 
     /// Removes the rows that are not older than this age.
@@ -254,7 +260,7 @@ impl Rows {
             if age < next {
                 break;
             }
-            self.pop();
+            self.drop_row(age);
         }
     }
 
@@ -263,20 +269,7 @@ impl Rows {
         ensures some { IfSome result (IsYoungest self.now) }
         ensures none { IfNone result (self.now ≡ []) }
     {
-        let (age, _) = self.held.last_key_value()?;
-        Some(*age)
-    }
-
-    // Removes the youngest row.
-    fn pop(&mut self)
-        requires order { InOrder self.old }
-        ensures none { self.old ≡ [] → self.new ≡ [] }
-        ensures last { (before : List Slot) (s : Slot) → self.old ≡ before ++ s ∷ []
-            → self.new ≡ before }
-    {
-        if let Some((age, held)) = self.held.pop_last() {
-            self.index.drop_row(age, held);
-        }
+        self.places.youngest()
     }
 
     /// Has each row that is there in the index, where memory had ended for one.
@@ -284,7 +277,7 @@ impl Rows {
         ensures { self.new ≡ self.old }
     {
         if !self.whole {
-            enter_all(&mut self.index, &self.held)?;
+            enter_all(&mut self.index, self.places.list())?;
             self.whole = true;
         }
         Ok(())
@@ -311,45 +304,38 @@ impl Rows {
         requires counted { 0 < n }
         ensures { self.new ≡ map (with_taken age n) self.old }
     {
-        if let Some(held) = self.held.get(&age) {
-            self.index.leave_row(age, &held.tuple);
+        if let Some(tuple) = tuple_in(self.places.find(age)) {
+            self.index.leave_row(age, tuple);
         }
-        set_taken(&mut self.held, age, n);
+        self.places.set_taken(age, n);
     }
 
-    // Lets the start pass over rows that aren't there.
+    // Lets the start go to the first row that is there.
     fn skip_gone(&mut self)
-        requires order { InOrder self.old }
         ensures { self.new ≡ self.old }
     {
-        for _ in 0..self.held.len() {
+        for _ in 0..self.places.len() {
             if !self.skip_one() {
                 return;
             }
         }
     }
 
-    // Lets the start pass over a row, unless it is there.
+    // Lets the start go to the first row from it on, and behind it, unless it is there.
     fn skip_one(&mut self) -> bool
-        requires order { InOrder self.old }
         ensures { self.new ≡ self.old }
     {
-        match self.first_gone() {
-            Some(age) => {
-                self.start = age.saturating_add(1);
-                true
+        match self.places.first_from(self.start) {
+            Some((age, taken)) => {
+                self.start = if taken == 0 {
+                    age
+                } else {
+                    age.saturating_add(1)
+                };
+                taken != 0
             }
             None => false,
         }
-    }
-
-    // The age of the first row from the start on, unless it is there.
-    fn first_gone(&self) -> Option<u64>
-        requires order { InOrder self.now }
-        ensures { IfSome result (λ age. All (λ s. s.age ≤ age → IsTrue (is_there s) → ⊥) self.now) }
-    {
-        let (age, held) = self.held.range(self.start..).next()?;
-        if held.taken == 0 { None } else { Some(*age) }
     }
 
     /// Has the row of this age there again, where more than so many were taken up to it.
@@ -367,8 +353,8 @@ impl Rows {
         requires order { InOrder self.now }
         ensures { All (λ s. s.age ≡ age → s.taken ≡ result) self.now }
     {
-        match self.held.get(&age) {
-            Some(held) => held.taken,
+        match self.places.find(age) {
+            Some(place) => place.taken,
             None => 0,
         }
     }
@@ -378,32 +364,29 @@ impl Rows {
         requires order { InOrder self.old }
         ensures { self.new ≡ map (with_taken age 0) self.old }
     {
-        if let Some(held) = self.held.get(&age) {
-            self.whole = self.index.enter_again(self.whole, age, &held.tuple);
+        if let Some(tuple) = tuple_in(self.places.find(age)) {
+            self.whole = self.index.enter_again(self.whole, age, tuple);
             self.start = self.start.min(age);
         }
-        set_taken(&mut self.held, age, 0);
+        self.places.set_taken(age, 0);
     }
 }
 
-// Notes of the row of this age that it is so manieth to be taken, or with 0 that it is there.
-fn set_taken(held: &mut BTreeMap<u64, Held>, age: u64, n: usize)
-    requires order { InOrder (slots_of held.old.entries) }
-    ensures { slots_of held.new.entries ≡ map (with_taken age n) (slots_of held.old.entries) }
+// The tuple in a place, where it is no gap.
+fn tuple_in(place: Option<&Place>) -> Option<&Ground>
+    ensures { option_copied result ≡ option_map (λ s. s.tuple) (slot_if (option_copied place.entry)) }
 {
-    if let Some(row) = held.get_mut(&age) {
-        row.taken = n;
-    }
+    place?.tuple.as_ref()
 }
 
 // Enters each row that is there.
-fn enter_all(index: &mut Index, held: &BTreeMap<u64, Held>) -> Result<(), NoMemory>
-    ensures entered { OnOk result (All (IsEntered index.new) (slots_of held.now.entries)) }
+fn enter_all(index: &mut Index, places: &[Place]) -> Result<(), NoMemory>
+    ensures entered { OnOk result (All (IsEntered index.new) (slots_of places.now)) }
     ensures kept { (c a : ℕ) → Has index.old c a → Has index.new c a }
 {
-    for (age, row) in held {
-        if row.taken == 0 {
-            index.enter_row(*age, &row.tuple)?;
+    for place in places {
+        if let Some(tuple) = place.there() {
+            index.enter_row(place.age, tuple)?;
         }
     }
     Ok(())

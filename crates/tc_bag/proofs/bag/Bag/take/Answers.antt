@@ -2,7 +2,7 @@ use Rattle.std.proofs.Common.{◌≡◌, ◌<◌, ◌++◌, ◌∷◌, [], ◌+�
 use Rattle.std.proofs.lemmas.Bool.{eqb-true}
 use Rattle.tc_bag.specs.Stock.{Stock, without_age}
 use Rattle.tc_bag.specs.Slots.{IsSound, stock_of, taken_at}
-use Rattle.tc_bag.proofs.Entries.{map-not_taken}
+use Rattle.tc_bag.proofs.ByAge.{map-not_taken}
 use Rattle.tc_bag.proofs.Logged.{nil_from}
 use Rattle.tc_bag.proofs.Stocks.{sound-taken, stock-taken, sound-removed, stock-removed, ok_from, some_from, taken-count}
 use Rattle.tc_bag.proofs.bag.Bag.take.Goals as goal

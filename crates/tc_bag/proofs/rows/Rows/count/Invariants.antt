@@ -1,9 +1,7 @@
-use Rattle.std.proofs.Common.{◌≡◌, ◌+◌}
+use Rattle.std.proofs.Common.{◌≡◌, ◌+◌, ◌≤◌, drop}
 use Rattle.tc_bag.proofs.Walks.{count_there}
 use Rattle.tc_bag.proofs.rows.Rows.count.Given as goal
 
-abbrev pub invariant-loop-held : goal.invariant-loop-held
-invariant-loop-held l =
-    (goal.iterator-loop-held).can_next l.held-iterator
-    × (goal.iterator-loop-held).is_finite l.held-iterator
-    × (l.count + count_there l.held-iterator ≡ count_there l.initial.held-iterator)
+abbrev pub invariant-loop-place : goal.invariant-loop-place
+invariant-loop-place l = (l.count ≤ l.place-index)
+    × (l.count + count_there (drop l.place-index l.place-items) ≡ count_there l.place-items)

@@ -1,6 +1,6 @@
 use Rattle.std.proofs.Common.{◌≡◌, is_some, true, false, ap, sym, ◌∙◌}
 use Rattle.tc_bag.specs.Slots.{tuple_there}
-use Rattle.tc_bag.proofs.Entries.{filter-discarded, filter-stays, some-map}
+use Rattle.tc_bag.proofs.ByAge.{filter-discarded, filter-stays, some-map}
 use Rattle.tc_bag.proofs.rows.Rows.discard.Goals as goal
 
 pub returns-then-is_none : goal.returns-then-is_none

@@ -4,7 +4,6 @@ use Rattle.tc_bag.specs.Ages.{Has}
 use Rattle.tc_bag.specs.Codes.{code_like}
 use Rattle.tc_bag.specs.declared.key.Key.{Key}
 use Rattle.tc_bag.specs.declared.key.Lent.{Lent}
-use Rattle.tc_bag.specs.Held.{slots_of}
 use Rattle.tc_bag.specs.Slots.{Slot, IsThereLike, is_there}
 use Rattle.tc_bag.proofs.Searching.{like_has, IfSome-weaker, IfNone-weaker}
 use Rattle.tc_bag.specs.Lent.{lent_key}
@@ -45,7 +44,7 @@ returns-in_default c =
     let from = c.args.from in
     let key = lent_key c.args.key in
     let own = c.self.inside in
-    let es = slots_of own.held.entries in
+    let es = own.places in
     let missed : (first : Option Tree) → c.args.code ≡ code_like key first
     → All (λ (s : Slot). IsThereLike key first from s → Has own.index c.args.code s.age) es =
     λ first same k d inside like.

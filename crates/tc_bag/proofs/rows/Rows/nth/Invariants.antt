@@ -1,9 +1,8 @@
-use Rattle.std.proofs.Common.{◌≡◌, slice_get}
-use Rattle.tc_bag.proofs.Walks.{tuples_held}
+use Rattle.std.proofs.Common.{◌≡◌, drop, slice_get}
+use Rattle.tc_bag.specs.Places.{slots_of}
+use Rattle.tc_bag.specs.Slots.{tuples_there}
 use Rattle.tc_bag.proofs.rows.Rows.nth.Given as goal
 
-abbrev pub invariant-loop-held : goal.invariant-loop-held
-invariant-loop-held l =
-    (goal.iterator-loop-held).can_next l.held-iterator
-    × (goal.iterator-loop-held).is_finite l.held-iterator
-    × (slice_get (tuples_held l.initial.held-iterator) l.i ≡ slice_get (tuples_held l.held-iterator) l.left)
+abbrev pub invariant-loop-place : goal.invariant-loop-place
+invariant-loop-place l =
+    slice_get (tuples_there (slots_of l.place-items)) l.i ≡ slice_get (tuples_there (slots_of (drop l.place-index l.place-items))) l.left

@@ -1,4 +1,4 @@
-use Rattle.tc_bag.proofs.Entries.{map-revived, map-not_revived}
+use Rattle.tc_bag.proofs.ByAge.{map-revived, map-not_revived}
 use Rattle.std.proofs.Common.{◌∙◌, arith}
 use Rattle.tc_bag.proofs.rows.Rows.revive.Goals as goal
 

@@ -1,15 +1,7 @@
-use Rattle.std.proofs.Common.{◌≡◌, true, false, is_some, refl, subst, ap, sym, ◌∙◌}
-use Rattle.tc_bag.specs.Slots.{InOrder, tuple_there, with_taken}
-use Rattle.tc_bag.proofs.Entries.{map-taken, map-not_taken, some-map}
-use Rattle.tc_bag.proofs.Logged.{InOrder-map}
+use Rattle.std.proofs.Common.{◌≡◌, true, false, is_some, ap, sym, ◌∙◌}
+use Rattle.tc_bag.specs.Slots.{tuple_there}
+use Rattle.tc_bag.proofs.ByAge.{map-taken, map-not_taken, some-map}
 use Rattle.tc_bag.proofs.rows.Rows.take.Goals as goal
-
-pub skip_gone-requires : goal.skip_gone-requires
-skip_gone-requires c = record {
-  order =
-      subst InOrder (sym c.set_gone.ensures)
-      (InOrder-map (with_taken c.args.age c.args.n) c.args.self.now (λ s. refl) c.requires.order);
-}
 
 pub returns-then-there-clause-taken : goal.returns-then-there-clause-taken
 returns-then-there-clause-taken c =

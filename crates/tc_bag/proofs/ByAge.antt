@@ -1,16 +1,10 @@
--- Held rows by their ages, and their slots.
+-- Slots by their ages.
 use Rattle.std.proofs.Common.{◌≡◌, ◌≢◌, ◌<◌, ◌≤◌, ◌-◌, ◌==◌, ◌⊎◌, length, slice_get, length-append, ◌&&◌, ◌||◌, nat_lt, is_some, inl, inr, not, ℕ, Bool, true, false, cond, IsTrue, Option, Some, None, List, [], ◌∷◌, ◌++◌, get_or, map, filter, All, refl, ap, sym, subst, ◌∙◌, arith}
 use Rattle.std.proofs.lemmas.Bool.{cases_Bool, eqb-true, eq-eqb, ne_eqb, true≢false}
 use Rattle.std.proofs.lemmas.Bool.Decides.{nat_tests}
 use Rattle.std.proofs.lemmas.List.Elements.{All-head, All-tail, All-weaker, All-cons, All-map, All-push, filter_passes}
-use Rattle.std.specs.BTreeMap.{is_at, insert_entry}
-use Rattle.std.specs.Map.{lookup, remove_entry, set_value}
-use Rattle.std.specs.Ordering.{nat_cmp, match_ordering}
-use Rattle.std.specs.declared.cmp.Ordering.TheVariants.{Greater}
 use Rattle.tc_term.specs.Tree.{Tree}
-use Rattle.tc_bag.specs.declared.slots.Held.{Held}
-use Rattle.tc_bag.specs.Held.{slot_of, slots_of, IsFindable}
-use Rattle.std.proofs.lemmas.List.{map-append}
+use Rattle.tc_bag.specs.Places.{slot_at, IsFindable}
 use Rattle.std.specs.Option.{IfSome, option_map}
 use Rattle.tc_bag.specs.declared.index.Index.{Index}
 use Rattle.tc_bag.specs.Ages.{Has, HasRow}
@@ -20,39 +14,32 @@ use Rattle.tc_lists.proofs.Filters.{filter_all}
 use Rattle.tc_lists.proofs.Elements.{All-append_left, All-append_right}
 use Rattle.std.proofs.lemmas.List.Folds.{map_fixed}
 
-pub at_age : (age k : ℕ) → is_at (nat_cmp age) k ≡ (k == age)
-at_age age k = grind (arith, nat_tests)
-
--- the tuple of what is held, where its row is there
-abbrev pub tuple_if : Option Held → Option Tree
+-- the tuple of a slot whose row is there
+abbrev pub tuple_if : Option Slot → Option Tree
 tuple_if None = None
-tuple_if (Some h) = cond (h.taken == 0) (Some h.tuple) None
+tuple_if (Some s) = cond (is_there s) (Some s.tuple) None
 
-pub tuple_there-lookup : (age : ℕ) (es : List (ℕ × Held)) → tuple_there age (slots_of es) ≡ tuple_if (lookup (is_at (nat_cmp age)) es)
-tuple_there-lookup age [] = refl
-tuple_there-lookup age (e ∷ es) =
-    elim (cases_Bool (e.0 == age)) [
-      | inl same ↦
-          ap (λ b. cond b (cond (e.1.taken == 0) (Some e.1.tuple) None) (tuple_there age (slots_of es))) same
-          ∙ sym (ap (λ b. tuple_if (cond b (Some e.1) (lookup (is_at (nat_cmp age)) es))) (at_age age e.0 ∙ same))
-      | inr other ↦
-          ap (λ b. cond b (cond (e.1.taken == 0) (Some e.1.tuple) None) (tuple_there age (slots_of es))) other
-          ∙ tuple_there-lookup age es
-          ∙ sym (ap (λ b. tuple_if (cond b (Some e.1) (lookup (is_at (nat_cmp age)) es))) (at_age age e.0 ∙ other))
-    ]
+pub tuple_there-slot_at : (age : ℕ) (ss : List Slot) → tuple_there age ss ≡ tuple_if (slot_at age ss)
+tuple_there-slot_at age [] = refl
+tuple_there-slot_at age (s ∷ ss) = go (s.age == age) (tuple_there-slot_at age ss)
+  where
+    go : (b : Bool) → tuple_there age ss ≡ tuple_if (slot_at age ss)
+        → cond b (cond (is_there s) (Some s.tuple) None) (tuple_there age ss) ≡ tuple_if (cond b (Some s) (slot_at age ss))
+    go true same = refl
+    go false same = same
 
 -- where none is found, none has the age
-pub lookup_none : (age : ℕ) (es : List (ℕ × Held)) → lookup (is_at (nat_cmp age)) es ≡ None → All (λ s. s.age ≢ age) (slots_of es)
-lookup_none age [] none = λ k d inside. absurd (omega (arith, inside))
-lookup_none age (e ∷ es) none =
-    elim (cases_Bool (e.0 == age)) [
+pub slot_at-none : (age : ℕ) (ss : List Slot) → slot_at age ss ≡ None → All (λ s. s.age ≢ age) ss
+slot_at-none age [] none = λ k d inside. absurd (omega (arith, inside))
+slot_at-none age (s ∷ ss) none =
+    elim (cases_Bool (s.age == age)) [
       | inl same ↦
-          let found : Some e.1 ≡ None = sym (ap (λ b. cond b (Some e.1) (lookup (is_at (nat_cmp age)) es)) (at_age age e.0 ∙ same)) ∙ none in
+          let found : Some s ≡ None = sym (ap (λ b. cond b (Some s) (slot_at age ss)) same) ∙ none in
           absurd (cc)
       | inr other ↦
-          let rest = sym (ap (λ b. cond b (Some e.1) (lookup (is_at (nat_cmp age)) es)) (at_age age e.0 ∙ other)) ∙ none in
-          All-cons (λ s. s.age ≢ age) (slot_of e) (slots_of es)
-          (λ same. true≢false (sym (eq-eqb e.0 age same) ∙ other)) (lookup_none age es rest)
+          let rest = sym (ap (λ b. cond b (Some s) (slot_at age ss)) other) ∙ none in
+          All-cons (λ t. t.age ≢ age) s ss
+          (λ same. true≢false (sym (eq-eqb s.age age same) ∙ other)) (slot_at-none age ss rest)
     ]
 
 -- those behind a slot of an age have others
@@ -61,23 +48,60 @@ behind_others age s ss same above =
     All-weaker (λ t. s.age < t.age) (λ t. t.age ≢ age) (λ t up equal. absurd (omega (arith, up, equal, same))) ss above
 
 -- what is found is all that has the age
-pub lookup_all : (age : ℕ) (es : List (ℕ × Held)) (h : Held) → InOrder (slots_of es) → lookup (is_at (nat_cmp age)) es ≡ Some h
-    → All (λ s. s.age ≡ age → s ≡ slot_of (s.age, h)) (slots_of es)
-lookup_all age [] h order found = λ k d inside. absurd (omega (arith, inside))
-lookup_all age (e ∷ es) h order found =
-    let Is : Slot → Type 0 = λ s. s.age ≡ age → s ≡ slot_of (s.age, h) in
-    elim (cases_Bool (e.0 == age)) [
+pub slot_at-all : (age : ℕ) (ss : List Slot) (found : Slot) → InOrder ss → slot_at age ss ≡ Some found
+    → All (λ s. s.age ≡ age → s ≡ found) ss
+slot_at-all age [] found order is = λ k d inside. absurd (omega (arith, inside))
+slot_at-all age (s ∷ ss) found order is =
+    let Is : Slot → Type 0 = λ t. t.age ≡ age → t ≡ found in
+    elim (cases_Bool (s.age == age)) [
       | inl same ↦
-          let here : Some e.1 ≡ Some h = sym (ap (λ b. cond b (Some e.1) (lookup (is_at (nat_cmp age)) es)) (at_age age e.0 ∙ same)) ∙ found in
-          let is : e.1 ≡ h = cc in
-          All-cons Is (slot_of e) (slots_of es) (λ equal. ap (λ g. slot_of (e.0, g)) is)
-          (All-weaker (λ t. t.age ≢ age) Is (λ t other equal. absurd (other equal)) (slots_of es)
-          (behind_others age (slot_of e) (slots_of es) (eqb-true e.0 age same) order.0))
+          let here : Some s ≡ Some found = sym (ap (λ b. cond b (Some s) (slot_at age ss)) same) ∙ is in
+          let equal : s ≡ found = cc in
+          All-cons Is s ss (λ of_age. equal)
+          (All-weaker (λ t. t.age ≢ age) Is (λ t other of_age. absurd (other of_age)) ss
+          (behind_others age s ss (eqb-true s.age age same) order.0))
       | inr other ↦
-          let rest = sym (ap (λ b. cond b (Some e.1) (lookup (is_at (nat_cmp age)) es)) (at_age age e.0 ∙ other)) ∙ found in
-          All-cons Is (slot_of e) (slots_of es) (λ equal. absurd (true≢false (sym (eq-eqb e.0 age equal) ∙ other)))
-          (lookup_all age es h order.1 rest)
+          let rest = sym (ap (λ b. cond b (Some s) (slot_at age ss)) other) ∙ is in
+          All-cons Is s ss (λ of_age. absurd (true≢false (sym (eq-eqb s.age age of_age) ∙ other)))
+          (slot_at-all age ss found order.1 rest)
     ]
+
+-- by the tuple that is found
+pub slot_at-tuple : (age : ℕ) (ss : List Slot) (t : Tree) → InOrder ss → option_map (λ s. s.tuple) (slot_at age ss) ≡ Some t
+    → All (λ s. s.age ≡ age → s.tuple ≡ t) ss
+slot_at-tuple age ss t order = go (slot_at age ss) refl
+  where
+    go : (o : Option Slot) → slot_at age ss ≡ o → option_map (λ s. s.tuple) o ≡ Some t → All (λ s. s.age ≡ age → s.tuple ≡ t) ss
+    go None at is =
+        let nothing : None ≡ Some t = is in
+        absurd (cc)
+    go (Some found) at is =
+        let known : Some found.tuple ≡ Some t = is in
+        let same : found.tuple ≡ t = cc in
+        All-weaker (λ s. s.age ≡ age → s ≡ found) (λ s. s.age ≡ age → s.tuple ≡ t)
+        (λ s equal of_age. ap (λ (r : Slot). r.tuple) (equal of_age) ∙ same) ss (slot_at-all age ss found order at)
+
+pub slot_at-no_tuple : (age : ℕ) (ss : List Slot) → option_map (λ s. s.tuple) (slot_at age ss) ≡ None → All (λ s. s.age ≢ age) ss
+slot_at-no_tuple age ss = go (slot_at age ss) refl
+  where
+    go : (o : Option Slot) → slot_at age ss ≡ o → option_map (λ s. s.tuple) o ≡ None → All (λ s. s.age ≢ age) ss
+    go None at is = slot_at-none age ss at
+    go (Some found) at is =
+        let nothing : Some found.tuple ≡ None = is in
+        absurd (cc)
+
+-- slots of other ages are passed over
+pub slot_at-pass : (age : ℕ) (ss ts : List Slot) → All (λ s. s.age ≢ age) ss → slot_at age (ss ++ ts) ≡ slot_at age ts
+slot_at-pass age [] ts others = refl
+slot_at-pass age (s ∷ ss) ts others =
+    ap (λ b. cond b (Some s) (slot_at age (ss ++ ts))) (ne_eqb s.age age (All-head (λ t. t.age ≢ age) s ss others))
+    ∙ slot_at-pass age ss ts (All-tail (λ t. t.age ≢ age) s ss others)
+
+pub slot_at-others : (age : ℕ) (ss : List Slot) → All (λ s. s.age ≢ age) ss → slot_at age ss ≡ None
+slot_at-others age [] others = refl
+slot_at-others age (s ∷ ss) others =
+    ap (λ b. cond b (Some s) (slot_at age ss)) (ne_eqb s.age age (All-head (λ t. t.age ≢ age) s ss others))
+    ∙ slot_at-others age ss (All-tail (λ t. t.age ≢ age) s ss others)
 
 -- what is changed is what has the age
 pub map-others : (f : Slot → Slot) (age : ℕ) (ss : List Slot) → ((s : Slot) → s.age ≢ age → f s ≡ s) → All (λ s. s.age ≢ age) ss → map f ss ≡ ss
@@ -94,61 +118,9 @@ slot_with s n = record s { taken = n }
 pub with_taken-other : (age n : ℕ) (s : Slot) → s.age ≢ age → with_taken age n s ≡ s
 with_taken-other age n s other = ap (λ b. record s { taken = cond b n s.taken }) (ne_eqb s.age age other)
 
-pub set-with_taken : (age n : ℕ) (es : List (ℕ × Held)) (h w : Held) → InOrder (slots_of es) → lookup (is_at (nat_cmp age)) es ≡ Some h
-    → w ≡ record h { taken = n } → slots_of (set_value (is_at (nat_cmp age)) es w) ≡ map (with_taken age n) (slots_of es)
-set-with_taken age n [] h w order found is = refl
-set-with_taken age n (e ∷ es) h w order found is =
-    elim (cases_Bool (e.0 == age)) [
-      | inl same ↦
-          let here : Some e.1 ≡ Some h = sym (ap (λ b. cond b (Some e.1) (lookup (is_at (nat_cmp age)) es)) (at_age age e.0 ∙ same)) ∙ found in
-          let held : h ≡ e.1 = cc in
-          let first : slot_of (e.0, w) ≡ with_taken age n (slot_of e) =
-          let exact : w ≡ record e.1 { taken = n } = subst (λ (g : Held). w ≡ record g { taken = n }) held is in
-          ap (λ (g : Held). slot_of (e.0, g)) exact
-          ∙ sym (ap (λ b. slot_with (slot_of e) (cond b n e.1.taken)) same) in
-          ap (λ b. slots_of (cond b ((e.0, w) ∷ es) (e ∷ set_value (is_at (nat_cmp age)) es w))) (at_age age e.0 ∙ same)
-          ∙ ap (λ s. s ∷ slots_of es) first
-          ∙ ap (λ ss. with_taken age n (slot_of e) ∷ ss)
-          (sym (map-others (with_taken age n) age (slots_of es) (with_taken-other age n)
-          (behind_others age (slot_of e) (slots_of es) (eqb-true e.0 age same) order.0)))
-      | inr other ↦
-          let rest = sym (ap (λ b. cond b (Some e.1) (lookup (is_at (nat_cmp age)) es)) (at_age age e.0 ∙ other)) ∙ found in
-          ap (λ b. slots_of (cond b ((e.0, w) ∷ es) (e ∷ set_value (is_at (nat_cmp age)) es w))) (at_age age e.0 ∙ other)
-          ∙ ap (λ ss. slot_of e ∷ ss) (set-with_taken age n es h w order.1 rest is)
-          ∙ ap (λ s. s ∷ map (with_taken age n) (slots_of es))
-          (sym (with_taken-other age n (slot_of e) (λ same. true≢false (sym (eq-eqb e.0 age same) ∙ other))))
-    ]
-
 pub filter-others : (age : ℕ) (ss : List Slot) → All (λ s. s.age ≢ age) ss → filter (is_not_of age) ss ≡ ss
 filter-others age ss others =
     filter_all (is_not_of age) ss (All-weaker (λ s. s.age ≢ age) (λ s. is_not_of age s ≡ true) (λ s other. ap not (ne_eqb s.age age other)) ss others)
-
-pub remove-filter : (age : ℕ) (es : List (ℕ × Held)) → InOrder (slots_of es)
-    → slots_of (remove_entry (is_at (nat_cmp age)) es) ≡ filter (is_not_of age) (slots_of es)
-remove-filter age [] order = refl
-remove-filter age (e ∷ es) order =
-    elim (cases_Bool (e.0 == age)) [
-      | inl same ↦
-          ap (λ b. slots_of (cond b es (e ∷ remove_entry (is_at (nat_cmp age)) es))) (at_age age e.0 ∙ same)
-          ∙ sym (filter-others age (slots_of es) (behind_others age (slot_of e) (slots_of es) (eqb-true e.0 age same) order.0))
-          ∙ sym (ap (λ b. cond (not b) (slot_of e ∷ filter (is_not_of age) (slots_of es)) (filter (is_not_of age) (slots_of es))) same)
-      | inr other ↦
-          ap (λ b. slots_of (cond b es (e ∷ remove_entry (is_at (nat_cmp age)) es))) (at_age age e.0 ∙ other)
-          ∙ ap (λ ss. slot_of e ∷ ss) (remove-filter age es order.1)
-          ∙ sym (ap (λ b. cond (not b) (slot_of e ∷ filter (is_not_of age) (slots_of es)) (filter (is_not_of age) (slots_of es))) other)
-    ]
-
--- a new row goes behind the others
-above : (age k : ℕ) → k < age → nat_cmp age k ≡ Greater
-above age k up = grind (arith, nat_tests)
-
-pub insert-behind : (age : ℕ) (es : List (ℕ × Held)) (h : Held) → All (λ s. s.age < age) (slots_of es)
-    → insert_entry nat_cmp es age h ≡ es ++ (age, h) ∷ []
-insert-behind age [] h below = refl
-insert-behind age (e ∷ es) h below =
-    ap (λ o. match_ordering o ((age, h) ∷ e ∷ es) ((e.0, h) ∷ es) (e ∷ insert_entry nat_cmp es age h))
-    (above age e.0 (All-head (λ s. s.age < age) (slot_of e) (slots_of es) below))
-    ∙ ap (λ rest. e ∷ rest) (insert-behind age es h (All-tail (λ s. s.age < age) (slot_of e) (slots_of es) below))
 
 -- an index that keeps an age keeps its row
 HasSome-kept : (old new : Index) (age : ℕ) (code : Option ℕ) → ((c : ℕ) → Has old c age → Has new c age)
@@ -332,41 +304,6 @@ filter-stays age ss order told =
     (All-weaker (λ s. s.age ≡ age → is_there s ≡ true) (λ s. stays age s ≡ true)
     (λ s there. stays_here s.age age s.taken there) ss (there_all age ss true order told)))
 
--- a list is empty or has a last element
-pub ends : {X : Type 0} (xs : List X) → (xs ≡ []) ⊎ ((before : List X) × (top : X) × (xs ≡ before ++ top ∷ []))
-ends [] = inl refl
-ends (x ∷ xs) =
-    elim (ends xs) [
-      | inl none ↦ inr ([], x, ap (λ ys. x ∷ ys) none)
-      | inr (before, top, split) ↦ inr (x ∷ before, top, ap (λ ys. x ∷ ys) split)
-    ]
-
-pub slice_get-seam : {X : Type 0} (xs ys : List X) (x : X) → slice_get (xs ++ x ∷ ys) (length xs) ≡ Some x
-slice_get-seam [] ys x = refl
-slice_get-seam (z ∷ zs) ys x = slice_get-seam zs ys x
-
--- what stands at the last place
-pub last_read : (es : List (ℕ × Held)) (age : ℕ) (h : Held) → slice_get es (length es - 1) ≡ Some (age, h)
-    → IsYoungest (slots_of es) age
-last_read es age h read =
-    elim (ends es) [
-      | inl none ↦
-          let nothing : None ≡ Some (age, h) = subst (λ (xs : List (ℕ × Held)). slice_get xs (length xs - 1) ≡ Some (age, h)) none read in
-          absurd (cc)
-      | inr (before, top, split) ↦
-          let at : slice_get (before ++ top ∷ []) (length (before ++ top ∷ []) - 1) ≡ Some (age, h) =
-          subst (λ (xs : List (ℕ × Held)). slice_get xs (length xs - 1) ≡ Some (age, h)) split read in
-          let place : length (before ++ top ∷ []) - 1 ≡ length before = omega (arith, length-append before (top ∷ [])) in
-          let same : Some top ≡ Some (age, h) = sym (slice_get-seam before [] top) ∙ ap (slice_get (before ++ top ∷ [])) (sym place) ∙ at in
-          let is : top ≡ (age, h) = cc in
-          record {
-            before = slots_of before;
-            last = slot_of top;
-            split = ap slots_of split ∙ map-append slot_of before (top ∷ []);
-            same = ap (λ e. e.0) is;
-          }
-    ]
-
 pub some-map : {T U : Type 0} (f : T → U) (o : Option T) → is_some (option_map f o) ≡ is_some o
 some-map f None = refl
 some-map f (Some x) = refl
@@ -385,6 +322,15 @@ not_older a n up = grind (arith, nat_tests)
 
 older : (a n : ℕ) → a < n → nat_lt a n ≡ true
 older a n down = grind (arith, nat_tests)
+
+-- without the youngest
+pub youngest_left : (age : ℕ) (ss : List Slot) → InOrder ss → (y : IsYoungest ss age) → filter (is_not_of age) ss ≡ y.before
+youngest_left age ss order y =
+    ap (filter (is_not_of age)) y.split
+    ∙ filter-last (is_not_of age) y.before y.last (ap not (eq-eqb y.last.age age y.same))
+    ∙ filter-others age y.before
+    (All-weaker (λ s. s.age < y.last.age) (λ s. s.age ≢ age) (λ s older same. absurd (omega (arith, older, same, y.same))) y.before
+    (InOrder-last y.before y.last (subst InOrder y.split order)))
 
 pub truncated : (next age : ℕ) (ss new : List Slot) → InOrder ss → next ≤ age → (y : IsYoungest ss age) → new ≡ y.before
     → (filter (is_older next) new ≡ filter (is_older next) ss) × InOrder new

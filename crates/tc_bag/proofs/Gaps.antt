@@ -1,0 +1,575 @@
+-- Rows in places, and the slots that they give.
+use Rattle.std.proofs.Common.{◌≡◌, ◌≢◌, ◌<◌, ◌≤◌, ◌-◌, ◌+◌, ◌==◌, ◌⊎◌, length, slice_get, length-append, nat_lt, is_some, inl, inr, not, ℕ, zero, suc, Bool, true, false, cond, IsTrue, IsSome, Option, Some, None, List, [], ◌∷◌, ◌++◌, get_or, set, take, drop, map, filter, filter_map, All, refl, ap, sym, subst, ◌∙◌, arith}
+use Rattle.std.proofs.lemmas.Bool.{eq-eqb, true≢false}
+use Rattle.std.proofs.lemmas.Bool.Decides.{nat_tests}
+use Rattle.std.proofs.lemmas.List.{map-append, take-append-drop, append_assoc, get_or-take, get_or-drop, length-take-le, length-drop, take_all, length-map, length-set, take-set, drop-set-lt, get_or-set_same, set-get_or}
+use Rattle.std.proofs.lemmas.List.Elements.{All-head, All-tail, All-weaker, All-cons, All-nil, All-append, All-filter, filter-append, filter_map-append}
+use Rattle.std.specs.List.Sorted.{IsPartitionPoint, IsPartitionedBy}
+use Rattle.std.specs.List.{cons_option, HoldsAt}
+use Rattle.std.specs.Option.{option_map, IfSome}
+use Rattle.std.proofs.Math.Seq.{take-append_seam}
+use Rattle.tc_term.specs.Tree.{Tree}
+use Rattle.tc_bag.specs.declared.slots.Place.{Place}
+use Rattle.tc_bag.specs.Places.{slot_taken, slot_in, slots_of, slot_if, slot_at, AgesRise, EndsFilled, IsKept, IsFirstFilled}
+use Rattle.tc_bag.specs.Slots.{Slot, slot, InOrder, IsYoungest, is_not_of, with_taken}
+use Rattle.tc_bag.proofs.ByAge.{filter-others, map-others, with_taken-other, slot_at-pass, slot_at-others, slot_at-none, slot_at-all}
+use Rattle.tc_lists.proofs.Elements.{All-append_left, All-append_right}
+use Rattle.tc_lists.proofs.Parts.{drop_read}
+use Rattle.tc_bag.proofs.Searching.{less_or}
+
+-- a list is empty or has a last element
+pub ends : {X : Type 0} (xs : List X) → (xs ≡ []) ⊎ ((before : List X) × (top : X) × (xs ≡ before ++ top ∷ []))
+ends [] = inl refl
+ends (x ∷ xs) =
+    elim (ends xs) [
+      | inl none ↦ inr ([], x, ap (λ ys. x ∷ ys) none)
+      | inr (before, top, split) ↦ inr (x ∷ before, top, ap (λ ys. x ∷ ys) split)
+    ]
+
+pub slice_get-seam : {X : Type 0} (xs ys : List X) (x : X) → slice_get (xs ++ x ∷ ys) (length xs) ≡ Some x
+slice_get-seam [] ys x = refl
+slice_get-seam (z ∷ zs) ys x = slice_get-seam zs ys x
+
+-- a list about one of its places
+pub cut_at : {X : Type 0} (xs : List X) (i : ℕ) (x : X) → i < length xs → x ≡ get_or xs i x → xs ≡ take i xs ++ x ∷ drop (i + 1) xs
+cut_at xs i x inside read = sym (take-append-drop i xs) ∙ ap (λ rest. take i xs ++ rest) (drop_read xs i x inside read)
+
+pub set_cut : {X : Type 0} (xs : List X) (i : ℕ) (y : X) → i < length xs → set xs i y ≡ take i xs ++ y ∷ drop (i + 1) xs
+set_cut xs i y inside =
+    sym (take-append-drop i (set xs i y))
+    ∙ ap (λ front. front ++ drop i (set xs i y)) (take-set xs i y)
+    ∙ ap (λ rest. take i xs ++ rest)
+    (drop_read (set xs i y) i y (omega (arith, inside, length-set xs i y)) (sym (get_or-set_same xs i y y inside))
+    ∙ ap (λ rest. y ∷ rest) (drop-set-lt (i + 1) xs i y (omega arith)))
+
+not_nil : {X : Type 0} (xs ys : List X) (x : X) → xs ++ x ∷ ys ≡ [] → ⊥
+not_nil xs ys x none = absurd (omega (arith, ap length none, length-append xs (x ∷ ys)))
+
+-- slots have the ages of their places
+pub slots-All : (P : ℕ → Type 0) (ps : List Place) → All (λ p. P p.age) ps → All (λ s. P s.age) (slots_of ps)
+slots-All P [] has = All-nil (λ s. P s.age)
+slots-All P (p ∷ ps) has = go p.tuple (All-head (λ q. P q.age) p ps has) (slots-All P ps (All-tail (λ q. P q.age) p ps has))
+  where
+    go : (o : Option Tree) → P p.age → All (λ s. P s.age) (slots_of ps)
+        → All (λ s. P s.age) (cons_option (option_map (slot_taken p.age p.taken) o) (slots_of ps))
+    go None here rest = rest
+    go (Some t) here rest = All-cons (λ s. P s.age) (slot_taken p.age p.taken t) (slots_of ps) here rest
+
+pub slots-append : (ps qs : List Place) → slots_of (ps ++ qs) ≡ slots_of ps ++ slots_of qs
+slots-append ps qs = filter_map-append slot_in ps qs
+
+pub slots-others : (age : ℕ) (ps : List Place) → All (λ p. p.age ≢ age) ps → All (λ s. s.age ≢ age) (slots_of ps)
+slots-others age ps others = slots-All (λ a. a ≢ age) ps others
+
+-- there are no more rows than places
+pub slots_most : (ps : List Place) → length (slots_of ps) ≤ length ps
+slots_most [] = omega arith
+slots_most (p ∷ ps) = go p.tuple (slots_most ps)
+  where
+    go : (o : Option Tree) → length (slots_of ps) ≤ length ps
+        → length (cons_option (option_map (slot_taken p.age p.taken) o) (slots_of ps)) ≤ length (p ∷ ps)
+    go None most = omega (arith, most)
+    go (Some t) most = omega (arith, most)
+
+-- slots are in the order of places
+pub rise-order : (ps : List Place) → AgesRise ps → InOrder (slots_of ps)
+rise-order [] rise = tt
+rise-order (p ∷ ps) rise = go p.tuple (slots-All (λ age. p.age < age) ps rise.0) (rise-order ps rise.1)
+  where
+    go : (o : Option Tree) → All (λ s. p.age < s.age) (slots_of ps) → InOrder (slots_of ps)
+        → InOrder (cons_option (option_map (slot_taken p.age p.taken) o) (slots_of ps))
+    go None above order = order
+    go (Some t) above order = (above, order)
+
+-- those before a place are older, and those behind it younger
+pub rise-before : (ps : List Place) (p : Place) (qs : List Place) → AgesRise (ps ++ p ∷ qs) → All (λ q. q.age < p.age) ps
+rise-before [] p qs rise = All-nil (λ q. q.age < p.age)
+rise-before (r ∷ ps) p qs rise =
+    All-cons (λ q. q.age < p.age) r ps
+    (All-head (λ q. r.age < q.age) p qs (All-append_right (λ q. r.age < q.age) ps (p ∷ qs) rise.0))
+    (rise-before ps p qs rise.1)
+
+pub rise-back : (ps qs : List Place) → AgesRise (ps ++ qs) → AgesRise qs
+rise-back [] qs rise = rise
+rise-back (r ∷ ps) qs rise = rise-back ps qs rise.1
+
+pub rise-front : (ps qs : List Place) → AgesRise (ps ++ qs) → AgesRise ps
+rise-front [] qs rise = tt
+rise-front (r ∷ ps) qs rise = (All-append_left (λ q. r.age < q.age) ps qs rise.0, rise-front ps qs rise.1)
+
+-- they still do where a place is exchanged for another of its age
+pub rise-again : (ps : List Place) (p q : Place) (qs : List Place) → p.age ≡ q.age → AgesRise (ps ++ p ∷ qs) → AgesRise (ps ++ q ∷ qs)
+rise-again [] p q qs same rise = (subst (λ age. All (λ r. age < r.age) qs) same rise.0, rise.1)
+rise-again (o ∷ ps) p q qs same rise =
+    let behind = All-append_right (λ r. o.age < r.age) ps (p ∷ qs) rise.0 in
+    let here : o.age < q.age = subst (λ age. o.age < age) same (All-head (λ r. o.age < r.age) p qs behind) in (
+      All-append (λ r. o.age < r.age) ps (q ∷ qs) (All-append_left (λ r. o.age < r.age) ps (p ∷ qs) rise.0)
+          (All-cons (λ r. o.age < r.age) q qs here (All-tail (λ r. o.age < r.age) p qs behind)),
+      rise-again ps p q qs same rise.1,
+    )
+
+-- and where a place is put behind them
+pub rise-push : (ps : List Place) (p : Place) → AgesRise ps → All (λ q. q.age < p.age) ps → AgesRise (ps ++ p ∷ [])
+rise-push [] p rise below = (All-nil (λ q. p.age < q.age), tt)
+rise-push (r ∷ ps) p rise below = (
+  All-append (λ q. r.age < q.age) ps (p ∷ []) rise.0
+      (All-cons (λ q. r.age < q.age) p [] (All-head (λ q. q.age < p.age) r ps below) (All-nil (λ q. r.age < q.age))),
+  rise-push ps p rise.1 (All-tail (λ q. q.age < p.age) r ps below),
+)
+
+module _ (ps : List Place) (p : Place) (qs : List Place) (rise : AgesRise (ps ++ p ∷ qs)) where
+  -- the places about one have other ages
+  pub others_before : All (λ q. q.age ≢ p.age) ps
+  others_before = All-weaker (λ q. q.age < p.age) (λ q. q.age ≢ p.age) (λ q older same. absurd (omega (arith, older, same))) ps
+      (rise-before ps p qs rise)
+
+  pub others_behind : All (λ q. q.age ≢ p.age) qs
+  others_behind = All-weaker (λ q. p.age < q.age) (λ q. q.age ≢ p.age) (λ q younger same. absurd (omega (arith, younger, same))) qs
+      (rise-back ps (p ∷ qs) rise).0
+
+  before : All (λ s. s.age ≢ p.age) (slots_of ps)
+  before = slots-others p.age ps others_before
+
+  behind : All (λ s. s.age ≢ p.age) (slots_of qs)
+  behind = slots-others p.age qs others_behind
+
+  -- the slot of an age is that in its place
+  pub slot_placed : slot_at p.age (slots_of (ps ++ p ∷ qs)) ≡ slot_in p
+  slot_placed =
+      ap (slot_at p.age) (slots-append ps (p ∷ qs))
+      ∙ slot_at-pass p.age (slots_of ps) (slots_of (p ∷ qs)) before
+      ∙ go p.tuple
+    where
+      go : (o : Option Tree) → slot_at p.age (cons_option (option_map (slot_taken p.age p.taken) o) (slots_of qs))
+          ≡ option_map (slot_taken p.age p.taken) o
+      go None = slot_at-others p.age (slots_of qs) behind
+      go (Some t) =
+          ap (λ b. cond b (Some (slot_taken p.age p.taken t)) (slot_at p.age (slots_of qs))) (eq-eqb p.age p.age refl)
+
+  -- a place whose row goes
+  pub slots-cleared : (q : Place) → q.tuple ≡ None → slots_of (ps ++ q ∷ qs) ≡ filter (is_not_of p.age) (slots_of (ps ++ p ∷ qs))
+  slots-cleared q gone =
+      slots-append ps (q ∷ qs)
+      ∙ ap (λ o. slots_of ps ++ cons_option (option_map (slot_taken q.age q.taken) o) (slots_of qs)) gone
+      ∙ sym (ap (filter (is_not_of p.age)) (slots-append ps (p ∷ qs))
+      ∙ filter-append (is_not_of p.age) (slots_of ps) (slots_of (p ∷ qs))
+      ∙ ap (λ ss. ss ++ filter (is_not_of p.age) (slots_of (p ∷ qs))) (filter-others p.age (slots_of ps) before)
+      ∙ ap (λ ss. slots_of ps ++ ss) (go p.tuple))
+    where
+      go : (o : Option Tree) → filter (is_not_of p.age) (cons_option (option_map (slot_taken p.age p.taken) o) (slots_of qs)) ≡ slots_of qs
+      go None = filter-others p.age (slots_of qs) behind
+      go (Some t) =
+          ap (λ b. cond (not b) (slot_taken p.age p.taken t ∷ filter (is_not_of p.age) (slots_of qs)) (filter (is_not_of p.age) (slots_of qs)))
+          (eq-eqb p.age p.age refl)
+          ∙ filter-others p.age (slots_of qs) behind
+
+  -- a place whose row is taken, or there again
+  pub slots-noted : (q : Place) (n : ℕ) → q.age ≡ p.age → q.taken ≡ n → q.tuple ≡ p.tuple
+      → slots_of (ps ++ q ∷ qs) ≡ map (with_taken p.age n) (slots_of (ps ++ p ∷ qs))
+  slots-noted q n same_age is same_tuple =
+      slots-append ps (q ∷ qs)
+      ∙ ap (λ o. slots_of ps ++ cons_option o (slots_of qs)) noted
+      ∙ sym (ap (map (with_taken p.age n)) (slots-append ps (p ∷ qs))
+      ∙ map-append (with_taken p.age n) (slots_of ps) (slots_of (p ∷ qs))
+      ∙ ap (λ ss. ss ++ map (with_taken p.age n) (slots_of (p ∷ qs)))
+      (map-others (with_taken p.age n) p.age (slots_of ps) (with_taken-other p.age n) before)
+      ∙ ap (λ ss. slots_of ps ++ ss) (go p.tuple))
+    where
+      noted : slot_in q ≡ option_map (slot_taken p.age n) p.tuple
+      noted = ap (λ a. option_map (slot_taken a q.taken) q.tuple) same_age
+          ∙ ap (λ k. option_map (slot_taken p.age k) q.tuple) is
+          ∙ ap (option_map (slot_taken p.age n)) same_tuple
+
+      go : (o : Option Tree) → map (with_taken p.age n) (cons_option (option_map (slot_taken p.age p.taken) o) (slots_of qs))
+          ≡ cons_option (option_map (slot_taken p.age n) o) (slots_of qs)
+      go None = map-others (with_taken p.age n) p.age (slots_of qs) (with_taken-other p.age n) behind
+      go (Some t) =
+          ap (λ b. slot_taken p.age (cond b n p.taken) t ∷ map (with_taken p.age n) (slots_of qs)) (eq-eqb p.age p.age refl)
+          ∙ ap (λ ss. slot_taken p.age n t ∷ ss)
+          (map-others (with_taken p.age n) p.age (slots_of qs) (with_taken-other p.age n) behind)
+
+-- a gap in place of a row is one row less
+pub fewer : (ps : List Place) (p q : Place) (qs : List Place) (t : Tree) → p.tuple ≡ Some t → q.tuple ≡ None
+    → length (slots_of (ps ++ p ∷ qs)) ≡ length (slots_of (ps ++ q ∷ qs)) + 1
+fewer ps p q qs t some gone =
+    let with_row : length (slots_of (p ∷ qs)) ≡ suc (length (slots_of qs)) = ap (λ o. length (cons_option (option_map (slot_taken p.age p.taken) o) (slots_of qs))) some in
+    let without : length (slots_of (q ∷ qs)) ≡ length (slots_of qs) = ap (λ o. length (cons_option (option_map (slot_taken q.age q.taken) o) (slots_of qs))) gone in
+    let old = ap length (slots-append ps (p ∷ qs)) ∙ length-append (slots_of ps) (slots_of (p ∷ qs)) in
+    let new = ap length (slots-append ps (q ∷ qs)) ∙ length-append (slots_of ps) (slots_of (q ∷ qs)) in
+    omega (arith, with_row, without, old, new)
+
+abbrev with_tuple : Place → Option Tree → Place
+with_tuple p o = record { age = p.age; taken = p.taken; tuple = o }
+
+-- gaps give no slots
+pub slots-gap : (ps : List Place) (p : Place) → p.tuple ≡ None → slots_of (ps ++ p ∷ []) ≡ slots_of ps
+slots-gap [] p gone = ap (λ o. cons_option (option_map (slot_taken p.age p.taken) o) []) gone
+slots-gap (q ∷ ps) p gone = ap (cons_option (slot_in q)) (slots-gap ps p gone)
+
+abbrev pub is_filled : Place → Bool
+is_filled p = is_some p.tuple
+
+pub slots-together : (ps : List Place) → slots_of (filter is_filled ps) ≡ slots_of ps
+slots-together [] = refl
+slots-together (p ∷ ps) = go p.tuple refl (slots-together ps)
+  where
+    go : (o : Option Tree) → p.tuple ≡ o → slots_of (filter is_filled ps) ≡ slots_of ps
+        → slots_of (cond (is_some o) (p ∷ filter is_filled ps) (filter is_filled ps))
+        ≡ cons_option (option_map (slot_taken p.age p.taken) o) (slots_of ps)
+    go None is rest = rest
+    go (Some t) is rest =
+        ap (λ o. cons_option (option_map (slot_taken p.age p.taken) o) (slots_of (filter is_filled ps))) is
+        ∙ ap (λ ss. slot_taken p.age p.taken t ∷ ss) rest
+
+-- what a place tells of the slots of its age
+pub placed_taken : (age : ℕ) (ss : List Slot) (p : Place) → InOrder ss → slot_at age ss ≡ slot_in p → All (λ s. s.age ≡ age → s.taken ≡ p.taken) ss
+placed_taken age ss p order = go p.tuple
+  where
+    go : (o : Option Tree) → slot_at age ss ≡ option_map (slot_taken p.age p.taken) o → All (λ s. s.age ≡ age → s.taken ≡ p.taken) ss
+    go None found = All-weaker (λ s. s.age ≢ age) (λ s. s.age ≡ age → s.taken ≡ p.taken) (λ s other same. absurd (other same)) ss
+        (slot_at-none age ss found)
+    go (Some t) found = All-weaker (λ s. s.age ≡ age → s ≡ slot_taken p.age p.taken t) (λ s. s.age ≡ age → s.taken ≡ p.taken)
+        (λ s is same. ap (λ (r : Slot). r.taken) (is same)) ss (slot_at-all age ss (slot_taken p.age p.taken t) order found)
+
+-- ages rise from place to place
+pub rise_at : (ps : List Place) (j k : ℕ) (d : Place) → AgesRise ps → j < k → k < length ps → (get_or ps j d).age < (get_or ps k d).age
+rise_at [] j k d rise less inside = absurd (omega (arith, inside))
+rise_at (p ∷ ps) zero zero d rise less inside = absurd (omega (arith, less))
+rise_at (p ∷ ps) zero (suc k) d rise less inside = rise.0 k d (omega (arith, inside))
+rise_at (p ∷ ps) (suc j) zero d rise less inside = absurd (omega (arith, less))
+rise_at (p ∷ ps) (suc j) (suc k) d rise less inside = rise_at ps j k d rise.1 (omega (arith, less)) (omega (arith, inside))
+
+pub rise-filter : (f : Place → Bool) (ps : List Place) → AgesRise ps → AgesRise (filter f ps)
+rise-filter f [] rise = tt
+rise-filter f (p ∷ ps) rise = go (f p) (All-filter f (λ q. p.age < q.age) ps rise.0) (rise-filter f ps rise.1)
+  where
+    go : (b : Bool) → All (λ q. p.age < q.age) (filter f ps) → AgesRise (filter f ps)
+        → AgesRise (cond b (p ∷ filter f ps) (filter f ps))
+    go true above rest = (above, rest)
+    go false above rest = rest
+
+lt_from : (a b : ℕ) → nat_lt a b ≡ true → a < b
+lt_from a b is = grind (arith, nat_tests)
+
+lt_to : (a b : ℕ) → a < b → nat_lt a b ≡ true
+lt_to a b less = grind (arith, nat_tests)
+
+ge_from : (a b : ℕ) → nat_lt a b ≡ false → b ≤ a
+ge_from a b is = grind (arith, nat_tests)
+
+-- where the ages before and behind a place are
+abbrev pub IsPointOf : ℕ → List Place → ℕ → Type 0
+IsPointOf age ps i = IsPartitionPoint (λ p. p.age < age) (λ p. age ≤ p.age) ps i
+
+module _ (ps : List Place) (age i : ℕ) (rise : AgesRise ps) where
+  -- a place of this age is one
+  pub point_found : i < length ps → HoldsAt (λ p. p.age ≡ age) ps i → IsPointOf age ps i
+  point_found inside at = (
+    λ k d from below. omega (arith, rise_at ps k i d rise below inside, at d),
+    λ k d from below.
+        elim (less_or i k) [
+          | inl less ↦ omega (arith, rise_at ps i k d rise less below, at d)
+          | inr up ↦
+              let same : k ≡ i = omega (arith, from, up) in
+              let equal : (get_or ps k d).age ≡ age = subst (λ j. (get_or ps j d).age ≡ age) (sym same) (at d) in
+              omega (arith, equal)
+        ],
+  )
+
+  -- where it has another age, none has this one
+  pub point_none : IsPointOf age ps i → ((d : Place) → i < length ps → (get_or ps i d).age ≢ age) → All (λ p. p.age ≢ age) ps
+  point_none point other k d inside same =
+      elim (less_or k i) [
+        | inl below ↦ absurd (omega (arith, point.0 k d (omega arith) below, same))
+        | inr from ↦
+            elim (less_or i k) [
+              | inl less ↦
+                  let bounds = point.1 i d (omega arith) (omega (arith, less, inside)) in
+                  absurd (omega (arith, rise_at ps i k d rise less inside, bounds, same))
+              | inr up ↦
+                  let at : k ≡ i = omega (arith, from, up) in
+                  other d (omega (arith, at, inside)) (subst (λ j. (get_or ps j d).age ≡ age) at same)
+            ]
+      ]
+
+  -- those below an age come first
+  pub parted : IsPartitionedBy (λ p. nat_lt p.age age) ps
+  parted j k d up inside passes =
+      elim (less_or j k) [
+        | inl less ↦
+            let below : (get_or ps k d).age < age = lt_from (get_or ps k d).age age passes in
+            lt_to (get_or ps j d).age age (omega (arith, rise_at ps j k d rise less inside, below))
+        | inr from ↦
+            let same : j ≡ k = omega (arith, up, from) in
+            subst (λ n. nat_lt (get_or ps n d).age age ≡ true) (sym same) passes
+      ]
+
+-- by the test that a bisection makes
+pub point_of_test : (age : ℕ) (ps : List Place) (i : ℕ)
+    → IsPartitionPoint (λ p. nat_lt p.age age ≡ true) (λ p. nat_lt p.age age ≡ false) ps i → IsPointOf age ps i
+point_of_test age ps i point = (
+  λ k d from below. lt_from (get_or ps k d).age age (point.0 k d from below),
+  λ k d from below. ge_from (get_or ps k d).age age (point.1 k d from below),
+)
+
+-- the last place of a list that ends with a row
+pub ends-last : (ps : List Place) (p : Place) → EndsFilled (ps ++ p ∷ []) → IsTrue (is_some p.tuple)
+ends-last [] p ends = ends.0 refl
+ends-last (q ∷ ps) p ends = ends-last ps p ends.1
+
+pub ends-push : (ps : List Place) (p : Place) → IsTrue (is_some p.tuple) → EndsFilled (ps ++ p ∷ [])
+ends-push [] p filled = (λ none. filled, tt)
+ends-push (q ∷ ps) p filled = (λ none. absurd (not_nil ps [] p none), ends-push ps p filled)
+
+pub ends-again : (ps : List Place) (p q : Place) (qs : List Place) → q.tuple ≡ p.tuple → EndsFilled (ps ++ p ∷ qs) → EndsFilled (ps ++ q ∷ qs)
+ends-again [] p q qs same ends = (λ none. ap is_some same ∙ ends.0 none, ends.1)
+ends-again (o ∷ ps) p q qs same ends = (λ none. absurd (not_nil ps qs q none), ends-again ps p q qs same ends.1)
+
+pub ends-all : (ps : List Place) → All (λ p. is_filled p ≡ true) ps → EndsFilled ps
+ends-all [] filled = tt
+ends-all (p ∷ ps) filled = (
+  λ none. All-head (λ q. is_filled q ≡ true) p ps filled,
+  ends-all ps (All-tail (λ q. is_filled q ≡ true) p ps filled),
+)
+
+-- an age's place
+abbrev pub IsPlaceOf : ℕ → List Place → ℕ → Type 0
+IsPlaceOf age ps i = (i < length ps) × HoldsAt (λ p. p.age ≡ age) ps i
+
+module _ (age i : ℕ) (ps : List Place) (p : Place) (rise : AgesRise ps) (at : IsPlaceOf age ps i) (read : p ≡ get_or ps i p) where
+  placed : ps ≡ take i ps ++ p ∷ drop (i + 1) ps
+  placed = cut_at ps i p at.0 read
+
+  rise_placed : AgesRise (take i ps ++ p ∷ drop (i + 1) ps)
+  rise_placed = subst AgesRise placed rise
+
+  same_age : p.age ≡ age
+  same_age = ap (λ (q : Place). q.age) read ∙ at.1 p
+
+  -- the slot of an age is that of its place
+  pub slot_found : slot_in p ≡ slot_at age (slots_of ps)
+  slot_found =
+      sym (slot_placed (take i ps) p (drop (i + 1) ps) rise_placed)
+      ∙ ap (λ qs. slot_at p.age (slots_of qs)) (sym placed)
+      ∙ ap (λ a. slot_at a (slots_of ps)) same_age
+
+  -- its row is taken, or there again
+  pub slots-set_taken : (n : ℕ) → slots_of (set ps i (record { age = p.age; taken = n; tuple = p.tuple })) ≡ map (with_taken age n) (slots_of ps)
+  slots-set_taken n =
+      let q : Place = record { age = p.age; taken = n; tuple = p.tuple } in
+      ap slots_of (set_cut ps i q at.0)
+      ∙ slots-noted (take i ps) p (drop (i + 1) ps) rise_placed q n refl refl refl
+      ∙ ap (λ qs. map (with_taken p.age n) (slots_of qs)) (sym placed)
+      ∙ ap (λ a. map (with_taken a n) (slots_of ps)) same_age
+
+  pub kept-set_taken : (n filled : ℕ) → IsKept ps filled → IsKept (set ps i (record { age = p.age; taken = n; tuple = p.tuple })) filled
+  kept-set_taken n filled kept =
+      let q : Place = record { age = p.age; taken = n; tuple = p.tuple } in
+      let is : set ps i q ≡ take i ps ++ q ∷ drop (i + 1) ps = set_cut ps i q at.0 in
+      record {
+        rise = subst AgesRise (sym is) (rise-again (take i ps) p q (drop (i + 1) ps) refl rise_placed);
+        ends = subst EndsFilled (sym is) (ends-again (take i ps) p q (drop (i + 1) ps) refl (subst EndsFilled placed kept.ends));
+        count = kept.count ∙ sym (ap length (slots-set_taken n) ∙ length-map (slots_of ps) (with_taken age n));
+      }
+
+  -- its row goes
+  pub rise-cleared : AgesRise (set ps i (record { age = p.age; taken = p.taken; tuple = None }))
+  rise-cleared =
+      let q : Place = record { age = p.age; taken = p.taken; tuple = None } in
+      subst AgesRise (sym (set_cut ps i q at.0)) (rise-again (take i ps) p q (drop (i + 1) ps) refl rise_placed)
+
+  pub slots-set_gone : slots_of (set ps i (record { age = p.age; taken = p.taken; tuple = None })) ≡ filter (is_not_of age) (slots_of ps)
+  slots-set_gone =
+      let q : Place = record { age = p.age; taken = p.taken; tuple = None } in
+      ap slots_of (set_cut ps i q at.0)
+      ∙ slots-cleared (take i ps) p (drop (i + 1) ps) rise_placed q refl
+      ∙ ap (λ qs. filter (is_not_of p.age) (slots_of qs)) (sym placed)
+      ∙ ap (λ a. filter (is_not_of a) (slots_of ps)) same_age
+
+  pub fewer_gone : (t : Tree) → p.tuple ≡ Some t
+      → length (slots_of ps) ≡ length (slots_of (set ps i (record { age = p.age; taken = p.taken; tuple = None }))) + 1
+  fewer_gone t some =
+      let q : Place = record { age = p.age; taken = p.taken; tuple = None } in
+      ap (λ qs. length (slots_of qs)) placed
+      ∙ fewer (take i ps) p q (drop (i + 1) ps) t some refl
+      ∙ ap (λ qs. length (slots_of qs) + 1) (sym (set_cut ps i q at.0))
+
+  pub same_gone : p.tuple ≡ None → set ps i (record { age = p.age; taken = p.taken; tuple = None }) ≡ ps
+  same_gone none =
+      ap (λ o. set ps i (with_tuple p o)) (sym none)
+      ∙ ap (λ q. set ps i q) read
+      ∙ set-get_or ps i p
+
+-- the first row from an age on
+module _ (from i : ℕ) (ps : List Place) (rise : AgesRise ps) (inside : i ≤ length ps) (point : IsPointOf from ps i) where
+  older : All (λ p. p.age < from) (take i ps)
+  older k d within =
+      let below : k < i = omega (arith, within, length-take-le i ps inside) in
+      subst (λ q. q.age < from) (sym (get_or-take i ps k d below)) (point.0 k d (omega arith) below)
+
+  younger : All (λ p. from ≤ p.age) (drop i ps)
+  younger k d within =
+      let below : i + k < length ps = omega (arith, within, length-drop i ps) in
+      subst (λ q. from ≤ q.age) (sym (get_or-drop i ps k d)) (point.1 (i + k) d (omega arith) below)
+
+  parts : slots_of ps ≡ slots_of (take i ps) ++ slots_of (drop i ps)
+  parts = ap slots_of (sym (take-append-drop i ps)) ∙ slots-append (take i ps) (drop i ps)
+
+  pub none_behind : slots_of (drop i ps) ≡ [] → All (λ s. from ≤ s.age → ⊥) (slots_of ps)
+  none_behind none =
+      subst (All (λ s. from ≤ s.age → ⊥)) (sym (parts ∙ ap (λ ss. slots_of (take i ps) ++ ss) none))
+      (All-append (λ s. from ≤ s.age → ⊥) (slots_of (take i ps)) []
+      (slots-All (λ a. from ≤ a → ⊥) (take i ps)
+      (All-weaker (λ p. p.age < from) (λ p. from ≤ p.age → ⊥) (λ p less up. absurd (omega (arith, less, up))) (take i ps) older))
+      (All-nil (λ s. from ≤ s.age → ⊥)))
+
+module _ (from i : ℕ) (ps : List Place) (rise : AgesRise ps) (inside : i ≤ length ps) (point : IsPointOf from ps i)
+    (p : Place) (gaps rest : List Place) (split : drop i ps ≡ gaps ++ p ∷ rest) (none : slots_of gaps ≡ []) where
+  whole : ps ≡ (take i ps ++ gaps) ++ p ∷ rest
+  whole =
+      sym (take-append-drop i ps) ∙ ap (λ qs. take i ps ++ qs) split ∙ sym (append_assoc (take i ps) gaps (p ∷ rest))
+
+  pub first_least : (from ≤ p.age) × All (λ s. from ≤ s.age → s.age < p.age → ⊥) (slots_of ps)
+  first_least =
+      let Not : Slot → Type 0 = λ s. from ≤ s.age → s.age < p.age → ⊥ in
+      let above : All (λ q. p.age ≤ q.age) (p ∷ rest) =
+      All-cons (λ q. p.age ≤ q.age) p rest (omega arith)
+      (All-weaker (λ q. p.age < q.age) (λ q. p.age ≤ q.age) (λ q less. omega (arith, less)) rest
+      (rise-back (take i ps ++ gaps) (p ∷ rest) (subst AgesRise whole rise)).0) in
+      let before : All Not (slots_of (take i ps)) =
+      slots-All (λ a. from ≤ a → a < p.age → ⊥) (take i ps)
+      (All-weaker (λ q. q.age < from) (λ q. from ≤ q.age → q.age < p.age → ⊥) (λ q less up below. absurd (omega (arith, less, up))) (take i ps) (older from i ps rise inside point)) in
+      let behind : All Not (slots_of (p ∷ rest)) =
+      slots-All (λ a. from ≤ a → a < p.age → ⊥) (p ∷ rest)
+      (All-weaker (λ q. p.age ≤ q.age) (λ q. from ≤ q.age → q.age < p.age → ⊥) (λ q up_to up below. absurd (omega (arith, up_to, below))) (p ∷ rest) above) in
+      let back : slots_of (drop i ps) ≡ slots_of (p ∷ rest) =
+      ap slots_of split ∙ slots-append gaps (p ∷ rest) ∙ ap (λ ss. ss ++ slots_of (p ∷ rest)) none in (
+        All-head (λ q. from ≤ q.age) p rest (All-append_right (λ q. from ≤ q.age) gaps (p ∷ rest) (subst (All (λ q. from ≤ q.age)) split (younger from i ps rise inside point))),
+        subst (All Not) (sym (parts from i ps rise inside point ∙ ap (λ ss. slots_of (take i ps) ++ ss) back))
+            (All-append Not (slots_of (take i ps)) (slots_of (p ∷ rest)) before behind),
+      )
+
+  pub first_taken : All (λ s. s.age ≡ p.age → s.taken ≡ p.taken) (slots_of ps)
+  first_taken =
+      placed_taken p.age (slots_of ps) p (rise-order ps rise)
+      (ap (λ qs. slot_at p.age (slots_of qs)) whole ∙ slot_placed (take i ps ++ gaps) p rest (subst AgesRise whole rise))
+
+last_seam : {X : Type 0} (xs : List X) (x : X) → slice_get (xs ++ x ∷ []) (length (xs ++ x ∷ []) - 1) ≡ Some x
+last_seam xs x =
+    let place : length (xs ++ x ∷ []) - 1 ≡ length xs = omega (arith, length-append xs (x ∷ [])) in
+    ap (slice_get (xs ++ x ∷ [])) place ∙ slice_get-seam xs [] x
+
+-- a list by its last place
+pub by_last : {X : Type 0} (xs : List X) (x : X) → slice_get xs (length xs - 1) ≡ Some x → (before : List X) × (xs ≡ before ++ x ∷ [])
+by_last xs x read =
+    elim (ends xs) [
+      | inl none ↦
+          let nothing : None ≡ Some x = subst (λ ys. slice_get ys (length ys - 1) ≡ Some x) none read in
+          absurd (cc)
+      | inr (before, top, split) ↦
+          let same : Some top ≡ Some x = sym (last_seam before top) ∙ ap (λ ys. slice_get ys (length ys - 1)) (sym split) ∙ read in
+          let is : top ≡ x = cc in
+          (before, split ∙ ap (λ y. before ++ y ∷ []) is)
+    ]
+
+pub no_last : {X : Type 0} (xs : List X) → slice_get xs (length xs - 1) ≡ None → xs ≡ []
+no_last xs read =
+    elim (ends xs) [
+      | inl none ↦ none
+      | inr (before, top, split) ↦
+          let some : Some top ≡ None = sym (last_seam before top) ∙ ap (λ ys. slice_get ys (length ys - 1)) (sym split) ∙ read in
+          absurd (cc)
+    ]
+
+-- the row in the last place is the youngest
+pub last_youngest : (ps : List Place) (p : Place) → EndsFilled ps → slice_get ps (length ps - 1) ≡ Some p → IsYoungest (slots_of ps) p.age
+last_youngest ps p ends read =
+    let last = by_last ps p read in
+    let before = last.0 in
+    go before p.tuple (ap slots_of last.1 ∙ slots-append before (p ∷ [])) (ends-last before p (subst EndsFilled last.1 ends))
+  where
+    go : (front : List Place) (o : Option Tree) → slots_of ps ≡ slots_of front ++ cons_option (option_map (slot_taken p.age p.taken) o) []
+        → IsTrue (is_some o) → IsYoungest (slots_of ps) p.age
+    go front None split filled = absurd (true≢false (sym filled))
+    go front (Some t) split filled = record {
+      before = slots_of front;
+      last = slot_taken p.age p.taken t;
+      split = split;
+      same = refl;
+    }
+
+top_below : (age : ℕ) (before : List Place) (top : Place) → IsTrue (is_some top.tuple) → All (λ s. s.age < age) (slots_of (before ++ top ∷ []))
+    → top.age < age
+top_below age before top filled below =
+    go top.tuple filled (All-append_right (λ s. s.age < age) (slots_of before) (slots_of (top ∷ []))
+    (subst (All (λ s. s.age < age)) (slots-append before (top ∷ [])) below))
+  where
+    go : (o : Option Tree) → IsTrue (is_some o) → All (λ s. s.age < age) (cons_option (option_map (slot_taken top.age top.taken) o) [])
+        → top.age < age
+    go None filled below = absurd (true≢false (sym filled))
+    go (Some t) filled below = All-head (λ s. s.age < age) (slot_taken top.age top.taken t) [] below
+
+-- what is older than all rows is so of all places
+pub places_below : (age : ℕ) (ps : List Place) → AgesRise ps → EndsFilled ps → All (λ s. s.age < age) (slots_of ps) → All (λ p. p.age < age) ps
+places_below age ps rise filled below =
+    elim (ends ps) [
+      | inl none ↦ subst (All (λ p. p.age < age)) (sym none) (All-nil (λ p. p.age < age))
+      | inr (before, top, split) ↦
+          let here : top.age < age =
+          top_below age before top (ends-last before top (subst EndsFilled split filled)) (subst (λ qs. All (λ s. s.age < age) (slots_of qs)) split below) in
+          subst (All (λ p. p.age < age)) (sym split)
+          (All-append (λ p. p.age < age) before (top ∷ [])
+          (All-weaker (λ p. p.age < top.age) (λ p. p.age < age) (λ p less. omega (arith, less, here)) before
+          (rise-before before top [] (subst AgesRise split rise)))
+          (All-cons (λ p. p.age < age) top [] here (All-nil (λ p. p.age < age))))
+    ]
+
+-- a row is put behind the others
+pub slots-push : (ps : List Place) (p : Place) (t : Tree) → p.tuple ≡ Some t → slots_of (ps ++ p ∷ []) ≡ slots_of ps ++ slot_taken p.age p.taken t ∷ []
+slots-push ps p t some =
+    slots-append ps (p ∷ []) ∙ ap (λ o. slots_of ps ++ cons_option (option_map (slot_taken p.age p.taken) o) []) some
+
+pub kept-push : (ps : List Place) (filled : ℕ) (p : Place) (t : Tree) → IsKept ps filled → p.tuple ≡ Some t
+    → All (λ s. s.age < p.age) (slots_of ps) → IsKept (ps ++ p ∷ []) (filled + 1)
+kept-push ps filled p t kept some below = record {
+  rise = rise-push ps p kept.rise (places_below p.age ps kept.rise kept.ends below);
+  ends = ends-push ps p (ap is_some some);
+  count =
+      omega (arith, kept.count, ap length (slots-push ps p t some), length-append (slots_of ps) (slot_taken p.age p.taken t ∷ []));
+}
+
+-- what is no row is a gap
+pub none_from : (o : Option Tree) → false ≡ is_some o → o ≡ None
+none_from None none = refl
+none_from (Some t) none = absurd (true≢false (sym none))
+
+pub if_some : {X : Type 0} (P : Type 0) (o : Option X) → ((x : X) → o ≡ Some x → P) → IfSome o (λ x. P)
+if_some P None has = tt
+if_some P (Some x) has = has x refl
+
+-- a slice to the end
+pub sliced : (i : ℕ) (ps : List Place) → take (length ps - i) (drop i ps) ≡ drop i ps
+sliced i ps = take_all (length ps - i) (drop i ps) (omega (arith, length-drop i ps))
+
+-- the last place is a gap
+pub gap-read : (ps before : List Place) (p : Place) → ps ≡ before ++ p ∷ [] → p.tuple ≡ None → slots_of before ≡ slots_of ps
+gap-read ps before p split gone = sym (ap slots_of split ∙ slots-gap before p gone)
+
+-- without a gap at the end
+pub popped : (ps new : List Place) (p : Place) (n : ℕ) → slice_get ps (length ps - 1) ≡ Some p → n ≡ length ps → new ≡ take (n - 1) ps
+    → p.tuple ≡ None → AgesRise ps → (slots_of new ≡ slots_of ps) × AgesRise new
+popped ps new p n read many is gone rise =
+    let last = by_last ps p read in
+    let before = last.0 in
+    let place : n - 1 ≡ length before = omega (arith, many, ap length last.1, length-append before (p ∷ [])) in
+    let left : new ≡ before =
+    is ∙ ap (take (n - 1)) last.1 ∙ ap (λ k. take k (before ++ p ∷ [])) place ∙ take-append_seam before (p ∷ []) in (
+      ap slots_of left ∙ gap-read ps before p last.1 gone,
+      subst AgesRise (sym left) (rise-front before (p ∷ []) (subst AgesRise last.1 rise)),
+    )
+
+-- the last place is a row
+pub ends-read : (ps : List Place) (p : Place) → slice_get ps (length ps - 1) ≡ Some p → IsTrue (is_some p.tuple) → EndsFilled ps
+ends-read ps p read filled =
+    let last = by_last ps p read in
+    subst EndsFilled (sym last.1) (ends-push last.0 p filled)
