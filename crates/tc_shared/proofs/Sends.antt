@@ -9,13 +9,13 @@ use Rattle.tc_model.proofs.events.EventOp.TheSendSync as eventop
 use Rattle.tc_model.proofs.events.Context.TheSendSync as context
 use Rattle.tc_model.proofs.events.Sign.TheSendSync as sign
 use Rattle.tc_term.proofs.comparison.Cmp.TheSendSync as cmp
-use Rattle.std.proofs.collections.BTreeMap.TheSendSync as btree
 use Rattle.std.proofs.alloc.Global.TheSendSync as global
 use Rattle.std.below.std_heap.proofs.GlobalAllocator.TheSendSync as galloc
 use Rattle.std.proofs.collections.BTreeSet.TheSendSync as btreeset
 use Rattle.tc_bag.proofs.index.Index.TheSendSync as bagindex
 use Rattle.tc_bag.proofs.slots.Mark.TheSendSync as bagmark
-use Rattle.tc_bag.specs.contracts.slots.Held.{the_row as held, the_field as held_field}
+use Rattle.tc_bag.specs.contracts.slots.Place.{the_row as place, the_field as place_field}
+use Rattle.tc_bag.specs.contracts.places.Places.{the_row as places}
 use Rattle.tc_bag.specs.contracts.rows.Rows.{the_row as rows}
 use Rattle.tc_bag.specs.contracts.bag.Bag.{the_row as bag}
 use Rattle.tc_unify.proofs.links.Links.TheSendSync as links
@@ -128,14 +128,17 @@ entry_send = search (of_events, op_send, op_field_send, item_send, item_field_se
 pub entry_field_send : IsSend entry_field.row
 entry_field_send = search (of_events, op_send, op_field_send, item_send, item_field_send, outcome_send, outcome_field_send, reply_send, reply_field_send, entry_send) depth 60
 
-pub held_send : IsSend held
-held_send = search (sendable, crosses, ground_send) depth 60
+pub place_send : IsSend place
+place_send = search (sendable, crosses, ground_send) depth 60
 
-pub held_field_send : IsSend held_field.row
-held_field_send = search (sendable, crosses, ground_send) depth 60
+pub place_field_send : IsSend place_field.row
+place_field_send = search (sendable, crosses, ground_send) depth 60
+
+pub places_send : IsSend places
+places_send = search (sendable, crosses, place_send, place_field_send, global.the_send, galloc.the_frees) depth 60
 
 pub rows_send : IsSend rows
-rows_send = search (sendable, crosses, held_send, held_field_send, btree.the_send, global.the_send, galloc.the_frees, bagindex.the_send, bagindex.the_field_send) depth 60
+rows_send = search (sendable, crosses, places_send, bagindex.the_send, bagindex.the_field_send) depth 60
 
 pub bag_send : IsSend bag
 bag_send = search (sendable, crosses, rows_send, bagmark.the_field_send) depth 60
