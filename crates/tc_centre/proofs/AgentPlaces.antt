@@ -1,5 +1,5 @@
 -- What the lists of all agents' calls have, and what a change of one of them does.
-use Rattle.std.proofs.Common.{◌≡◌, ℕ, ◌<◌, ◌≤◌, ◌-◌, eqb, cond, map, true, false, ◌&&◌, All, List, [], ◌∷◌, length, get_or, set, Option, Some, None, refl, sym, ap, subst, ◌∙◌, ⊎_elim, arith}
+use Rattle.std.proofs.Common.{◌≡◌, ℕ, ◌<◌, ◌≤◌, ◌-◌, eqb, cond, map, true, false, ◌&&◌, All, List, [], length, get_or, set, Some, None, refl, sym, ap, subst, ◌∙◌, ⊎_elim, arith}
 use Rattle.std.specs.Option.{MatchOption}
 use Rattle.std.proofs.lemmas.Bool.{cases_Bool, cases_lt, both_ways, eqb-true, eqb-false}
 use Rattle.std.specs.declared.vec.Vec.{Vec}

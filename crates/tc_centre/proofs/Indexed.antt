@@ -1,5 +1,5 @@
 -- An index stays one where the entries that it is told of are appended.
-use Rattle.std.proofs.Common.{◌≡◌, ℕ, ◌<◌, Bool, true, false, cond, List, [], ◌∷◌, ◌++◌, All, Option, Some, None, length, get_or, refl, sym, ap, subst, ◌∙◌, ⊎_elim, arith}
+use Rattle.std.proofs.Common.{◌≡◌, ℕ, ◌<◌, Bool, true, false, cond, List, [], ◌∷◌, ◌++◌, All, Option, Some, None, length, get_or, refl, sym, ap, subst, ◌∙◌, ⊎_elim}
 use Rattle.std.specs.Option.{MatchOption, is_some}
 use Rattle.std.proofs.lemmas.Bool.{cases_Bool, both_ways, true≢false}
 use Rattle.std.proofs.lemmas.List.Elements.{All-contains, Contains-push}

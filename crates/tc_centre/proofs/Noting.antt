@@ -1,5 +1,5 @@
 -- Noting the entries of a turn one after another keeps the places those of the history.
-use Rattle.std.proofs.Common.{◌≡◌, ℕ, ◌+◌, ◌-◌, ◌<◌, ◌≤◌, ◌⊎◌, All, cond, List, [], ◌∷◌, ◌++◌, Option, Some, None, length, slice_get, get_or, take, drop, refl, sym, ap, subst, ◌∙◌, ⊎_elim, arith}
+use Rattle.std.proofs.Common.{◌≡◌, ℕ, ◌+◌, ◌-◌, ◌<◌, ◌≤◌, ◌⊎◌, All, cond, List, [], ◌∷◌, ◌++◌, Option, Some, None, length, slice_get, get_or, take, drop, sym, ap, subst, ◌∙◌, ⊎_elim, arith}
 use Rattle.std.proofs.lemmas.List.{length-take-le, length-drop, take_more, take-append-drop, get_or-drop}
 use Rattle.std.proofs.lemmas.Option.{slice_get_within, get_or_from_slice_get}
 use Rattle.tc_model.specs.Calls.{id_of, calls_of, same_id}
@@ -14,7 +14,7 @@ use Rattle.tc_model.specs.declared.outcomes.Reply.{Reply}
 use Rattle.tc_model.specs.declared.entries.Entry.{Entry}
 use Rattle.tc_model.specs.declared.entries.Entry.TheVariants.{Called, Gave, Looked}
 use Rattle.tc_model.proofs.Runs.{EachEntry-append}
-use Rattle.tc_centre.specs.Places.{place_in, ArePlaces, IsCallAt, IsSomeRun, Puts}
+use Rattle.tc_centre.specs.Places.{place_in, ArePlaces, IsSomeRun, Puts}
 use Rattle.tc_centre.specs.Turns.{IsGave}
 use Rattle.tc_centre.proofs.AgentPlaces.{puts-place, puts-rise}
 use Rattle.tc_centre.proofs.Indexed.{index-called, index-gave, answered-place}

@@ -98,6 +98,14 @@ pub record Keeps (old new : Holdings) : Type 0 where
   pub pending : new.pending.saved ≡ old.pending.saved
   pub longer : IsLonger old.history.items new.history.items
 
+-- what no phase changes: what the centre began with, its clauses, the marks, and the history
+pub record KeepsAround (old new : Holdings) : Type 0 where
+  pub founding : new.founding ≡ old.founding
+  pub spec : new.spec ≡ old.spec
+  pub bag : new.bag.saved ≡ old.bag.saved
+  pub pending : new.pending.saved ≡ old.pending.saved
+  pub history : new.history.items ≡ old.history.items
+
 -- what is new are younger rows, and the next age has not fallen
 pub record KeepsRows (old new : Stock) : Type 0 where
   pub rows : AddsNone old.next old.now new.now

@@ -2,7 +2,7 @@
 ghost use Rattle.std.specs.Prelude.{◌≡◌, ◌<◌, ◌++◌, ◌∷◌, [], length, remove, IfOk, OnOk};
 ghost use Rattle.tc_model.specs.declared.calls.Op.{Op};
 ghost use Rattle.tc_pending.specs.Answers.{IsNextAnswer};
-ghost use Rattle.tc_centre.specs.Held.{Keeps, HoldsRun};
+ghost use Rattle.tc_centre.specs.Held.{KeepsAround, HoldsRun};
 ghost use Rattle.tc_centre.specs.Operations.{request_op, search_op, outcome_of, IsRegimeOf, Performs, Gives};
 
 use crate::founding::Founding;
@@ -29,9 +29,7 @@ pub fn out(
     requires run { HoldsRun held.old }
     requires agent { id.agent < length held.old.founding.agents.items }
     ensures done { IfOk result (λ x. Performs id (Op.Out tuple.now) held.old held.new x.0 x.1) }
-    ensures keeps { Keeps held.old held.new }
-    ensures history { held.new.history.items ≡ held.old.history.items }
-    ensures spec { held.new.spec ≡ held.old.spec }
+    ensures keeps { KeepsAround held.old held.new }
 {
     let regime = regime(&held.founding, &held.spec, id);
     match put(alloc, &mut held.store, &regime, tuple, &mut held.bag)? {
@@ -52,9 +50,7 @@ pub fn wait(
     requires agent { id.agent < length held.old.founding.agents.items }
     ensures done { IfOk result
         (λ x. Performs id (request_op takes template.now) held.old held.new x.0 x.1) }
-    ensures keeps { Keeps held.old held.new }
-    ensures history { held.new.history.items ≡ held.old.history.items }
-    ensures spec { held.new.spec ≡ held.old.spec }
+    ensures keeps { KeepsAround held.old held.new }
 {
     let regime = regime(&held.founding, &held.spec, id);
     match request(
@@ -86,9 +82,7 @@ pub fn find(
     requires agent { id.agent < length held.old.founding.agents.items }
     ensures done { IfOk result
         (λ x. Performs id (search_op takes template.now) held.old held.new x.0 x.1) }
-    ensures keeps { Keeps held.old held.new }
-    ensures history { held.new.history.items ≡ held.old.history.items }
-    ensures spec { held.new.spec ≡ held.old.spec }
+    ensures keeps { KeepsAround held.old held.new }
 {
     let regime = regime(&held.founding, &held.spec, id);
     let (found, cascade) = search(
@@ -117,9 +111,7 @@ pub fn give(
     requires run { HoldsRun held.old }
     requires next { IsNextAnswer held.old.bag.now held.old.pending.now place age }
     ensures gives { IfOk result (λ x. Gives place held.old held.new x.0 x.1 x.2) }
-    ensures keeps { Keeps held.old held.new }
-    ensures history { held.new.history.items ≡ held.old.history.items }
-    ensures spec { held.new.spec ≡ held.old.spec }
+    ensures keeps { KeepsAround held.old held.new }
     ensures requests { OnOk result (held.new.pending.now ≡ remove held.old.pending.now place) }
 {
     let request = &held.pending.list()[place];

@@ -7,7 +7,8 @@ ghost use Rattle.tc_model.specs.Run.{IsNext};
 ghost use Rattle.tc_model.specs.Typed.{IsTypedId};
 ghost use Rattle.tc_model.specs.declared.calls.Op.{Op};
 ghost use Rattle.tc_centre.specs.Held.{origin_of, HoldsRun, IsAtRest, HasRoom, Knows, known_of};
-ghost use Rattle.tc_centre.specs.Held.{IsSame, Keeps, KeepsRows, KeepsTyped, Answers, Calls, Grows};
+ghost use Rattle.tc_centre.specs.Held.{IsSame, Keeps, KeepsAround, KeepsRows, KeepsTyped};
+ghost use Rattle.tc_centre.specs.Held.{Answers, Calls, Grows};
 ghost use Rattle.tc_centre.specs.Operations.{Performs, HasServed};
 ghost use Rattle.tc_centre.specs.Turns.{IsOnTuples, IsAnswer};
 
@@ -136,9 +137,7 @@ fn perform(
     requires run { HoldsRun held.old }
     requires agent { id.agent < length held.old.founding.agents.items }
     ensures done { IfOk result (λ x. Performs id op.now held.old held.new x.0 x.1) }
-    ensures keeps { Keeps held.old held.new }
-    ensures history { held.new.history.items ≡ held.old.history.items }
-    ensures spec { held.new.spec ≡ held.old.spec }
+    ensures keeps { KeepsAround held.old held.new }
 {
     match op {
         Op::Out(tuple) => out(alloc, held, id, tuple),

@@ -18,12 +18,12 @@ returns-clause-run c =
     subst (λ f. IsHeld (origin_of f) c.push.new.self.items new.spec new.bag.now new.bag.next new.pending.now)
     (sym c.give.ensures.keeps.founding)
     (subst (λ cs. IsHeld (origin_of old.founding) c.push.new.self.items cs new.bag.now new.bag.next new.pending.now)
-    (sym c.give.ensures.spec)
+    (sym c.give.ensures.keeps.spec)
     (answered (origin_of old.founding) old.history.items old.spec old.bag.now old.bag.next old.pending.now c.requires.run
     c.push.new.self.items new.bag.now new.bag.next new.pending.now c.args.place c.args.age gives.request
     c.in_ok-id.id c.in_ok-id.outcome c.in_ok-id.items c.requires.next gives.stands gives.of gives.given gives.state
     c.in_ok-id.ensures.requests
-    (c.in_ok-push.ensures.items ∙ ap (λ es. es ++ entry ∷ []) c.give.ensures.history)
+    (c.in_ok-push.ensures.items ∙ ap (λ es. es ++ entry ∷ []) c.give.ensures.keeps.history)
     gives.next))
 
 pub returns-clause-fewer : goal.returns-clause-fewer
@@ -38,4 +38,4 @@ pub returns-clause-typed : goal.returns-clause-typed
 returns-clause-typed c all =
     typed-push c.give.new.held.history.items c.push.new.self.items (Gave c.in_ok-id.id c.in_ok-id.outcome c.in_ok-id.items)
     c.in_ok-push.ensures.items tt
-    (subst (All IsTypedCall) (sym c.give.ensures.history) all)
+    (subst (All IsTypedCall) (sym c.give.ensures.keeps.history) all)

@@ -20,7 +20,7 @@ returns-clause-run c =
     new.spec new.bag.now new.bag.next new.pending.now c.args.op c.in_ok-outcome.outcome c.in_ok-outcome.items
     done.served done.state done.few done.next
     (c.in_ok-push.ensures.items
-    ∙ ap (λ es. es ++ Called c.args.id c.args.op c.in_ok-outcome.outcome c.in_ok-outcome.items ∷ []) c.perform.ensures.history))
+    ∙ ap (λ es. es ++ Called c.args.id c.args.op c.in_ok-outcome.outcome c.in_ok-outcome.items ∷ []) c.perform.ensures.keeps.history))
 
 pub returns-clause-known : goal.returns-clause-known
 returns-clause-known c =
@@ -31,4 +31,4 @@ returns-clause-typed c all =
     typed-push c.perform.new.held.history.items c.push.new.self.items
     (Called c.args.id c.args.op c.in_ok-outcome.outcome c.in_ok-outcome.items) c.in_ok-push.ensures.items
     (c.typed_id.ensures, c.typed.ensures, c.typed-2.ensures)
-    (subst (All IsTypedCall) (sym c.perform.ensures.history) all)
+    (subst (All IsTypedCall) (sym c.perform.ensures.keeps.history) all)
