@@ -1,5 +1,5 @@
 -- What a poll for the reply to a pending row makes of a pass and a log.
-use Rattle.std.specs.Prelude.{◌≡◌, ℕ, ◌+◌, List, length, Option, Some, None, Ok, Err, ◌⊎◌}
+use Rattle.std.specs.Prelude.{◌≡◌, ℕ, ◌+◌, List, length, Some, None, Ok, Err, ◌⊎◌}
 use Rattle.std.specs.declared.result.Result.{Result}
 use Rattle.tc_centre.specs.declared.answers.Poll.TheVariants as poll
 use Rattle.tc_desk.specs.Desks.{with_row}
