@@ -9,4 +9,5 @@ pub mod Told
 pub mod Putting
 pub mod Seeing
 pub mod Polled
+pub mod Pausing
 pub mod Sends

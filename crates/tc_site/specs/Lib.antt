@@ -5,3 +5,4 @@ pub mod Judging
 pub mod Turns
 pub mod Looking
 pub mod Polling
+pub mod Pausing

@@ -1,6 +1,7 @@
 //! Desks of agents.
-ghost use Rattle.std.specs.Prelude.{◌≡◌, true};
+ghost use Rattle.std.specs.Prelude.{◌≡◌, ◌<◌, true, ℕ, length, IfOk, OnErr};
 ghost use Rattle.tc_site.specs.Desks.{IsNewDesk, IsSound, desk_of};
+ghost use Rattle.tc_site.specs.Pausing.{HasNoneLeft, HoldsTurn, Pauses, Resumes};
 
 use crate::judging::{Allowed, judge};
 use crate::kits::{DeskKit, EndedDesk};
@@ -15,8 +16,9 @@ use std::snapshot::Snapshot;
 use std::sync::Wait;
 use tc_desk::{Desk, DeskFault, LogResult, LogRow, Refusal, Seen, Served, Warden};
 use tc_model::Ask;
-use tc_shared::CentrePass;
+use tc_shared::{CentrePass, Paused};
 use tc_term::Name;
+use tc_turn::TurnsSpent;
 
 /// The desk of one agent at the centres of a site.
 #[derive(Drop)]
@@ -76,6 +78,40 @@ impl<'a, W: Warden + Drop> AgentDesk<'a, W> {
             pending: None,
             held: None,
         }
+    }
+
+    /// Takes a turn at the centre of this place and holds it, with the core, until `resume`. Nobody else is
+    /// served there meanwhile, and the desk makes no call. Places are those of the site's names, from 0.
+    pub fn pause<R: Wait>(&mut self, rt: &R, centre: u32) -> Result<Paused, TurnsSpent>
+        requires free { (desk_of self.old).free ≡ true }
+        requires inside { centre < length self.old.site.names }
+        ensures paused { IfOk result (λ core. Pauses self.old centre core self.new) }
+        ensures spent { OnErr result (HasNoneLeft self.old centre self.new) }
+    {
+        let _ = self.site.names();
+        let pass = &mut self.passes[centre as usize];
+        match self.site.centre(centre).pause(rt, pass) {
+            Ok(paused) => {
+                self.held = Some(centre);
+                return Ok(paused);
+            }
+            Err(spent) => return Err(spent),
+        }
+    }
+
+    /// Gives back the turn that the desk holds, with the core as it was.
+    pub fn resume(&mut self, paused: Paused)
+        requires held { (place : ℕ) × HoldsTurn self.old place paused }
+        ensures resumed { Resumes self.old self.new }
+        ensures state { desk_of self.new ≡ record (desk_of self.old) { free = true } }
+    {
+        let Some(place) = self.held else {
+            unreachable!()
+        };
+        let _ = self.site.names();
+        let pass = &mut self.passes[place as usize];
+        self.site.centre(place).resume(pass, paused);
+        self.held = None;
     }
 
     /// Ends the desk. The turns that it has left are gone.
