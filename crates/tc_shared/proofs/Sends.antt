@@ -55,9 +55,16 @@ use Rattle.tc_model.specs.contracts.entries.Entry.{the_row as entry, the_field a
 -- what the searches below know from the start
 ruleset of_terms = (sendable, crosses, knot.send-Term, knot.send-Args, name.the_send)
 
-ruleset of_events =
-    (of_terms, callid.the_send, callid.the_field_send, phase.the_field_send, eventop.the_field_send, context.the_send,
-    sign.the_field_send, cmp.the_field_send)
+ruleset of_events = (
+  of_terms,
+  callid.the_send,
+  callid.the_field_send,
+  phase.the_field_send,
+  eventop.the_field_send,
+  context.the_send,
+  sign.the_field_send,
+  cmp.the_field_send,
+)
 
 pub args_send : IsSend args
 args_send = search of_events depth 60
