@@ -1,0 +1,54 @@
+//! The lines that are printed on runs.
+use crate::checking::check;
+use crate::fault::Fault;
+use crate::running::Ran;
+use crate::texts::append_all;
+use std::alloc::Global;
+use tc_lists::{NoMemory, append_number};
+
+/// Appends what is run, how it has ended, and whether its text is right.
+pub fn append_line(
+    alloc: Global,
+    name: &[u8],
+    workers: u64,
+    configuration: &[u8],
+    ran: &Ran,
+    into: &mut Vec<u8>,
+) -> Result<(), Fault> {
+    append_all(&[name, b", "], into)?;
+    append_workers(workers, into)?;
+    into.extend_from_slice(b": status ")?;
+    append_number(u64::from(ran.status), into)?;
+    into.extend_from_slice(b", ")?;
+    append_verdict(alloc, configuration, ran, into)
+}
+
+/// Appends a number of workers.
+pub fn append_workers(workers: u64, into: &mut Vec<u8>) -> Result<(), NoMemory> {
+    append_number(workers, into)?;
+    into.extend_from_slice(if workers == 1 {
+        b" worker"
+    } else {
+        b" workers"
+    })
+}
+
+/// Appends whether a text is right, or else what is wrong.
+pub fn append_verdict(
+    alloc: Global,
+    configuration: &[u8],
+    ran: &Ran,
+    into: &mut Vec<u8>,
+) -> Result<(), Fault> {
+    append_outcome(check(alloc, configuration, &ran.text, ran.status), into)
+}
+
+/// Appends what a check has told.
+pub fn append_outcome(checked: Result<(), Fault>, into: &mut Vec<u8>) -> Result<(), Fault> {
+    match checked {
+        Ok(()) => into.extend_from_slice(b"checked")?,
+        Err(Fault::Wrong(why)) => append_all(&[b"wrong: ", why.as_bytes()], into)?,
+        Err(fault) => return Err(fault),
+    }
+    Ok(())
+}

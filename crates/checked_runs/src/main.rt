@@ -1,0 +1,57 @@
+//! Runs whole configurations with one to 64 workers, and holds every text against a check of its own.
+//!
+//! The check (`checking`) shares no code with what serves calls: it reads the configuration, goes
+//! through the text call by call, and works out each line by plain lists of tuples and requests.
+//! Only which agent calls next at a centre is taken from the text. That call has to be the one that
+//! the agent's script asks next, with the values that came before; so the histories of all centres
+//! together are those of calls that can have been made one after another, in script order. Whatever
+//! else stands in the text, a letter more or less, is told as wrong.
+//!
+//! It knows no reactions: no configuration here has any.
+//!
+//! What is run, a line for each run:
+//!
+//! | Runs | Show |
+//! |---|---|
+//! | configurations drawn from a seed | that texts are right where calls meet, wait and are answered |
+//! | rings, locks, pairs and a meeting | that logs which don't depend on the order of calls stay the same |
+//! | two agents and a gate | that agents of two workers go on side by side |
+//! | texts that are damaged | that the check tells each damage |
+//! | 1,000 agents at 64 centres | the same as the first, at size |
+#![tactic(auto)]
+
+mod agents;
+mod centres;
+mod checking;
+mod damage;
+mod draws;
+mod fault;
+mod fixed;
+mod gates;
+mod harm;
+mod lines;
+mod parts;
+mod report;
+mod running;
+mod texts;
+mod values;
+mod worlds;
+
+use anyhow::anyhow;
+use harm::report_damage;
+use report::{report_crowd, report_drawn, report_fixed, report_gate};
+use tc_io::{StdSink, write_all};
+
+fn main(rt: HostRuntime) -> anyhow::Result<()> {
+    let alloc = rt.alloc();
+    let mut told = Vec::new(alloc);
+    report_drawn(&rt, alloc, &mut told)?;
+    report_fixed(&rt, alloc, &mut told)?;
+    report_gate(&rt, alloc, &mut told)?;
+    report_damage(&rt, alloc, &mut told)?;
+    report_crowd(&rt, alloc, &mut told)?;
+    write_all(&mut StdSink::new(rt.stdout()), &told).map_err(|fault| anyhow!(
+        "what was told was not written: {fault:?}"
+    ))?;
+    Ok(())
+}

@@ -1,0 +1,44 @@
+//! Runs of configurations by the top call, over a source and a sink in memory.
+use std::alloc::Global;
+use std::sync::Wait;
+use std::thread::Threads;
+use tc_desk::Gate;
+use tc_io::{SureSink, SureSource};
+use tc_lists::{NoMemory, append_number};
+use tucson::tucson;
+
+/// What a run has written, and the number of its status.
+#[derive(Drop)]
+pub struct Ran {
+    pub text: Vec<u8>,
+    pub status: u8,
+}
+
+/// Runs a configuration with so many workers, whose agents pass the gate before each call.
+pub fn run<R: Threads + Wait + Sync, G: Gate + Sync>(
+    rt: &R,
+    alloc: Global,
+    configuration: &[u8],
+    workers: u64,
+    gate: &G,
+) -> Result<Ran, NoMemory> {
+    let words = words(alloc, workers)?;
+    let mut source = SureSource::new(configuration.to_vec(alloc)?);
+    let mut sink = SureSink::new(alloc);
+    let status = tucson(rt, alloc, &words, &mut source, &mut sink, gate);
+    Ok(Ran {
+        text: sink.taken().to_vec(alloc)?,
+        status: status.number(),
+    })
+}
+
+// The words of the call.
+fn words(alloc: Global, workers: u64) -> Result<Vec<Vec<u8>>, NoMemory> {
+    let mut number = Vec::new(alloc);
+    append_number(workers, &mut number)?;
+    let mut words = Vec::new(alloc);
+    words.push(b"run".to_vec(alloc)?)?;
+    words.push(b"--workers".to_vec(alloc)?)?;
+    words.push(number)?;
+    Ok(words)
+}
