@@ -1,5 +1,6 @@
 -- Rows in places, as slots.
-use Rattle.std.specs.Prelude.{ℕ, ◌≡◌, ◌<◌, ◌≤◌, ◌==◌, ◌++◌, if◌then◌else◌, Bool, IsTrue, List, [], ◌∷◌, length, filter_map, All, Option, Some, None, is_some}
+use Rattle.std.specs.Prelude.{ℕ, ◌≡◌, ◌<◌, ◌≤◌, ◌==◌, ◌++◌, if◌then◌else◌, Bool, IsTrue, List}
+use Rattle.std.specs.Prelude.{[], ◌∷◌, length, filter_map, All, Option, Some, None, is_some}
 use Rattle.std.specs.Option.{option_map}
 use Rattle.tc_term.specs.Tree.{Tree}
 use Rattle.tc_bag.specs.declared.index.Index.{Index}
@@ -51,7 +52,8 @@ pub record IsKept (places : List Place) (filled : ℕ) : Type 0 where
 -- the first place that is no gap
 abbrev pub IsFirstFilled : Option Place → List Place → Type 0
 IsFirstFilled None places = slots_of places ≡ []
-IsFirstFilled (Some p) places = (before : List Place) × (behind : List Place) × (places ≡ before ++ p ∷ behind) × (slots_of before ≡ []) × IsTrue (is_some p.tuple)
+IsFirstFilled (Some p) places = (before : List Place) × (behind : List Place)
+    × (places ≡ before ++ p ∷ behind) × (slots_of before ≡ []) × IsTrue (is_some p.tuple)
 
 -- the index has the row, where it is there
 abbrev pub IsEntered : Index → Slot → Type 0

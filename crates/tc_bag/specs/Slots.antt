@@ -1,5 +1,7 @@
 -- How a bag keeps its rows: each in a slot, which stays while a mark may bring its row back.
-use Rattle.std.specs.Prelude.{◌≡◌, ℕ, ◌+◌, ◌-◌, ◌<◌, ◌≤◌, ◌==◌, ◌&&◌, ◌||◌, not, nat_lt, Bool, IsTrue, if◌then◌else◌, List, [], ◌∷◌, ◌++◌, length, map, filter, slice_get, All, Option, Some, None}
+use Rattle.std.specs.Prelude.{◌≡◌, ℕ, ◌+◌, ◌-◌, ◌<◌, ◌≤◌, ◌==◌, ◌&&◌, ◌||◌, not, nat_lt}
+use Rattle.std.specs.Prelude.{Bool, IsTrue, if◌then◌else◌, List, [], ◌∷◌, ◌++◌, length}
+use Rattle.std.specs.Prelude.{map, filter, slice_get, All, Option, Some, None}
 use Rattle.tc_lists.specs.Marks.{Climbs}
 use Rattle.tc_term.specs.Tree.{Tree, IsTuple}
 use Rattle.tc_bag.specs.declared.key.Key.{Key}

@@ -44,7 +44,8 @@ impl Model for Bag {
 }
 
 impl Bag {
-    ghost use Rattle.std.specs.Prelude.{◌≡◌, ◌^◌, ◌<◌, [], length, slice_get, All, OnOk, OnErr, IfErr, IfSome, IfNone};
+    ghost use Rattle.std.specs.Prelude.{◌≡◌, ◌^◌, ◌<◌, [], length, slice_get, All};
+    ghost use Rattle.std.specs.Prelude.{OnOk, OnErr, IfErr, IfSome, IfNone};
     ghost use Rattle.std.specs.Option.{option_copied, option_map};
     ghost use Rattle.tc_lists.specs.Firsts.{NoneOf, IsFirst};
     ghost use Rattle.tc_lists.specs.Marks.{IsBack, IsGivenUp};
@@ -52,7 +53,8 @@ impl Bag {
     ghost use Rattle.tc_term.specs.TreeView.{tree_of};
     ghost use Rattle.tc_bag.specs.Keys.{key_of};
     ghost use Rattle.tc_bag.specs.Lent.{lent_key};
-    ghost use Rattle.tc_bag.specs.Stock.{row, tuples_of, Rises, IsCandidate, IsCandidateLike, tuple_at, without_age, with_tuple, saved_of, marked};
+    ghost use Rattle.tc_bag.specs.Stock.{row, tuples_of, Rises, IsCandidate, IsCandidateLike};
+    ghost use Rattle.tc_bag.specs.Stock.{tuple_at, without_age, with_tuple, saved_of, marked};
 
     /// No tuple and no mark. The first tuple that is put has the age 0.
     pub fn new(alloc: Global) -> Bag

@@ -38,7 +38,8 @@ impl Model for Places {
 }
 
 impl Places {
-    ghost use Rattle.std.specs.Prelude.{◌≡◌, ◌<◌, ◌≤◌, ◌^◌, [], ◌∷◌, ◌++◌, length, map, filter, All, OnOk, OnErr, IfErr, IfSome, IfNone};
+    ghost use Rattle.std.specs.Prelude.{◌≡◌, ◌<◌, ◌≤◌, ◌^◌, [], ◌∷◌, ◌++◌, length, map};
+    ghost use Rattle.std.specs.Prelude.{filter, All, OnOk, OnErr, IfErr, IfSome, IfNone};
     ghost use Rattle.std.specs.Option.{option_copied};
     ghost use Rattle.tc_bag.specs.Places.{slots_of, slot_if, slot_at};
     ghost use Rattle.tc_bag.specs.Slots.{slot, IsYoungest, is_not_of, with_taken};

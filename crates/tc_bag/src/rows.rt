@@ -44,7 +44,9 @@ impl Model for Rows {
 }
 
 impl Rows {
-    ghost use Rattle.std.specs.Prelude.{◌≡◌, ◌≢◌, ◌<◌, ◌≤◌, ◌^◌, IsTrue, List, [], ◌∷◌, ◌++◌, length, map, filter, slice_get, is_some, All, OnOk, OnErr, IfErr, IfSome, IfNone, Option, Some};
+    ghost use Rattle.std.specs.Prelude.{◌≡◌, ◌≢◌, ◌<◌, ◌≤◌, ◌^◌, IsTrue, List, [], ◌∷◌, ◌++◌};
+    ghost use Rattle.std.specs.Prelude.{length, map, filter, slice_get, is_some, All, OnOk};
+    ghost use Rattle.std.specs.Prelude.{OnErr, IfErr, IfSome, IfNone, Option, Some};
     ghost use Rattle.std.specs.Option.{option_copied, option_map};
     ghost use Rattle.tc_lists.specs.Firsts.{NoneOf, IsFirst};
     ghost use Rattle.tc_term.specs.Tree.{Tree};
@@ -52,7 +54,9 @@ impl Rows {
     ghost use Rattle.tc_bag.specs.Keys.{IsLike};
     ghost use Rattle.tc_bag.specs.Lent.{lent_key};
     ghost use Rattle.tc_bag.specs.Codes.{code_like};
-    ghost use Rattle.tc_bag.specs.Slots.{Slot, slot, InOrder, IsThereLike, is_there, IsYoungest, is_older, is_not_of, stays, taken_at, revived_at, with_taken, tuple_there, tuples_there};
+    ghost use Rattle.tc_bag.specs.Slots.{Slot, slot, InOrder, IsThereLike, is_there, IsYoungest};
+    ghost use Rattle.tc_bag.specs.Slots.{is_older, is_not_of, stays, taken_at, revived_at};
+    ghost use Rattle.tc_bag.specs.Slots.{with_taken, tuple_there, tuples_there};
 
     /// No row.
     pub(crate) fn new(alloc: Global) -> Rows

@@ -1,5 +1,6 @@
 -- The numbers of an agent's calls, each with a place.
-use Rattle.std.specs.Prelude.{◌≡◌, ℕ, ◌<◌, ◌==◌, if◌then◌else◌, Option, Some, None, List, [], ◌∷◌, All, length, slice_index_or}
+use Rattle.std.specs.Prelude.{◌≡◌, ℕ, ◌<◌, ◌==◌, if◌then◌else◌, Option, Some}
+use Rattle.std.specs.Prelude.{None, List, [], ◌∷◌, All, length, slice_index_or}
 
 -- the place of the first call of this number
 abbrev pub place_of : List (ℕ × ℕ) → ℕ → Option ℕ

@@ -1,5 +1,6 @@
 -- Where a history tells what became of each of its calls.
-use Rattle.std.specs.Prelude.{◌≡◌, ℕ, ◌-◌, ◌<◌, Option, Some, None, List, [], length, map, slice_get, slice_set, slice_index_or}
+use Rattle.std.specs.Prelude.{◌≡◌, ℕ, ◌-◌, ◌<◌, Option, Some, None, List, [], length}
+use Rattle.std.specs.Prelude.{map, slice_get, slice_set, slice_index_or}
 use Rattle.std.specs.Prelude.{vec_len, vec_capacity}
 use Rattle.std.specs.Option.{MatchOption}
 use Rattle.std.specs.declared.vec.Vec.{Vec}

@@ -2,7 +2,8 @@
 use Rattle.std.specs.Prelude.{◌≡◌, ◌<◌, ◌≤◌, ℕ, All, length}
 use Rattle.tc_model.specs.declared.limits.TheConstants.{MOST_TUPLES}
 use Rattle.tc_policy.specs.declared.grants.TheConstants.{MOST_GRANTS}
-use Rattle.tc_config.specs.Configurations.{Configuration, IsConfig, agent_names, centre_names, configuration, items_in}
+use Rattle.tc_config.specs.Configurations.{Configuration, IsConfig, agent_names}
+use Rattle.tc_config.specs.Configurations.{centre_names, configuration, items_in}
 use Rattle.tc_config.specs.Causes.{IsFaultless}
 use Rattle.tc_config.specs.Meanings.{Makes}
 use Rattle.tc_config.specs.declared.configs.CentreConf.{CentreConf}

@@ -1,5 +1,6 @@
 -- Histories and logs that a configuration may have led to.
-use Rattle.std.specs.Prelude.{◌≡◌, ℕ, ◌+◌, true, false, List, All, Contains, length, take, slice_get, Some, None}
+use Rattle.std.specs.Prelude.{◌≡◌, ℕ, ◌+◌, true, false, List, All, Contains}
+use Rattle.std.specs.Prelude.{length, take, slice_get, Some, None}
 use Rattle.tc_model.specs.Asks.{primitive_of}
 use Rattle.tc_model.specs.Calls.{id_of, calls_of}
 use Rattle.tc_model.specs.Choices.{Choice}
@@ -49,13 +50,14 @@ pub record IsHistory (choice : Choice) (origin : Origin) (history : List Entry) 
 -- each centre has its history
 pub record AreHistories (choice : Choice) (c : Configuration) (histories : List (List Entry)) : Type 0 where
   pub whole : length histories ≡ length c.centres
-  pub each : (place : ℕ) (centre : CentreConf) (history : List Entry) → slice_get c.centres place ≡ Some centre
+  pub each : (place : ℕ) (centre : CentreConf) (history : List Entry)
+      → slice_get c.centres place ≡ Some centre
       → slice_get histories place ≡ Some history → IsHistory choice (origin_of c centre) history
 
 -- the row at place k is that of the agent's item at this place: it has the item's number and centre, and
 -- a result that the item's ask, made after the rows before, may have come to there
-pub record IsRow (c : Configuration) (histories : List (List Entry)) (agent : ℕ) (a : AgentConf) (log : List LogRow)
-    (k : ℕ) (row : LogRow) : Type 0 where
+pub record IsRow (c : Configuration) (histories : List (List Entry)) (agent : ℕ) (a : AgentConf)
+    (log : List LogRow) (k : ℕ) (row : LogRow) : Type 0 where
   pub number : row.number ≡ k + 1
   pub step : ScriptStep
   pub asked : Ask
@@ -89,7 +91,8 @@ pub record Follows (c : Configuration) (histories : List (List Entry)) (agent : 
       → All (λ e. IsServedNumber a log place (id_of e).number) (calls_of agent history)
 
 -- each agent has its log
-pub record AllFollow (c : Configuration) (histories : List (List Entry)) (logs : List (List LogRow)) : Type 0 where
+pub record AllFollow (c : Configuration) (histories : List (List Entry)) (logs : List (List LogRow))
+    : Type 0 where
   pub whole : length logs ≡ length c.agents
   pub each : (agent : ℕ) (a : AgentConf) (log : List LogRow) → slice_get c.agents agent ≡ Some a
       → slice_get logs agent ≡ Some log → Follows c histories agent a log

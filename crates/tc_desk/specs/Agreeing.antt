@@ -1,5 +1,6 @@
 -- When an agent's log agrees with the histories of the centres that it went to.
-use Rattle.std.specs.Prelude.{◌≡◌, ℕ, ◌+◌, ◌<◌, true, List, ◌++◌, All, Contains, length, Option, Some, slice_get}
+use Rattle.std.specs.Prelude.{◌≡◌, ℕ, ◌+◌, ◌<◌, true, List, ◌++◌, All}
+use Rattle.std.specs.Prelude.{Contains, length, Option, Some, slice_get}
 use Rattle.tc_model.specs.Calls.{id_of, calls_of}
 use Rattle.tc_model.specs.Replies.{reply_in}
 use Rattle.tc_model.specs.State.{Origin}
@@ -25,8 +26,8 @@ abbrev pub numbered : ℕ → ℕ → CallId
 numbered agent number = record { agent = agent; number = number }
 
 -- the ask has come to this, by the history of its centre
-pub record HasComeTo (origin : Origin) (history : List Entry) (id : CallId) (row : LogRow) (result : LogResult)
-    : Type 0 where
+pub record HasComeTo (origin : Origin) (history : List Entry) (id : CallId) (row : LogRow)
+    (result : LogResult) : Type 0 where
   pub ask : Ask
   pub asked : row.ask ≡ Some ask
   pub served : IsServedAs origin history id ask result
@@ -110,8 +111,8 @@ pub record IsLonger (agent top : ℕ) (old new : List Entry) : Type 0 where
 -- each history has gone on so
 pub record AreLonger (agent top : ℕ) (olds news : List (List Entry)) : Type 0 where
   pub whole : length news ≡ length olds
-  pub each : (place : ℕ) (old new : List Entry) → slice_get olds place ≡ Some old → slice_get news place ≡ Some new
-      → IsLonger agent top old new
+  pub each : (place : ℕ) (old new : List Entry) → slice_get olds place ≡ Some old
+      → slice_get news place ≡ Some new → IsLonger agent top old new
 
 -- whatever the agent has made in the histories has its row
 abbrev pub HaveRows : List (List ℕ) → List (List Entry) → ℕ → List LogRow → Type 0
@@ -120,8 +121,8 @@ HaveRows names histories agent log = (place : ℕ) (centre : List ℕ) (history 
     → All (HasRow log centre) (calls_of agent history)
 
 -- the row that comes behind the log agrees with the history of its centre
-pub record IsNextRow (origins : List Origin) (names : List (List ℕ)) (histories : List (List Entry)) (agent : ℕ)
-    (log : List LogRow) (row : LogRow) : Type 0 where
+pub record IsNextRow (origins : List Origin) (names : List (List ℕ)) (histories : List (List Entry))
+    (agent : ℕ) (log : List LogRow) (row : LogRow) : Type 0 where
   pub counted : row.number ≡ length log + 1
   pub agrees : (place : ℕ) (origin : Origin) (history : List Entry) → slice_get names place ≡ Some row.centre
       → slice_get origins place ≡ Some origin → slice_get histories place ≡ Some history

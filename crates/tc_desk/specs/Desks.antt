@@ -1,5 +1,6 @@
 -- What contracts see of a desk, and what its calls do to it.
-use Rattle.std.specs.Prelude.{◌≡◌, ◌≢◌, ℕ, ◌+◌, ◌<◌, ◌≤◌, List, [], ◌∷◌, ◌++◌, Bool, true, false, Option, Some, None}
+use Rattle.std.specs.Prelude.{◌≡◌, ◌≢◌, ℕ, ◌+◌, ◌<◌, ◌≤◌, List, [], ◌∷◌}
+use Rattle.std.specs.Prelude.{◌++◌, Bool, true, false, Option, Some, None}
 use Rattle.std.specs.Prelude.{◌⊎◌, length, slice_index, slice_get, Contains, Ok, Err}
 use Rattle.std.specs.declared.result.Result.{Result}
 use Rattle.tc_model.specs.declared.asks.Ask.{Ask}
@@ -49,7 +50,8 @@ pub record Spends (limit : ℕ) (d e : DeskState) : Type 0 where
 pub record Waits (d e : DeskState) : Type 0 where
   pub wide : length e.turns ≡ length d.turns
   pub fell : (k : ℕ) → slice_index e.turns k ≤ slice_index d.turns k
-  pub most : (k : ℕ) → slice_index d.turns k + slice_index d.seen k ≤ slice_index e.turns k + slice_index e.seen k + 1
+  pub most : (k : ℕ)
+      → slice_index d.turns k + slice_index d.seen k ≤ slice_index e.turns k + slice_index e.seen k + 1
 
 -- one turn was taken, at the centre of this name
 pub record TakesTurn (d : DeskState) (centre : List ℕ) (e : DeskState) : Type 0 where
@@ -117,7 +119,8 @@ MayRefuse d centre ask refusal.NoMemory e = Unit {0}
 
 -- the log after a refusal: it has a row of that, but for want of memory
 abbrev pub refused_log : List LogRow → List ℕ → Ask → Refusal → List LogRow
-refused_log log centre ask refusal.UnknownCentre = with_row log centre (Some ask) (Refused refusal.UnknownCentre)
+refused_log log centre ask refusal.UnknownCentre =
+    with_row log centre (Some ask) (Refused refusal.UnknownCentre)
 refused_log log centre ask refusal.Waiting = with_row log centre (Some ask) (Refused refusal.Waiting)
 refused_log log centre ask refusal.Denied = with_row log centre (Some ask) (Refused refusal.Denied)
 refused_log log centre ask refusal.TooBig = with_row log centre (Some ask) (Refused refusal.TooBig)
@@ -130,7 +133,8 @@ refused_log log centre ask (refusal.Full weight pending) =
 refused_log log centre ask refusal.NoMemory = log
 
 -- the call was refused
-pub record Refuses (d : DeskState) (centre : List ℕ) (ask : Ask) (why : Refusal) (e : DeskState) : Type 0 where
+pub record Refuses (d : DeskState) (centre : List ℕ) (ask : Ask) (why : Refusal) (e : DeskState)
+    : Type 0 where
   pub may : MayRefuse d centre ask why e
   pub log : e.log ≡ refused_log d.log centre ask why
   pub waits : e.waits ≡ d.waits
@@ -209,7 +213,8 @@ abbrev pub IsAnsweredIf : List LogRow → Option Reply → List LogRow → Type 
 IsAnsweredIf before (Some reply) after = IsAnswered before reply after
 IsAnsweredIf before None after = after ≡ before
 
--- a poll was made in one turn: it has its row, at the centre of the pending row, which has the reply that was told
+-- a poll was made in one turn: it has its row, at the centre of the pending row, and that has the reply
+-- that was told
 pub record Tells (d : DeskState) (told : Option Reply) (e : DeskState) : Type 0 where
   pub row : LogRow
   pub is : IsPendingRow d.log row

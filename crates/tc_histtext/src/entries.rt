@@ -6,11 +6,10 @@ ghost use Rattle.tc_model.specs.Calls.{id_of};
 ghost use Rattle.tc_desk.specs.Text.{call_text, entry_text, items_text, op_text, outcome_text, told_text};
 
 use crate::answers::{write_outcome, write_told};
-use crate::cut::cut_back;
 use crate::items::write_items;
 use crate::operations::write_op;
 use std::alloc::Global;
-use tc_lists::{NoMemory, append_number};
+use tc_lists::{NoMemory, append_number, cut_back};
 use tc_model::{CallId, Entry, Item, Op, Outcome, Reply};
 use tc_print::print_name;
 use tc_term::Name;

@@ -4,9 +4,8 @@ ghost use mathlib.Core.List.{IsPrefix};
 ghost use Rattle.tc_desk.specs.Text.{One, end_text, version_text};
 ghost use Rattle.tc_histtext.specs.Headings.{heading_text};
 
-use crate::cut::cut_back;
 use std::alloc::Global;
-use tc_lists::NoMemory;
+use tc_lists::{NoMemory, cut_back};
 use tc_print::print_name;
 use tc_term::Name;
 

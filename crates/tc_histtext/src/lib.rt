@@ -20,7 +20,6 @@
 #![tactic(auto)]
 
 mod answers;
-mod cut;
 mod entries;
 mod headings;
 mod items;

@@ -6,10 +6,9 @@ ghost use Rattle.tc_term.specs.Text.{atom_text};
 ghost use Rattle.tc_desk.specs.Text.{One, cause_text, refusal_text, result_text, row_text};
 
 use crate::answers::{write_reply, write_told};
-use crate::cut::cut_back;
 use std::alloc::Global;
 use tc_desk::{LogResult, LogRow, Refusal};
-use tc_lists::{NoMemory, append_number};
+use tc_lists::{NoMemory, append_number, cut_back};
 use tc_model::{BadSpec, SpecCause};
 use tc_print::print_name;
 use tc_term::Name;

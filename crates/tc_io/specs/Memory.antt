@@ -1,5 +1,6 @@
 -- Sources and sinks in memory.
-use Rattle.std.specs.Prelude.{◌≡◌, ℕ, ◌+◌, ◌-◌, ◌^◌, ◌<◌, ◌↔◌, min, Bool, List, ◌++◌, ◌==◌, length, take, drop}
+use Rattle.std.specs.Prelude.{◌≡◌, ℕ, ◌+◌, ◌-◌, ◌^◌, ◌<◌, ◌↔◌, min, Bool}
+use Rattle.std.specs.Prelude.{List, ◌++◌, ◌==◌, length, take, drop}
 use Rattle.std.specs.List.{Contains}
 use Rattle.tc_io.specs.Faults.{Counts}
 

@@ -1,7 +1,9 @@
 //! A source and a sink in memory whose calls fail as told.
-ghost use Rattle.std.specs.Prelude.{◌≡◌, ◌<◌, ◌≤◌, ◌↔◌, ℕ, max, min, List, [], length, drop, Some, None, IsTrue, IsErr, IfOk, OnErr};
+ghost use Rattle.std.specs.Prelude.{◌≡◌, ◌<◌, ◌≤◌, ◌↔◌, ℕ, max, min, List, [], length};
+ghost use Rattle.std.specs.Prelude.{drop, Some, None, IsTrue, IsErr, IfOk, OnErr};
 ghost use Rattle.std.specs.Result.{IsErrOf};
-ghost use Rattle.tc_io.specs.Memory.{MemReading, MemWriting, MakesCall, GivesPiece, TakesPiece, never_fails, no_call};
+ghost use Rattle.tc_io.specs.Memory.{MemReading, MemWriting, MakesCall, GivesPiece};
+ghost use Rattle.tc_io.specs.Memory.{TakesPiece, never_fails, no_call};
 
 use crate::calls::NumberedCalls;
 use crate::{Failed, Sink, SinkFault, Source};

@@ -1,5 +1,7 @@
 -- Decimal numbers at the front of a text; their text is what `{}` writes.
-use Rattle.std.specs.Prelude.{◌≡◌, ℕ, zero, suc, ◌+◌, ◌-◌, ◌*◌, ◌^◌, ◌≤◌, ◌==◌, ◌&&◌, false, nat_le, if◌then◌else◌, ℤ, pos, negsuc, List, [], ◌∷◌, ◌++◌, length, FitsSigned, Some, None}
+use Rattle.std.specs.Prelude.{◌≡◌, ℕ, zero, suc, ◌+◌, ◌-◌, ◌*◌, ◌^◌, ◌≤◌, ◌==◌, ◌&&◌}
+use Rattle.std.specs.Prelude.{false, nat_le, if◌then◌else◌, ℤ, pos, negsuc, List}
+use Rattle.std.specs.Prelude.{[], ◌∷◌, ◌++◌, length, FitsSigned, Some, None}
 use Rattle.std.specs.Option.{option_map, option_and_then}
 use Rattle.std.specs.declared.option.Option.{Option}
 use Rattle.std.specs.Char.{is_ascii_digit}

@@ -11,10 +11,12 @@
 #![tactic(auto)]
 
 mod codes;
+mod cut;
 mod numbers;
 mod seqs;
 
 pub use codes::{mix, mix_all};
+pub use cut::cut_back;
 pub use numbers::{append_integer, append_number, read_integer, read_number};
 pub use seqs::Seq;
 

@@ -1,11 +1,15 @@
 //! Decimal numbers: appended to a text, and read from the front of one.
 //!
 //! Their text is what `{}` writes: no leading zero, no plus, and zero has no minus.
-ghost use Rattle.std.specs.Prelude.{◌≡◌, ◌≤◌, ◌++◌, ℕ, ℤ, pos, neg_ℤ, ◌==◌, ◌^◌, List, if◌then◌else◌, ◌+◌, ◌*◌, ◌-◌, ◌&&◌, nat_le, IfSome, IfNone, OnOk, OnErr};
+ghost use Rattle.std.specs.Prelude.{◌≡◌, ◌≤◌, ◌++◌, ℕ, ℤ, pos, neg_ℤ, ◌==◌, ◌^◌};
+ghost use Rattle.std.specs.Prelude.{List, if◌then◌else◌, ◌+◌, ◌*◌, ◌-◌, ◌&&◌};
+ghost use Rattle.std.specs.Prelude.{nat_le, IfSome, IfNone, OnOk, OnErr};
 ghost use Rattle.std.specs.Option.{option_map, option_and_then};
 ghost use Rattle.std.specs.Char.{is_ascii_digit};
 ghost use Rattle.std.specs.Fmt.{decimal, signed_decimal};
-ghost use Rattle.tc_lists.specs.Decimals.{IsNumberAt, IsLongestNumberAt, IsIntegerAt, IsLongestIntegerAt, more_digits, number_at, negative, positive, integer_at};
+ghost use Rattle.tc_lists.specs.Decimals.{IsNumberAt, IsLongestNumberAt, IsIntegerAt};
+ghost use Rattle.tc_lists.specs.Decimals.{IsLongestIntegerAt, more_digits, number_at};
+ghost use Rattle.tc_lists.specs.Decimals.{negative, positive, integer_at};
 
 use crate::NoMemory;
 use itoa::Buffer;

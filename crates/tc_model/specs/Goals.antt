@@ -12,7 +12,10 @@ use Rattle.tc_model.specs.Tuples.{after_effect}
 use Rattle.tc_model.specs.declared.events.Phase.TheVariants as phase
 use Rattle.tc_model.specs.declared.events.Sign.TheVariants as sign
 use Rattle.tc_model.specs.declared.goals.Goal.{Goal}
-use Rattle.tc_model.specs.declared.goals.Goal.TheVariants.{OutR, InR, RdR, NoR, Pre, Post, Success, Failure, True, Agent, Centre, Operation, Tuple, Equal, Differ, Is, Compare}
+use Rattle.tc_model.specs.declared.goals.Goal.TheVariants.{OutR, InR, RdR, NoR, Pre, Post}
+use Rattle.tc_model.specs.declared.goals.Goal.TheVariants.{Success, Failure, True, Agent}
+use Rattle.tc_model.specs.declared.goals.Goal.TheVariants.{Centre, Operation, Tuple, Equal}
+use Rattle.tc_model.specs.declared.goals.Goal.TheVariants.{Differ, Is, Compare}
 use Rattle.tc_model.specs.declared.items.Effect.{Effect}
 use Rattle.tc_model.specs.declared.items.Effect.TheVariants.{Put, Took, Read}
 

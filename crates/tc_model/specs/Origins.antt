@@ -3,7 +3,9 @@ use Rattle.std.specs.Prelude.{◌≢◌, ◌≤◌, ◌<◌, ◌^◌, All, AllPa
 use Rattle.tc_model.specs.State.{Origin, IsName}
 use Rattle.tc_model.specs.declared.limits.TheConstants.{MOST_BUDGET, MOST_TUPLES}
 use Rattle.tc_model.specs.declared.origins.OriginFault.{OriginFault}
-use Rattle.tc_model.specs.declared.origins.OriginFault.TheVariants.{CentreName, AgentCount, AgentName, SameNames, Budget, TupleCount}
+use Rattle.tc_model.specs.declared.origins.OriginFault.TheVariants.{CentreName, AgentCount}
+use Rattle.tc_model.specs.declared.origins.OriginFault.TheVariants.{AgentName, SameNames}
+use Rattle.tc_model.specs.declared.origins.OriginFault.TheVariants.{Budget, TupleCount}
 
 -- the condition that the fault names does not hold
 abbrev pub IsBroken : Origin → OriginFault → Type 0

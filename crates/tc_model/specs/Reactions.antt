@@ -12,7 +12,10 @@ use Rattle.tc_model.specs.Events.{op_name}
 use Rattle.tc_model.specs.declared.limits.TheConstants.{MOST_GOALS, MOST_CLAUSES}
 use Rattle.tc_model.specs.declared.events.EventOp.{EventOp}
 use Rattle.tc_model.specs.declared.goals.Goal.{Goal}
-use Rattle.tc_model.specs.declared.goals.Goal.TheVariants.{OutR, InR, RdR, NoR, Pre, Post, Success, Failure, True, Agent, Centre, Operation, Tuple, Equal, Differ, Is, Compare}
+use Rattle.tc_model.specs.declared.goals.Goal.TheVariants.{OutR, InR, RdR, NoR, Pre, Post}
+use Rattle.tc_model.specs.declared.goals.Goal.TheVariants.{Success, Failure, True, Agent}
+use Rattle.tc_model.specs.declared.goals.Goal.TheVariants.{Centre, Operation, Tuple, Equal}
+use Rattle.tc_model.specs.declared.goals.Goal.TheVariants.{Differ, Is, Compare}
 
 -- a reaction: how many variables it has, the operation and the term of its head, and its goals
 pub record Rule : Type 0 where

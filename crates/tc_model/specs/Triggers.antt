@@ -1,5 +1,6 @@
 -- Which clauses an event triggers.
-use Rattle.std.specs.Prelude.{◌≡◌, ◌<◌, ◌+◌, ◌↔◌, ℕ, Some, List, [], ◌∷◌, ◌++◌, AllPairs, Contains, map, slice_get}
+use Rattle.std.specs.Prelude.{◌≡◌, ◌<◌, ◌+◌, ◌↔◌, ℕ, Some, List, [], ◌∷◌}
+use Rattle.std.specs.Prelude.{◌++◌, AllPairs, Contains, map, slice_get}
 use Rattle.tc_term.specs.Variables.{raised, var_bound}
 use Rattle.tc_term.specs.Equations.{Solvable}
 use Rattle.tc_model.specs.Events.{Occurrence, event_of}

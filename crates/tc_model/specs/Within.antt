@@ -4,7 +4,10 @@ use Rattle.tc_term.specs.Tree.{Tree, Fits}
 use Rattle.tc_term.specs.TreeView.{tree_of}
 use Rattle.tc_term.specs.Variables.{var_bound}
 use Rattle.tc_model.specs.declared.goals.Goal.{Goal}
-use Rattle.tc_model.specs.declared.goals.Goal.TheVariants.{OutR, InR, RdR, NoR, Pre, Post, Success, Failure, True, Agent, Centre, Operation, Tuple, Equal, Differ, Is, Compare}
+use Rattle.tc_model.specs.declared.goals.Goal.TheVariants.{OutR, InR, RdR, NoR, Pre, Post}
+use Rattle.tc_model.specs.declared.goals.Goal.TheVariants.{Success, Failure, True, Agent}
+use Rattle.tc_model.specs.declared.goals.Goal.TheVariants.{Centre, Operation, Tuple, Equal}
+use Rattle.tc_model.specs.declared.goals.Goal.TheVariants.{Differ, Is, Compare}
 
 -- the terms of a goal
 abbrev pub terms_of : Goal → List Tree

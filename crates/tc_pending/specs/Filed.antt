@@ -1,5 +1,6 @@
 -- Serial numbers of requests, and an index of them by codes.
-use Rattle.std.specs.Prelude.{ℕ, ◌≡◌, ◌%◌, ◌<◌, ◌≤◌, false, List, length, slice_index_or, slice_get, Some, IsTrue}
+use Rattle.std.specs.Prelude.{ℕ, ◌≡◌, ◌%◌, ◌<◌, ◌≤◌, false, List, length}
+use Rattle.std.specs.Prelude.{slice_index_or, slice_get, Some, IsTrue}
 use Rattle.std.specs.BTreeSet.{contains}
 use Rattle.tc_term.specs.Tree.{Tree}
 use Rattle.tc_bag.specs.Ages.{pair_cmp}

@@ -1,5 +1,6 @@
 //! Changes of a list of requests, which may be taken back.
-ghost use Rattle.std.specs.Prelude.{◌≡◌, ◌+◌, ◌<◌, ◌≤◌, ◌++◌, ◌∷◌, [], take, drop, if◌then◌else◌, OnOk, vec_len, vec_capacity};
+ghost use Rattle.std.specs.Prelude.{◌≡◌, ◌+◌, ◌<◌, ◌≤◌, ◌++◌, ◌∷◌, [], take, drop};
+ghost use Rattle.std.specs.Prelude.{if◌then◌else◌, OnOk, vec_len, vec_capacity};
 ghost use Rattle.tc_pending.specs.Changes.{earlier, rewound, earlier_serials, rewound_serials, Fits, AllFit};
 ghost use Rattle.tc_pending.specs.Codes.{codes_of};
 ghost use Rattle.tc_pending.specs.Rising.{Rises};

@@ -1,5 +1,6 @@
 //! Serial numbers of requests by the codes of their templates.
-ghost use Rattle.std.specs.Prelude.{ℕ, ◌≡◌, ◌<◌, ◌≤◌, true, IsTrue, length, slice_index_or, OnOk, IfSome, IfNone};
+ghost use Rattle.std.specs.Prelude.{ℕ, ◌≡◌, ◌<◌, ◌≤◌, true, IsTrue, length};
+ghost use Rattle.std.specs.Prelude.{slice_index_or, OnOk, IfSome, IfNone};
 ghost use Rattle.tc_pending.specs.Rising.{Rises};
 ghost use Rattle.tc_pending.specs.Filed.{Has, IsFiled, KeepsAll};
 

@@ -51,7 +51,8 @@ impl Model for Pending {
 }
 
 impl Pending {
-    ghost use Rattle.std.specs.Prelude.{◌≡◌, ◌<◌, ◌≤◌, ◌++◌, ◌∷◌, [], length, remove, IfOk, IfSome, IfNone, OnOk, OnErr};
+    ghost use Rattle.std.specs.Prelude.{◌≡◌, ◌<◌, ◌≤◌, ◌++◌, ◌∷◌, [], length, remove};
+    ghost use Rattle.std.specs.Prelude.{IfOk, IfSome, IfNone, OnOk, OnErr};
     ghost use Rattle.tc_lists.specs.Firsts.{NoneOf};
     ghost use Rattle.tc_bag.specs.Stock.{tuples_of};
     ghost use Rattle.tc_model.specs.State.{IsAnswerable};

@@ -65,7 +65,10 @@ same_grant-Decides g h =
     (Decides-eqb (number_of g.primitive) (number_of h.primitive)) in (
       λ e. let parts = all.0 e in
           same_parts g h parts.0.0 parts.0.1 (same_primitive g.primitive h.primitive parts.1),
-      λ e. all.1 ((ap (λ (x : Grant). x.role) e, ap (λ (x : Grant). x.centre) e), ap (λ (x : Grant). number_of x.primitive) e),
+      λ e. all.1 (
+        (ap (λ (x : Grant). x.role) e, ap (λ (x : Grant). x.centre) e),
+        ap (λ (x : Grant). number_of x.primitive) e,
+      ),
     )
 
 -- the laws of equality

@@ -9,7 +9,6 @@
 //! ```
 #![tactic(auto)]
 
-mod cut;
 mod names;
 mod numbering;
 mod terms;

@@ -5,9 +5,8 @@ ghost use Rattle.tc_term.specs.Bytes.{is_word};
 ghost use Rattle.tc_term.specs.Text.{atom_text, is_name, name_text, quoted, quoted_byte};
 ghost use mathlib.Core.List.{IsPrefix};
 
-use crate::cut::cut_back;
 use std::alloc::Global;
-use tc_lists::NoMemory;
+use tc_lists::{NoMemory, cut_back};
 use tc_term::Name;
 
 /// Appends a name as an atom is printed, so the name of the empty list is plain.

@@ -7,11 +7,10 @@ ghost use Rattle.tc_term.specs.TreeView.{tree_of};
 ghost use Rattle.tc_term.specs.Variables.{variables_after, variables_after_all};
 ghost use Rattle.tc_print.specs.Printing.{IsCell, IsEmptyList, IsNoCell, text_after, texts_after};
 
-use crate::cut::cut_back;
 use crate::names::{append_atom, append_name};
 use crate::numbering::Numbering;
 use std::alloc::Global;
-use tc_lists::{NoMemory, append_integer, append_number};
+use tc_lists::{NoMemory, append_integer, append_number, cut_back};
 use tc_term::{Args, Name, Term};
 
 /// Appends the canonical text of a term, whose variables are numbered anew by first appearance.

@@ -1,5 +1,6 @@
 -- What a template that is being read may still take, node by node.
-use Rattle.std.specs.Prelude.{ℕ, zero, suc, ◌+◌, ◌-◌, if◌then◌else◌, ◌||◌, nat_lt, nat_le, nat_eq, length, Some, None}
+use Rattle.std.specs.Prelude.{ℕ, zero, suc, ◌+◌, ◌-◌, if◌then◌else◌, ◌||◌}
+use Rattle.std.specs.Prelude.{nat_lt, nat_le, nat_eq, length, Some, None}
 use Rattle.std.specs.declared.option.Option.{Option}
 use Rattle.tc_term.specs.Limits.{most_variables}
 use Rattle.tc_term.specs.Room as term

@@ -1,6 +1,8 @@
 -- The canonical text of a term at the front of bytes, as the reader finds it: greedily, within the
 -- room, and with no way back.
-use Rattle.std.specs.Prelude.{ℕ, ℤ, zero, suc, Bool, true, false, if◌then◌else◌, ◌&&◌, ◌||◌, ◌==◌, nat_lt, min, List, [], ◌∷◌, length, take, drop, Some, None, codes, is_some}
+use Rattle.std.specs.Prelude.{ℕ, ℤ, zero, suc, Bool, true, false, if◌then◌else◌}
+use Rattle.std.specs.Prelude.{◌&&◌, ◌||◌, ◌==◌, nat_lt, min, List, [], ◌∷◌, length}
+use Rattle.std.specs.Prelude.{take, drop, Some, None, codes, is_some}
 use Rattle.tc_term.specs.Bytes.{is_word, is_name_start}
 use Rattle.std.specs.declared.option.Option.{Option}
 use Rattle.std.specs.List.{prefix_len}

@@ -1,6 +1,9 @@
 -- Where tokens of a kind end, as the scanner finds it.
-use Rattle.std.specs.Prelude.{ℕ, ◌+◌, Bool, false, if◌then◌else◌, ◌&&◌, ◌||◌, ◌==◌, nat_le, List, [], ◌∷◌, Option, Some, None, is_some}
-use Rattle.tc_term.specs.Tokens.{Sign, EqColonEq, EqBackEq, EqLess, GreaterEq, BackEq, SlashSlash, Equal, Less, Greater, Plus, Minus, Star, Ask, Lexeme, Longest, escape}
+use Rattle.std.specs.Prelude.{ℕ, ◌+◌, Bool, false, if◌then◌else◌, ◌&&◌, ◌||◌, ◌==◌}
+use Rattle.std.specs.Prelude.{nat_le, List, [], ◌∷◌, Option, Some, None, is_some}
+use Rattle.tc_term.specs.Tokens.{Sign, EqColonEq, EqBackEq, EqLess, GreaterEq}
+use Rattle.tc_term.specs.Tokens.{BackEq, SlashSlash, Equal, Less, Greater, Plus}
+use Rattle.tc_term.specs.Tokens.{Minus, Star, Ask, Lexeme, Longest, escape}
 
 -- the byte of punctuation
 abbrev pub is_mark : ℕ → Bool

@@ -1,6 +1,8 @@
 use Rattle.std.specs.Prelude.{ℕ, true, false, if◌then◌else◌, ◌&&◌, nat_le, List, [], ◌∷◌, Option, Some, None}
 use Rattle.tc_term.specs.Tokens.{Sign, Minus, sign_bytes}
-use Rattle.tc_term.specs.Grammar.{Token, Variable, Integer, Name, Symbol, Open, Close, OpenList, CloseList, Comma, Bar, Operator, infix_of, Meaning, nil, cell, negated, between}
+use Rattle.tc_term.specs.Grammar.{Token, Variable, Integer, Name, Symbol, Open, Close}
+use Rattle.tc_term.specs.Grammar.{OpenList, CloseList, Comma, Bar, Operator, infix_of}
+use Rattle.tc_term.specs.Grammar.{Meaning, nil, cell, negated, between}
 
 -- What stands open, innermost first: an operator behind its left side; a minus; a group; a
 -- compound's name and the arguments before this one; a list's items before this one; all its items,

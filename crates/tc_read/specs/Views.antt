@@ -1,11 +1,16 @@
 -- Tokens and operators as the grammar sees them.
-use Rattle.std.specs.Prelude.{ℕ, Bool, true, false, if◌then◌else◌, ◌||◌, ◌==◌, List, [], ◌∷◌, Option, Some, None}
+use Rattle.std.specs.Prelude.{ℕ, Bool, true, false, if◌then◌else◌, ◌||◌}
+use Rattle.std.specs.Prelude.{◌==◌, List, [], ◌∷◌, Option, Some, None}
 use Rattle.tc_term.specs.Tokens as spelled
 use Rattle.tc_term.specs.Grammar as grammar
 use Rattle.tc_read.specs.declared.tokens.Sign.{Sign}
-use Rattle.tc_read.specs.declared.tokens.Sign.TheVariants.{EqColonEq, EqBackEq, EqLess, GreaterEq, BackEq, SlashSlash, Equal, Less, Greater, Plus, Minus, Star, Ask}
+use Rattle.tc_read.specs.declared.tokens.Sign.TheVariants.{EqColonEq, EqBackEq, EqLess, GreaterEq}
+use Rattle.tc_read.specs.declared.tokens.Sign.TheVariants.{BackEq, SlashSlash, Equal, Less}
+use Rattle.tc_read.specs.declared.tokens.Sign.TheVariants.{Greater, Plus, Minus, Star, Ask}
 use Rattle.tc_read.specs.declared.tokens.Token.{Token}
-use Rattle.tc_read.specs.declared.tokens.Token.TheVariants.{Variable, Integer, Word, Quoted, Symbol, Open, Close, OpenList, CloseList, Comma, Bar}
+use Rattle.tc_read.specs.declared.tokens.Token.TheVariants.{Variable, Integer, Word, Quoted}
+use Rattle.tc_read.specs.declared.tokens.Token.TheVariants.{Symbol, Open, Close, OpenList}
+use Rattle.tc_read.specs.declared.tokens.Token.TheVariants.{CloseList, Comma, Bar}
 use Rattle.tc_read.specs.declared.operators.Operator.{Operator}
 
 abbrev pub sign_view : Sign → spelled.Sign

@@ -1,5 +1,6 @@
 //! Terms and clauses, read whole.
-ghost use Rattle.std.specs.Prelude.{◌≡◌, ◌<◌, ◌≤◌, [], IfOk, IfSome, drop, false, length, true, List, None, ℕ};
+ghost use Rattle.std.specs.Prelude.{◌≡◌, ◌<◌, ◌≤◌, [], IfOk, IfSome, drop};
+ghost use Rattle.std.specs.Prelude.{false, length, true, List, None, ℕ};
 ghost use Rattle.std.specs.List.{range_with_len};
 ghost use Rattle.tc_term.specs.Faults.{Ended, IsRead, Judged, Reading, first_place, first_wide, place_behind};
 ghost use Rattle.tc_term.specs.Layouts.{At};

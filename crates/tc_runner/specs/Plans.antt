@@ -1,5 +1,6 @@
 -- Configurations whose centres are opened.
-use Rattle.std.specs.Prelude.{◌≡◌, ◌≢◌, ◌<◌, ◌^◌, ◌==◌, if◌then◌else◌, ℕ, List, [], All, AllPairs, length, map}
+use Rattle.std.specs.Prelude.{◌≡◌, ◌≢◌, ◌<◌, ◌^◌, ◌==◌, if◌then◌else◌}
+use Rattle.std.specs.Prelude.{ℕ, List, [], All, AllPairs, length, map}
 use Rattle.tc_centre.specs.Centre.{Centre, centre_from}
 use Rattle.tc_config.specs.Configurations.{Configuration, IsConfig, centre_names}
 use Rattle.tc_config.specs.declared.configs.AgentConf.{AgentConf}

@@ -1,5 +1,6 @@
 -- What one step of an agent does.
-use Rattle.std.specs.Prelude.{◌≡◌, ℕ, ◌<◌, ◌⊎◌, Bool, true, false, List, [], ◌∷◌, ◌++◌, Option, Some, None, set, slice_get}
+use Rattle.std.specs.Prelude.{◌≡◌, ℕ, ◌<◌, ◌⊎◌, Bool, true, false, List, []}
+use Rattle.std.specs.Prelude.{◌∷◌, ◌++◌, Option, Some, None, set, slice_get}
 use Rattle.tc_centre.specs.Centre.{Centre}
 use Rattle.tc_config.specs.Configurations.{Configuration}
 use Rattle.tc_config.specs.Good.{AreHistories, Follows, IsEnded, call}
@@ -55,7 +56,8 @@ Looks None old new false = new ≡ old
 Looks reply old new answered = ⊥
 
 -- less is left after the step; or else nothing has changed, and nothing is left to do now
-abbrev pub Moves : Configuration → ℕ → AgentConf → (old new : List Centre) → (log log' : List LogRow) → Bool → Type 0
+abbrev pub Moves : Configuration → ℕ → AgentConf → (old new : List Centre) → (log log' : List LogRow)
+    → Bool → Type 0
 Moves c agent a old new log log' true = left_of a log' < left_of a log
 Moves c agent a old new log log' false =
     (new ≡ old) × (log' ≡ log) × IsEnded (histories c new) agent a log'

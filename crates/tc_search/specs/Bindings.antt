@@ -16,7 +16,8 @@ IsFree bound = All (λ b. b ≡ None) bound
 
 -- what is bound has no variable
 abbrev pub AreGround : List (Option (Bor Term)) → Type 0
-AreGround bound = (n : ℕ) (t : Bor Term) → slice_index_or bound n None ≡ Some t → IsTrue (is_ground (tree_of t.now))
+AreGround bound = (n : ℕ) (t : Bor Term) → slice_index_or bound n None ≡ Some t
+    → IsTrue (is_ground (tree_of t.now))
 
 -- the trees of the variables make the term the tuple
 abbrev pub Makes : Tree → Tree → (ℕ → Tree) → Type 0
@@ -26,8 +27,10 @@ Makes term tuple f = instance f term ≡ tuple
 abbrev pub Always : (ℕ → Tree) → Type 0
 Always f = Unit {0}
 
--- the trees that follow what was bound and meet the one demand are those that follow what is bound and meet the other
-pub record Binds (old : List (Option (Bor Term))) (P : (ℕ → Tree) → Type 0) (new : List (Option (Bor Term))) (Q : (ℕ → Tree) → Type 0) : Type 0 where
+-- the trees that follow what was bound and meet the one demand are those that follow what is bound and
+-- meet the other
+pub record Binds (old : List (Option (Bor Term))) (P : (ℕ → Tree) → Type 0)
+    (new : List (Option (Bor Term))) (Q : (ℕ → Tree) → Type 0) : Type 0 where
   pub forth : (f : ℕ → Tree) → Follows f old → P f → Follows f new × Q f
   pub back : (f : ℕ → Tree) → Follows f new → Q f → Follows f old × P f
 

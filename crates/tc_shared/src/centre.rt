@@ -6,7 +6,10 @@ ghost use Rattle.tc_model.specs.Replies.{reply_in};
 ghost use Rattle.tc_centre.specs.Owners.{owner_of};
 ghost use Rattle.tc_turn.specs.Owners.{entries_of};
 ghost use Rattle.tc_turn.specs.Passes.{end_of, new_passes, ended_count, AgreesWith};
-ghost use Rattle.tc_shared.specs.Passes.{IsPassOf, IsFreshPassOf, IsAtRest, Keeps, Makes, Tells, Sees, Rests, Waits, IsSharedPollRefused, IsCallRefused, IsLookRefused, IsWaitRefused, IsSpent, IsPaused, IsPausedOf, call_id};
+ghost use Rattle.tc_shared.specs.Passes.{IsPassOf, IsFreshPassOf, IsAtRest, Keeps, Makes};
+ghost use Rattle.tc_shared.specs.Passes.{Tells, Sees, Rests, Waits, IsSharedPollRefused};
+ghost use Rattle.tc_shared.specs.Passes.{IsCallRefused, IsLookRefused, IsWaitRefused};
+ghost use Rattle.tc_shared.specs.Passes.{IsSpent, IsPaused, IsPausedOf, call_id};
 
 use crate::answers::{CallFault, LookFault, SharedPollFault, call_fault, poll_fault};
 use crate::waking::{rung, sleep, wake};

@@ -1,5 +1,6 @@
 //! The clauses of an operation, and those of them whose heads meet an event.
-ghost use Rattle.std.specs.Prelude.{◌≡◌, ◌≤◌, ◌+◌, ◌↔◌, ◌++◌, ◌∷◌, [], if◌then◌else◌, length, false, ℕ, List, IsTrue, IfOk, OnOk};
+ghost use Rattle.std.specs.Prelude.{◌≡◌, ◌≤◌, ◌+◌, ◌↔◌, ◌++◌, ◌∷◌, [], if◌then◌else◌};
+ghost use Rattle.std.specs.Prelude.{length, false, ℕ, List, IsTrue, IfOk, OnOk};
 ghost use Rattle.tc_term.specs.Variables.{var_bound, raised};
 ghost use Rattle.tc_term.specs.Equations.{Solvable, under};
 ghost use Rattle.tc_term.specs.Tree.{Tree};

@@ -1,10 +1,13 @@
 -- What the reader answers: the term that the tokens are, or the first fault by the order of the
 -- rules.
-use Rattle.std.specs.Prelude.{◌≡◌, ℕ, ◌+◌, ◌-◌, ◌^◌, ◌⊎◌, max, Bool, true, false, if◌then◌else◌, nat_lt, nat_le, List, [], ◌∷◌, ◌++◌, length, Option, Some, None, MatchOption, position, codes, bytes_eq, ℤ, pos, neg_ℤ}
+use Rattle.std.specs.Prelude.{◌≡◌, ℕ, ◌+◌, ◌-◌, ◌^◌, ◌⊎◌, max, Bool, true, false, if◌then◌else◌}
+use Rattle.std.specs.Prelude.{nat_lt, nat_le, List, [], ◌∷◌, ◌++◌, length, Option, Some, None}
+use Rattle.std.specs.Prelude.{MatchOption, position, codes, bytes_eq, ℤ, pos, neg_ℤ}
 use Rattle.tc_term.specs.Limits.{most_variables, most_brackets}
 use Rattle.tc_term.specs.Tree.{Tree, Trees, Last, More, Atomic, Compound, Fits}
 use Rattle.tc_term.specs.Tree as tree
-use Rattle.tc_term.specs.Tokens.{Lexeme, Word, Variable, Number, Quoted, Symbol, Punctuation, Mark, Open, Close, OpenList, CloseList, Comma, Bar}
+use Rattle.tc_term.specs.Tokens.{Lexeme, Word, Variable, Number, Quoted, Symbol, Punctuation}
+use Rattle.tc_term.specs.Tokens.{Mark, Open, Close, OpenList, CloseList, Comma, Bar}
 use Rattle.tc_term.specs.Layouts.{At, Stop, TextEnd, ClauseEnd, NoToken, Scan}
 use Rattle.tc_term.specs.Grammar as grammar
 use Rattle.tc_term.specs.Grammar.{Token, Meaning, IsTerm}

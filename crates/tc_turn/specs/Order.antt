@@ -1,6 +1,7 @@
 -- The rule of the turnstile's table: what holds of its words, its slot and all views between steps.
 -- Word 0 counts the tickets, word 1 the turns that were passed on, word 2 the known entries.
-use Rattle.std.specs.Prelude.{◌≡◌, ℕ, ◌+◌, ◌*◌, ◌<◌, ◌≤◌, ◌⊎◌, List, [], true, Option, None, Some, length, slice_index, cond, ◌==◌, nat_lt, sum_by, All}
+use Rattle.std.specs.Prelude.{◌≡◌, ℕ, ◌+◌, ◌*◌, ◌<◌, ◌≤◌, ◌⊎◌, List, [], true, Option, None}
+use Rattle.std.specs.Prelude.{Some, length, slice_index, cond, ◌==◌, nat_lt, sum_by, All}
 use mathlib.Core.Option.{some, none}
 use mathlib.Core.List.{IsPrefix}
 use lib.ListN.{get_elem?}

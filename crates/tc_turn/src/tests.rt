@@ -1,5 +1,6 @@
 //! Turns of several threads, to their end.
-ghost use Rattle.std.specs.Prelude.{◌≡◌, ℕ, ◌<◌, ◌++◌, [], ◌∷◌, false, OnOk, OnErr, IfOk, All, length, slice_index_or, sum_by};
+ghost use Rattle.std.specs.Prelude.{◌≡◌, ℕ, ◌<◌, ◌++◌, [], ◌∷◌, false, OnOk, OnErr};
+ghost use Rattle.std.specs.Prelude.{IfOk, All, length, slice_index_or, sum_by};
 ghost use Rattle.tc_turn.specs.Order.{one_if_same};
 ghost use Rattle.tc_turn.specs.Passes.{IsPassOf, ended_count};
 

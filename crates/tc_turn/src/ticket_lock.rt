@@ -3,9 +3,11 @@
 //! A thread takes no ticket while tickets are out, unless it was passed over for long: so tickets are
 //! few, and a thread that comes back at once has its turn at once. Who has a ticket is served in the
 //! order of tickets.
-ghost use Rattle.std.specs.Prelude.{◌≡◌, ℕ, ◌<◌, ◌≤◌, ◌*◌, ◌^◌, [], ◌∷◌, Some, None, length, IfOk, MatchBool, All, sum_by};
+ghost use Rattle.std.specs.Prelude.{◌≡◌, ℕ, ◌<◌, ◌≤◌, ◌*◌, ◌^◌, [], ◌∷◌, Some};
+ghost use Rattle.std.specs.Prelude.{None, length, IfOk, MatchBool, All, sum_by};
 ghost use Rattle.tc_turn.specs.Owners.{entries_of, own_entries};
-ghost use Rattle.tc_turn.specs.Views.{blank_view, maker_view, rest_view, pass_view, with_ticket, with_entries, without_turn, with_floor, with_ended};
+ghost use Rattle.tc_turn.specs.Views.{blank_view, maker_view, rest_view, pass_view, with_ticket};
+ghost use Rattle.tc_turn.specs.Views.{with_entries, without_turn, with_floor, with_ended};
 ghost use Rattle.tc_turn.specs.Order.{FitsRecord, one_if_record};
 ghost use Rattle.tc_turn.specs.Steps.{TakesTurn};
 ghost use Rattle.tc_turn.specs.Seats.{IsIdle, Awaits, Holds, HasNewEntries, HasAllKnown, KnowsItsOwn};

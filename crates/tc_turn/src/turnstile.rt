@@ -1,7 +1,10 @@
 //! The turnstile, and what a thread does at it.
-ghost use Rattle.std.specs.Prelude.{◌≡◌, ℕ, ◌<◌, ◌≤◌, ◌+◌, [], ◌∷◌, ◌++◌, true, false, List, IfOk, OnErr, All};
+ghost use Rattle.std.specs.Prelude.{◌≡◌, ℕ, ◌<◌, ◌≤◌, ◌+◌, [], ◌∷◌, ◌++◌};
+ghost use Rattle.std.specs.Prelude.{true, false, List, IfOk, OnErr, All};
 ghost use Rattle.tc_turn.specs.Owners.{entries_of, OthersOwnNone};
-ghost use Rattle.tc_turn.specs.Passes.{IsPassOf, Enters, Leaves, Counts, AgreesWith, IsMaker, end_of, new_pass, new_passes, ended_count, record_of_ended};
+ghost use Rattle.tc_turn.specs.Passes.{IsPassOf, Enters, Leaves, Counts, AgreesWith};
+ghost use Rattle.tc_turn.specs.Passes.{IsMaker, end_of, new_pass, new_passes};
+ghost use Rattle.tc_turn.specs.Passes.{ended_count, record_of_ended};
 
 use crate::chronicle::Chronicle;
 use crate::order::Founding;

@@ -1,5 +1,6 @@
 -- The arena: what its nodes are, and what holds of it.
-use Rattle.std.specs.Prelude.{◌≡◌, ℕ, ◌+◌, ◌-◌, ◌<◌, ◌≤◌, ◌⊎◌, List, length, take, drop, get_or, All, if◌then◌else◌, nat_lt}
+use Rattle.std.specs.Prelude.{◌≡◌, ℕ, ◌+◌, ◌-◌, ◌<◌, ◌≤◌, ◌⊎◌, List, length}
+use Rattle.std.specs.Prelude.{take, drop, get_or, All, if◌then◌else◌, nat_lt}
 use Rattle.tc_term.specs.Tree.{Tree, Variable}
 use Rattle.tc_unify.specs.declared.names.TheConstants.{SHORT}
 use Rattle.tc_unify.specs.declared.nodes.TheConstants.{FIRST_NAME, FIRST_VARIABLE}

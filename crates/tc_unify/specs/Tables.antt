@@ -1,5 +1,6 @@
 -- Tables of links, and what they are once the newest links are taken back.
-use Rattle.std.specs.Prelude.{◌≡◌, ℕ, ◌+◌, ◌-◌, ◌<◌, ◌≤◌, ◌⊎◌, List, [], ◌∷◌, ◌++◌, length, get_or, ◌==◌, if◌then◌else◌, nat_lt}
+use Rattle.std.specs.Prelude.{◌≡◌, ℕ, ◌+◌, ◌-◌, ◌<◌, ◌≤◌, ◌⊎◌, List, [], ◌∷◌, ◌++◌}
+use Rattle.std.specs.Prelude.{length, get_or, ◌==◌, if◌then◌else◌, nat_lt}
 use Rattle.tc_unify.specs.declared.nodes.TheConstants.{FIRST_VARIABLE}
 use Rattle.tc_unify.specs.declared.links.Links.{Links}
 

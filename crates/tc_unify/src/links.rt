@@ -1,5 +1,6 @@
 //! Links from nodes to lower nodes that stand for the same tree, and the order in which they came.
-ghost use Rattle.std.specs.Prelude.{◌≡◌, ◌≢◌, ℕ, ◌+◌, ◌^◌, ◌<◌, ◌≤◌, ◌++◌, ◌∷◌, [], length, take, drop, All, OnOk, OnErr, get_or};
+ghost use Rattle.std.specs.Prelude.{◌≡◌, ◌≢◌, ℕ, ◌+◌, ◌^◌, ◌<◌, ◌≤◌, ◌++◌, ◌∷◌, []};
+ghost use Rattle.std.specs.Prelude.{length, take, drop, All, OnOk, OnErr, get_or};
 ghost use Rattle.tc_unify.specs.Links.{Falls, linked, root};
 ghost use Rattle.tc_unify.specs.Tables.{link_of, unlinked, rewound, HasNode, Extends};
 ghost use Rattle.tc_unify.specs.Arena.{Begins};

@@ -1,5 +1,6 @@
 //! The arena of terms: nodes that name earlier nodes, and the bytes of names.
-ghost use Rattle.std.specs.Prelude.{◌≡◌, ◌<◌, ◌++◌, ◌∷◌, [], List, ℕ, length, IfOk, IfSome, IfNone, OnOk, OnErr};
+ghost use Rattle.std.specs.Prelude.{◌≡◌, ◌<◌, ◌++◌, ◌∷◌, [], List, ℕ, length};
+ghost use Rattle.std.specs.Prelude.{IfOk, IfSome, IfNone, OnOk, OnErr};
 ghost use Rattle.tc_term.specs.Tree.{Atomic, Number};
 ghost use Rattle.tc_unify.specs.Nodes.{AtomNode, applied, IsHead, IsAtom};
 ghost use Rattle.tc_unify.specs.Arena.{IsArena, IsNodeOf, IsNodeFor, IsHeadFor, Grows, shape_of, node_tree};

@@ -1,11 +1,13 @@
 //! The occurs check: a walk over the nodes below those that were linked, with a list of its own.
-ghost use Rattle.std.specs.Prelude.{◌≡◌, ℕ, ◌<◌, ◌≤◌, ◌⊎◌, ◌∷◌, ◌++◌, [], false, drop, length, get_or, set, IfOk, OnOk, IsTrue, All};
+ghost use Rattle.std.specs.Prelude.{◌≡◌, ℕ, ◌<◌, ◌≤◌, ◌⊎◌, ◌∷◌, ◌++◌, [], false, drop};
+ghost use Rattle.std.specs.Prelude.{length, get_or, set, IfOk, OnOk, IsTrue, All};
 ghost use Rattle.tc_unify.specs.Arena.{shape_of, IsNodeOf};
 ghost use Rattle.tc_unify.specs.Links.{IsFiniteVariable};
 ghost use Rattle.tc_unify.specs.Tables.{link_of};
 ghost use Rattle.tc_unify.specs.Meeting.{IsLinked};
 ghost use Rattle.tc_unify.specs.Walks.{HasNoTrees};
-ghost use Rattle.tc_unify.specs.Marks.{IsUnmarked, IsMarked, IsStarted, IsEndless, IsListed, Knows, Keeps, steps_of, walk_work};
+ghost use Rattle.tc_unify.specs.Marks.{IsUnmarked, IsMarked, IsStarted, IsEndless};
+ghost use Rattle.tc_unify.specs.Marks.{IsListed, Knows, Keeps, steps_of, walk_work};
 
 use crate::links::Links;
 use crate::nodes::{Arena, FIRST_NAME, FIRST_VARIABLE, Node};

@@ -1,7 +1,8 @@
 //! Histories and logs, handed on line by line.
 ghost use Rattle.std.specs.Prelude.{◌≡◌, ◌<◌, [], All, OnOk, length};
 ghost use Rattle.tc_model.specs.Calls.{id_of};
-ghost use Rattle.tc_desk.specs.Text.{One, end_text, entry_text, history_text, log_text, row_text, version_text};
+ghost use Rattle.tc_desk.specs.Text.{One, end_text, entry_text, history_text};
+ghost use Rattle.tc_desk.specs.Text.{log_text, row_text, version_text};
 ghost use Rattle.tc_histtext.specs.Headings.{heading_text};
 ghost use Rattle.tc_writing.specs.Flow.{HandsOn, flow};
 

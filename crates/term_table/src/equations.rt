@@ -6,8 +6,8 @@
 //! | `value(T)` | tells the value of a term, or `open` |
 //! | `shifted(T,M,U,N)` | adds the equation of two terms whose variables are raised by M and by N |
 //! | `value(T,N)` | tells the value of a term whose variables are raised by N |
-//! | `find(T,U,..)` | tells the age of the oldest of these tuples that the template matches, and adds their equation |
-//! | `chain(M,N,K)` | adds of N variables from M on that each is f of the next one, K times; tells how many are added |
+//! | `find(T,U,..)` | tells the age of the oldest tuple that the template matches, and adds their equation |
+//! | `chain(M,N,K)` | adds of N variables from M on that each is f of the next, K times; tells how many |
 //! | `grow(N)` | adds variables |
 //! | `trial(S,..)` | takes these steps, and goes back to the equations before them |
 //! | `renew(N)` | begins anew, with N variables; it stands in no trial |

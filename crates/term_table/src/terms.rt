@@ -7,7 +7,7 @@
 //! | `nest(A,N,T)` | A(A(..A(T)..)), N deep |
 //! | `wide(A,N,T)` | A(T,T,..,T), of N arguments |
 //! | `double(N,T)` | f(U,U), where U is the same of N - 1, and T of 0 |
-//! | `numbers(N,T)`, `variables(N,T)` | f of the numbers or of the variables 0, 1, .. up to N, without N, and of T |
+//! | `numbers(N,T)`, `variables(N,T)` | f of the numbers or the variables 0, 1, .. below N, and of T |
 //! | `different(N)` | f of N different variables, from the highest number down, and of 0 |
 //!
 //! Each other term stands for itself, with what its arguments stand for.

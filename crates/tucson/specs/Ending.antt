@@ -96,7 +96,8 @@ Writes status text sink sink_after same =
     (same ≡ status) × (sink_after.taken ≡ appended sink.taken text)
 
 -- a status and a text that are due, and the writing of that text
-pub record IsTold (due : Status → List ℕ → Type 0) (sink sink_after : SinkState) (result : Status) : Type 0 where
+pub record IsTold (due : Status → List ℕ → Type 0) (sink sink_after : SinkState) (result : Status)
+    : Type 0 where
   pub status : Status
   pub text : List ℕ
   pub is : due status text

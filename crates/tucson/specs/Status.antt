@@ -1,7 +1,8 @@
 -- The numbers of the statuses.
 use Rattle.std.specs.Prelude.{ℕ, Bool, true, false}
 use Rattle.tucson.specs.declared.status.Status.{Status}
-use Rattle.tucson.specs.declared.status.Status.TheVariants.{Ended, WriteFault, Refused, Blocked, ReadFault, NoMemory, Usage}
+use Rattle.tucson.specs.declared.status.Status.TheVariants.{Ended, WriteFault, Refused, Blocked}
+use Rattle.tucson.specs.declared.status.Status.TheVariants.{ReadFault, NoMemory, Usage}
 
 -- the number with which the program exits
 abbrev pub number_of : Status → ℕ

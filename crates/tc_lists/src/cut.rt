@@ -1,10 +1,12 @@
 //! A text is cut back where its writing has failed.
 ghost use Rattle.std.specs.Prelude.{◌≡◌, OnErr, OnOk, take};
 
-use tc_lists::NoMemory;
+use crate::NoMemory;
 
-// The answer of a writing, with the text cut back to its old length where it has failed.
-pub(crate) fn cut_back(
+/// The answer of a writing, with the text cut back to its old length where that has failed.
+///
+/// `before` is the length that the text had; a shorter text stays as it is.
+pub fn cut_back(
     written: Result<(), NoMemory>,
     before: usize,
     into: &mut Vec<u8>,
