@@ -1,6 +1,4 @@
 //! A centre, and calls of its agents.
-ghost use Rattle.std.specs.Prelude.{IfSome};
-ghost use Rattle.tc_model.specs.Run.{IsNext};
 
 use crate::builders::{Verb, call, tuple};
 use crate::cases::Case;
@@ -8,7 +6,7 @@ use crate::fault::BenchFault;
 use std::alloc::Global;
 use tc_centre::{Answer, Core};
 use tc_lists::NoMemory;
-use tc_model::{CallId, Clauses, Op, Reply, check_origin};
+use tc_model::{Clauses, Op, Reply, check_origin};
 use tc_spec::read_spec;
 use tc_term::{Ground, Name};
 
@@ -72,7 +70,7 @@ fn found(
 /// when it runs, so that instructions can be counted in it.
 #[inline(never)]
 pub fn ask(alloc: Global, core: &mut Core, agent: u32, op: Op) -> Result<bool, BenchFault> {
-    let Some(id) = next_call(core, agent) else {
+    let Some(id) = core.next_call(agent) else {
         return Err(BenchFault::Refused);
     };
     match core.turn(alloc, id, op) {
@@ -84,20 +82,4 @@ pub fn ask(alloc: Global, core: &mut Core, agent: u32, op: Op) -> Result<bool, B
 // Whether a tuple is the reply.
 fn is_tuple(answer: &Answer) -> bool {
     matches!(answer, Answer::Replied(Reply::Tuple(_)))
-}
-
-// The next call of an agent: its number is one above those of all its entries.
-fn next_call(core: &Core, agent: u32) -> Option<CallId>
-    ensures { IfSome result (IsNext core.now.origin core.now.history) }
-{
-    if agent as usize >= core.agents().len() {
-        return None;
-    }
-    match core.last_number(agent) {
-        Some(last) => Some(CallId {
-            agent,
-            number: last.checked_add(1)?,
-        }),
-        None => Some(CallId { agent, number: 1 }),
-    }
 }

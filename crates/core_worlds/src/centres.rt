@@ -87,21 +87,5 @@ pub fn next_call(core: &Core, agent: &Name) -> Option<CallId>
     ensures { IfSome result (IsNext core.now.origin core.now.history) }
 {
     let place = place_of(core.agents(), agent)?;
-    numbered(core, u32::try_from(place).ok()?)
-}
-
-// The next call of the agent of this place.
-fn numbered(core: &Core, agent: u32) -> Option<CallId>
-    ensures { IfSome result (IsNext core.now.origin core.now.history) }
-{
-    if agent as usize >= core.agents().len() {
-        return None;
-    }
-    match core.last_number(agent) {
-        Some(last) => Some(CallId {
-            agent,
-            number: last.checked_add(1)?,
-        }),
-        None => Some(CallId { agent, number: 1 }),
-    }
+    core.next_call(u32::try_from(place).ok()?)
 }

@@ -1,6 +1,7 @@
 -- The last number of each agent.
-use Rattle.std.specs.Prelude.{◌≡◌, ℕ, ◌<◌, ◌≤◌, List, [], All, Contains, Option, Some, None, slice_index_or}
+use Rattle.std.specs.Prelude.{◌≡◌, ℕ, ◌+◌, ◌<◌, ◌≤◌, List, [], All, Contains, Option, Some, None, slice_index_or}
 use Rattle.tc_model.specs.Calls.{id_of, calls_of}
+use Rattle.tc_model.specs.declared.calls.CallId.{CallId}
 use Rattle.tc_model.specs.declared.entries.Entry.{Entry}
 
 -- the agent made an entry of this number, and none of a greater one
@@ -27,3 +28,15 @@ number_in numbers agent = slice_index_or numbers agent None
 -- the list has each agent's last number
 abbrev pub AreLast : List (Option ℕ) → List Entry → Type 0
 AreLast numbers history = (agent : ℕ) → IsLast agent history (number_in numbers agent)
+
+-- the number of a call behind this last one
+abbrev pub number_behind : Option ℕ → ℕ
+number_behind None = 1
+number_behind (Some last) = last + 1
+
+-- the agent's next call: its number is one above the agent's last, or 1
+pub record IsNextCall (agent : ℕ) (history : List Entry) (id : CallId) : Type 0 where
+  pub agent_is : id.agent ≡ agent
+  pub last : Option ℕ
+  pub greatest : IsLast agent history last
+  pub number : id.number ≡ number_behind last

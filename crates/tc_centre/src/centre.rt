@@ -52,7 +52,7 @@ impl Model for Core {
 
 impl Core {
     ghost use Rattle.std.specs.Prelude.{◌≡◌, ◌≤◌, ◌↔◌, ◌<◌, ℕ, All, length, slice_get, IsTrue};
-    ghost use Rattle.std.specs.Prelude.{IfOk, IfErr, OnErr};
+    ghost use Rattle.std.specs.Prelude.{◌+◌, ◌-◌, ◌^◌, ◌⊎◌, IfOk, IfErr, IfSome, IfNone, OnErr, Some};
     ghost use Rattle.std.specs.Option.{option_copied};
     ghost use Rattle.tc_model.specs.Replies.{reply_in};
     ghost use Rattle.tc_model.specs.declared.limits.TheConstants.{MOST_WEIGHT};
@@ -60,7 +60,7 @@ impl Core {
     ghost use Rattle.tc_model.specs.Run.{IsNext, IsRun, IsFirstRun, HasCall, earlier};
     ghost use Rattle.tc_centre.specs.Centre.{centre_from, state_of, weight_in, waiting_in, IsFullCentre};
     ghost use Rattle.tc_model.specs.Typed.{IsTyped};
-    ghost use Rattle.tc_centre.specs.Numbers.{IsLast, IsAbove};
+    ghost use Rattle.tc_centre.specs.Numbers.{IsLast, IsAbove, IsNextCall};
     ghost use Rattle.tc_centre.specs.Turns.{Serves, IsRefused, Tells, IsPollRefused};
 
     /// A centre of these clauses and these tuples, oldest first, with an empty history.
@@ -233,6 +233,25 @@ impl Core {
             Some(number) => *number,
             None => None,
         }
+    }
+
+    /// The agent's next call: its number is one above its last, or 1. Takes O(1) time.
+    ///
+    /// There is none where the centre has no such agent, or its last number is the greatest that there is.
+    pub fn next_call(&self, agent: u32) -> Option<CallId>
+        ensures next { IfSome result (IsNext self.now.origin self.now.history) }
+        ensures number { IfSome result (IsNextCall agent self.now.history) }
+        ensures none { IfNone result ((length self.now.origin.agents ≤ agent)
+            ⊎ IsLast agent self.now.history (Some (2 ^ 64 - 1))) }
+    {
+        if agent as usize >= self.agents().len() {
+            return None;
+        }
+        let number = match self.last_number(agent) {
+            Some(last) => last.checked_add(1)?,
+            None => 1,
+        };
+        Some(CallId { agent, number })
     }
 
     /// How many tuples there are. Takes O(1) time.

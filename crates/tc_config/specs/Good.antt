@@ -54,14 +54,15 @@ pub record AreHistories (choice : Choice) (c : Configuration) (histories : List 
       → slice_get c.centres place ≡ Some centre
       → slice_get histories place ≡ Some history → IsHistory choice (origin_of c centre) history
 
--- the row at place k is that of the agent's item at this place: it has the item's number and centre, and
--- a result that the item's ask, made after the rows before, may have come to there
+-- the row at place k is that of the agent's item at this place: it has the item's number, centre and ask,
+-- as this is after the rows before, and a result that the ask may have come to there
 pub record IsRow (c : Configuration) (histories : List (List Entry)) (agent : ℕ) (a : AgentConf)
     (log : List LogRow) (k : ℕ) (row : LogRow) : Type 0 where
   pub number : row.number ≡ k + 1
   pub step : ScriptStep
   pub asked : Ask
   pub asks : IsAsk a.scripts k (take k (results_of log)) step asked
+  pub ask : row.ask ≡ Some asked
   pub centre : CentreConf
   pub known : slice_get c.centres step.item.centre ≡ Some centre
   pub named : row.centre ≡ centre.name

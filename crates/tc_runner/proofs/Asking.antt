@@ -66,6 +66,7 @@ module _ (c : Configuration) (agent : ℕ) (a : AgentConf) (cores : List Centre)
     -- the row of the ask, as the ask came to something at the core
     module _ (s : CentreConf) (known : slice_get c.centres next.centre ≡ Some s) (before after : Centre)
         (stands : slice_get cores next.centre ≡ Some before) (row : LogRow) (number : row.number ≡ length log + 1) (named : row.centre ≡ s.name)
+        (is-asked : row.ask ≡ Some next.ask)
         (became : IsResult (Contains c.roles (grant a.role next.centre (primitive_of next.ask))) before.origin after.history (call agent (length log + 1)) next.ask row.result)
         (settled : any_pending log ≡ false) where
       abbrev pushed : List LogRow
@@ -80,6 +81,7 @@ module _ (c : Configuration) (agent : ℕ) (a : AgentConf) (cores : List Centre)
           step = asks.step;
           asked = next.ask;
           asks = subst (λ rs. IsAsk a.scripts (length log) rs asks.step next.ask) (sym (results-whole log (row ∷ []))) asks.asks;
+          ask = is-asked;
           centre = s;
           known = ap (slice_get c.centres) (sym asks.centre) ∙ known;
           named = named;
@@ -169,13 +171,13 @@ module _ (c : Configuration) (agent : ℕ) (a : AgentConf) (cores : List Centre)
 
       -- the run may go on with a row of what the ask came to there
       pub asked : (after : Centre) (n : ℕ) (grants : List Grant) (row : LogRow) → any_pending log ≡ false → n ≡ length log + 1 → grants ≡ c.roles
-          → row.number ≡ n → row.centre ≡ the-conf.0.name
+          → row.number ≡ n → row.centre ≡ the-conf.0.name → row.ask ≡ Some next.ask
           → IsResult (Contains grants (grant a.role next.centre (primitive_of next.ask))) (get_or cores next.centre r).origin after.history (call agent n) next.ask row.result
           → Changes (call agent n) (get_or cores next.centre r) after (is_served row.result)
           → GoesOn c agent a (set cores next.centre after) (log ++ row ∷ []) × Touches agent cores (set cores next.centre after)
-      asked after n grants row settled count granted number named became change =
+      asked after n grants row settled count granted number named is-asked became change =
           let may : List Grant → Type 0 = λ gs. Contains gs (grant a.role next.centre (primitive_of next.ask)) in
-          goes-asked the-conf.0 the-conf.1 read after reads row (number ∙ count) named
+          goes-asked the-conf.0 the-conf.1 read after reads row (number ∙ count) named is-asked
           (subst (λ m. IsResult (may c.roles) read.origin after.history (call agent m) next.ask row.result) count
           (subst (λ gs. IsResult (may gs) read.origin after.history (call agent n) next.ask row.result) granted became))
           settled (subst (λ m. Changes (call agent m) read after (is_served row.result)) count change)

@@ -159,6 +159,7 @@ module _ (c : Configuration) (agent : ℕ) (a : AgentConf) (histories : List (Li
       asked = pending-row.asked;
       asks = subst (λ rs. IsAsk a.scripts (length front) rs pending-row.step pending-row.asked)
           (sym (same-front (length front) (omega arith))) pending-row.asks;
+      ask = pending-row.ask;
       centre = pending-row.centre;
       known = pending-row.known;
       named = pending-row.named;

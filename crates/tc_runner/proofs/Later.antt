@@ -74,6 +74,7 @@ IsRow-later c old new agent a log log' k top row within later same is =
       step = is.step;
       asked = is.asked;
       asks = subst (λ rs. IsAsk a.scripts k rs is.step is.asked) (sym same) is.asks;
+      ask = is.ask;
       centre = is.centre;
       known = is.known;
       named = is.named;

@@ -82,6 +82,7 @@ module _ (c : Configuration) (config : IsConfig c) (histories : List (List Entry
         step = is.step;
         asked = is.asked;
         asks = is.asks;
+        ask = is.ask;
         centre = s;
         known = there.1;
         named = sym there.2;

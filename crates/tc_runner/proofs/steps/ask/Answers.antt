@@ -42,7 +42,7 @@ goes-on c =
     (c.in_ok-centre.ensures ∙ c.index-centres-place.is
     ∙ next-named c.args.plan.now c.args.agent c.args.a.now c.args.cores.now log c.requires.goes c.args.next c.centres.ensures.config c.requires.next
     c.centres.result.now c.index-centres-place.result c.centres.ensures.names)
-    c.in_ok-result.ensures.result c.in_ok-result.ensures.change
+    (ap Some c.in_ok-asked.ensures) c.in_ok-result.ensures.result c.in_ok-result.ensures.change
 
 pub returns-clause-goes : goal.returns-clause-goes
 returns-clause-goes c =
