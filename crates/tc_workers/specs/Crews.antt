@@ -1,5 +1,6 @@
 -- Agents at the desks of a site, before they are driven and afterwards.
-use Rattle.std.specs.Prelude.{◌≡◌, ℕ, ◌+◌, ◌*◌, ◌^◌, ◌<◌, ◌≤◌, List, [], ◌∷◌, All, Option, Some, length, map, slice_get, sum_by}
+use Rattle.std.specs.Prelude.{◌≡◌, ℕ, ◌+◌, ◌*◌, ◌^◌, ◌<◌, ◌≤◌, Option, Some}
+use Rattle.std.specs.Prelude.{List, [], ◌∷◌, All, length, map, slice_get, sum_by}
 use Rattle.tc_config.specs.Configurations.{items_of}
 use Rattle.tc_config.specs.declared.configs.AgentConf.{AgentConf}
 use Rattle.tc_desk.specs.declared.rows.LogRow.{LogRow}
@@ -19,7 +20,8 @@ bare a = with_scripts a []
 
 -- what the names of centres and the agents of a site must be, so that these can be driven: each item goes
 -- to one of the centres, and turns suffice for all items
-pub record CanDrive {W : Type 0} (s : SiteState W) (names : List (List ℕ)) (agents : List AgentConf) : Type 0 where
+pub record CanDrive {W : Type 0} (s : SiteState W) (names : List (List ℕ)) (agents : List AgentConf)
+    : Type 0 where
   pub names_are : names ≡ s.names
   pub roles_are : s.roles ≡ roles_of agents
   pub few : length agents < 2 ^ 32
@@ -36,7 +38,8 @@ module _ {W : Type 0} (permits : W → ℕ → ℕ → Primitive → Option ℕ)
 
   -- each agent is at a desk, with its scripts
   pub record AreAtDesks (agents : List AgentConf) (crew : List (Client (AgentState W))) : Type 0 where
-    pub scripts : map (λ (c : Client (AgentState W)). c.scripts) crew ≡ map (λ (a : AgentConf). a.scripts) agents
+    pub scripts : map (λ (c : Client (AgentState W)). c.scripts) crew
+        ≡ map (λ (a : AgentConf). a.scripts) agents
     pub each : (k : ℕ) (c : Client (AgentState W)) → slice_get crew k ≡ Some c → IsAtDesk k c
 
   -- the agent's desk has ended: its log has the rows of its scripts, which the warden has decided
@@ -47,8 +50,8 @@ module _ {W : Type 0} (permits : W → ℕ → ℕ → Primitive → Option ℕ)
   -- each agent's desk has ended
   pub record AreLeft (agents : List AgentConf) (ended : List (EndedState W)) : Type 0 where
     pub are : AreOfSite (λ (e : EndedState W). e.site) (λ (e : EndedState W). e.agent) s ended
-    pub each : (k : ℕ) (a : AgentConf) (e : EndedState W) → slice_get agents k ≡ Some a → slice_get ended k ≡ Some e
-        → IsLeft k a e
+    pub each : (k : ℕ) (a : AgentConf) (e : EndedState W)
+        → slice_get agents k ≡ Some a → slice_get ended k ≡ Some e → IsLeft k a e
 
 -- what is left of an agent's desk
 abbrev pub ended_of : {W : Type 0} → Client (AgentState W) → EndedState W

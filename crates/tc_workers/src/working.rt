@@ -36,29 +36,11 @@ pub fn work<R: Threads + Wait + Sync, G: Gate + Sync>(
     ensures goes { IfOk result (λ run. Goes run.plan run.cores.items (rows_of run.logs.items)) }
     ensures none { IfOk result (λ run. length run.plan.agents ≡ 0 → run.cores.items ≡ []) }
 {
-    let left = worked(rt, alloc, opened, workers, gate)?;
-    go_on(alloc, left, &NoGate)
-}
-
-// How far the workers bring the run.
-fn worked<R: Threads + Wait + Sync, G: Gate + Sync>(
-    rt: &R,
-    alloc: Global,
-    opened: Opened,
-    workers: usize,
-    gate: &G,
-) -> Result<Opened, NoMemory>
-    requires workers { 0 < workers }
-    requires fresh { IsFresh opened.plan opened.cores.items (rows_of opened.logs.items) }
-    requires none { length opened.plan.agents ≡ 0 → opened.cores.items ≡ [] }
-    ensures plan { IfOk result (λ left. left.plan ≡ opened.plan) }
-    ensures goes { IfOk result (λ left. Goes left.plan left.cores.items (rows_of left.logs.items)) }
-    ensures none { IfOk result (λ left. length left.plan.agents ≡ 0 → left.cores.items ≡ []) }
-{
     if opened.plan.agents().is_empty() {
-        return Ok(opened);
+        return go_on(alloc, opened, &NoGate);
     }
-    shared(rt, alloc, opened, workers, gate)
+    let left = shared(rt, alloc, opened, workers, gate)?;
+    go_on(alloc, left, &NoGate)
 }
 
 // How far the workers bring the run of some agents, at centres that they share.
