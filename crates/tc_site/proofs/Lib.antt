@@ -9,5 +9,6 @@ pub mod Told
 pub mod Putting
 pub mod Seeing
 pub mod Polled
+pub mod Becoming
 pub mod Pausing
 pub mod Sends
