@@ -1,3 +1,4 @@
+pub mod Founded
 pub mod Opening
 pub mod Sweeps
 pub mod Dealt
