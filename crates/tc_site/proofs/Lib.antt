@@ -1,3 +1,4 @@
+pub mod Founded
 pub mod Opening
 pub mod Sweeps
 pub mod Dealt
@@ -9,5 +10,6 @@ pub mod Told
 pub mod Putting
 pub mod Seeing
 pub mod Polled
+pub mod Becoming
 pub mod Pausing
 pub mod Sends

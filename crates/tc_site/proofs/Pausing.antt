@@ -41,7 +41,7 @@ pub may-pause : {W : Type 0} (d : AgentState W) → IsDesk d → IsSite d.site.n
     → MayPause d place t p
 may-pause d is site place t p inside at-t value free =
     let name = slice_get_inside d.site.names place inside in
-    let at-p : slice_get d.passes place ≡ Some p = at-pass d site is place name.0 p name.1 value in
+    let at-p : slice_get d.passes place ≡ Some p = at-pass is site place name.1 value in
     record {
       centre = name.0;
       named = name.1;

@@ -404,16 +404,14 @@ module _ {W : Type 0} (d : AgentState W) (is : IsDesk d) (site : IsSite d.site.n
     polled-read log (Err fault.NoMemory) came read = subst IsRead (sym came.1) read
     polled-read log (Err fault.Idle) came read = absurd came
 
-    pub polled-keeps : (log : List LogRow) (r : Result Seen DeskFault) (pending : Option WaitingAt) (s : AgentState W) → d ≡ s → is_none s.held ≡ true
-        → IsPolled t w.row p waiting.row_is.centre d.log r q log
-        → Keeps (desk_of s) (desk_of (record { site = d.site; agent = d.agent; passes = set d.passes w.centre q; log = log; pending = pending; held = d.held }))
-    polled-keeps log r pending s same none came =
-        keeps-gone d w.centre p q at-p log pending s same none (length d.log) (polled-grown log r came) (polled-read log r came)
+    pub polled-keeps : (log : List LogRow) (r : Result Seen DeskFault) → (desk_of d).free ≡ true → IsPolled t w.row p waiting.row_is.centre d.log r q log
+        → Keeps (desk_of d) (desk_of (record { site = d.site; agent = d.agent; passes = set d.passes w.centre q; log = log; pending = still_of w r; held = d.held }))
+    polled-keeps log r none came =
+        keeps-gone d w.centre p q at-p log (still_of w r) d refl none (length d.log) (polled-grown log r came) (polled-read log r came)
 
-    pub polled-spends : (log : List LogRow) (r : Result Seen DeskFault) (pending : Option WaitingAt) (s : AgentState W) → d ≡ s
-        → IsPolled t w.row p waiting.row_is.centre d.log r q log
-        → Spends 1 (desk_of s) (desk_of (record { site = d.site; agent = d.agent; passes = set d.passes w.centre q; log = log; pending = pending; held = d.held }))
-    polled-spends log r pending s same came = spends-gone d w.centre p q at-p log pending s same (polled-goes log r came)
+    pub polled-spends : (log : List LogRow) (r : Result Seen DeskFault) → IsPolled t w.row p waiting.row_is.centre d.log r q log
+        → Spends 1 (desk_of d) (desk_of (record { site = d.site; agent = d.agent; passes = set d.passes w.centre q; log = log; pending = still_of w r; held = d.held }))
+    polled-spends log r came = spends-gone d w.centre p q at-p log (still_of w r) d refl (polled-goes log r came)
 
     decided-one : (permits : W → ℕ → ℕ → Primitive → Option ℕ) (result : LogResult) (log : List LogRow) → log ≡ with_row d.log centre None result
         → IsSound permits d.site d.agent d.log → IsSound permits d.site d.agent log

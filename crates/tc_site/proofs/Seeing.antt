@@ -3,7 +3,7 @@ use Rattle.std.proofs.Common.{◌≡◌, ℕ, zero, suc, ◌+◌, ◌-◌, ◌<�
 use Rattle.std.specs.List.{slice_get, slice_index}
 use Rattle.std.specs.Option.{is_none}
 use mathlib.Core.List.{IsPrefix}
-use Rattle.std.proofs.lemmas.Bool.{cases_eq, false≢true}
+use Rattle.std.proofs.lemmas.Bool.{cases_eq}
 use Rattle.std.proofs.lemmas.List.{append-nil, length-append, length-map, length-set, set-get_or}
 use Rattle.std.proofs.lemmas.List.Elements.{All-nil}
 use Rattle.std.proofs.lemmas.List.Folds.{list_any-append}
@@ -31,16 +31,17 @@ use Rattle.tc_model.specs.declared.entries.Entry.TheVariants.{Called}
 use Rattle.tc_model.specs.declared.outcomes.Outcome.TheVariants as outcome
 use Rattle.tc_model.specs.declared.outcomes.Reply.TheVariants as reply
 use Rattle.tc_shared.specs.Passes as passes
-use Rattle.tc_shared.specs.Passes.{IsPassOf, IsSpent, Sees, call_id}
+use Rattle.tc_shared.specs.Passes.{IsSpent, Sees, call_id}
 use Rattle.tc_turn.specs.Passes.{TurnstileState, PassState}
 use Rattle.tc_site.specs.Desks.{AgentState, IsDesk, IsSound, IsWaitingAt, Permits, WaitsAt, desk_of, is_held}
-use Rattle.tc_site.specs.Looking.{HasPut, HasWaitedInVain, IsLook, IsWait, left_of, still_of}
+use Rattle.tc_site.specs.Looking.{HasPut, HasWaitedInVain, IsLook, IsWait, MayLook, left_of, still_of}
 use Rattle.tc_site.specs.Sites.{AgreesSeen, ArePasses, IsOwnPass, IsSite, histories_of, origins_of}
 use Rattle.tc_site.specs.Turns.{HasGrown}
 use Rattle.tc_site.specs.declared.waiting.WaitingAt.{WaitingAt}
 use Rattle.tc_site.proofs.Calling.{are-set, longer-set}
 use Rattle.tc_lists.proofs.Sets.{slice_get-map_at, slice_get-map_from, slice_get-set_other, slice_get-set_same}
 use Rattle.tc_site.proofs.Putting.{one_place, put-contains, put-decided, put-read, put-settled, unserved-settled}
+use Rattle.tc_site.proofs.Turned.{none-held}
 
 -- the pass q is p, which has seen more; its agent has made nothing more
 pub record HasSeen (p q : PassState Entry Origin) : Type 0 where
@@ -553,24 +554,20 @@ module _ {W : Type 0} (d : AgentState W) (is : IsDesk d) (site : IsSite d.site.n
       wait-became log (Err fault.Idle) at wait = absurd wait
       wait-became log (Err (fault.Full weight pending)) at wait = absurd wait
 
-none-held : (held : Option ℕ) (k : ℕ) → is_none held ≡ true → is_held held k ≡ false
-none-held None k none = refl
-none-held (Some place) k none = absurd (false≢true none)
-
 -- the desk holds no turn, its row at w is pending, and these are the centre of that and the pass
 pub record HasPass {W : Type 0} (d : AgentState W) (w : WaitingAt) (t : TurnstileState Origin) (p : PassState Entry Origin) : Type 0 where
   pub waiting : IsWaitingAt d.site.names d.log w
   pub at_centre : slice_get d.site.centres w.centre ≡ Some t
   pub at_pass : slice_get d.passes w.centre ≡ Some p
   pub at_row : slice_get d.log w.row ≡ Some waiting.row_is
-  pub own : IsPassOf t p
-  pub held : p.holds ≡ false
-  pub called : HasCall (call_id p (w.row + 1)) p.seen
+  pub free : is_none d.held ≡ true
+  pub may : MayLook t p d.log w.row
 
-pub has-pass : {W : Type 0} (d : AgentState W) → IsDesk d → IsSite d.site.names d.site.centres d.site.roles → (w : WaitingAt)
-    (t : TurnstileState Origin) (p : PassState Entry Origin) → d.pending ≡ Some w → slice_get d.site.centres w.centre ≡ Some t
-    → p ≡ get_or d.passes w.centre p → (desk_of d).free ≡ true → HasPass d w t p
-has-pass d is site w t p at at-t value free =
+pub has-pass : {W : Type 0} {d s : AgentState W} {w : WaitingAt} {t : TurnstileState Origin} {p : PassState Entry Origin} → IsDesk d → d ≡ s
+    → is_none s.held ≡ true → IsSite d.site.names d.site.centres d.site.roles → d.pending ≡ Some w → slice_get d.site.centres w.centre ≡ Some t
+    → p ≡ get_or d.passes w.centre p → HasPass d w t p
+has-pass {W = W} {d = d} {w = w} {t = t} {p = p} is same free site at at-t value =
+    let none : is_none d.held ≡ true = ap (λ (x : AgentState W). is_none x.held) same ∙ free in
     let waiting : IsWaitingAt d.site.names d.log w = subst (WaitsAt d.site.names d.log) at is.waits in
     let at-p : slice_get d.passes w.centre ≡ Some p =
     slice_get_read d.passes (length d.passes) w.centre p refl (waits-pass d is site w waiting) value in
@@ -579,7 +576,11 @@ has-pass d is site w t p at at-t value free =
       at_centre = at-t;
       at_pass = at-p;
       at_row = stands d is site w waiting;
-      own = (own-pass d is site w waiting t p at-t at-p).own;
-      held = is.holds w.centre p at-p ∙ none-held d.held w.centre free;
-      called = waits-called d is site w waiting t p at-t at-p;
+      free = none;
+      may = record {
+        own = (own-pass d is site w waiting t p at-t at-p).own;
+        free = is.holds w.centre p at-p ∙ none-held d.held w.centre none;
+        inside = waits-row d is site w waiting;
+        called = waits-called d is site w waiting t p at-t at-p;
+      };
     }

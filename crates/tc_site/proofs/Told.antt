@@ -201,9 +201,10 @@ pushed result log before after centre name ask asked same named copied is =
     ∙ ap (λ a. with_row log centre (Some a) result) copied
 
 -- an agent has a pass of the centre of each name
-pub at-pass : {W : Type 0} (d : AgentState W) → IsSite d.site.names d.site.centres d.site.roles → IsDesk d → (place : ℕ) (name : List ℕ)
-    (p : PassState Entry Origin) → slice_get d.site.names place ≡ Some name → p ≡ get_or d.passes place p → slice_get d.passes place ≡ Some p
-at-pass d whole is place name p named value =
+pub at-pass : {W : Type 0} {d : AgentState W} {name : List ℕ} {p : PassState Entry Origin} → IsDesk d
+    → IsSite d.site.names d.site.centres d.site.roles → (place : ℕ) → slice_get d.site.names place ≡ Some name
+    → p ≡ get_or d.passes place p → slice_get d.passes place ≡ Some p
+at-pass {d = d} {name = name} {p = p} is whole place named value =
     let inside = slice_get_within d.site.names place name named in
     let many = whole.whole in
     let wide = is.are.wide in

@@ -246,8 +246,10 @@ module _ {W : Type 0} (d : AgentState W) (is : IsDesk d) (site : IsSite d.site.n
       waits = is.waits;
     }
 
-    pub desk-seen : SeesRoom t p q → IsDesk (record d { passes = set d.passes place q })
-    desk-seen room = desk-longer (grown-sees t p q (length d.log) room.sees) (ap (λ (x : PassState Entry Origin). x.mine) room.sees.after)
+    pub desk-seen : {log : List LogRow} → log ≡ d.log → SeesRoom t p q → IsDesk (record d { passes = set d.passes place q; log = log })
+    desk-seen log-is room =
+        subst (λ l. IsDesk (record d { passes = set d.passes place q; log = l })) (sym log-is)
+        (desk-longer (grown-sees t p q (length d.log) room.sees) (ap (λ (x : PassState Entry Origin). x.mine) room.sees.after))
 
     -- what the agent has made at this centre has its rows, with one row more
     pub rows-same : (row : LogRow) → q.mine ≡ p.mine → All (HasRow (d.log ++ row ∷ []) centre) q.mine
@@ -400,11 +402,14 @@ module _ {W : Type 0} (d : AgentState W) (is : IsDesk d) (site : IsSite d.site.n
       turn-rows (Polled told) turn = absurd turn
 
       -- after a turn in which the call has come to this
-      pub desk-turned : (became : LogResult) → any_pending d.log ≡ false → HasGrown (length d.log) p q → IsTurn t p (length d.log + 1) op became q
-          → IsDesk (record d { passes = set d.passes place q; log = with_row d.log centre (Some ask) became; pending = waiting_of became (length d.log) place })
-      desk-turned became idle grown turn =
-          desk-pushed (row-of became) (waiting_of became (length d.log) place) refl refl grown (row-agrees became turn) (turn-rows became turn)
-          (waits-turned d.site.names d.log centre ask place became named idle)
+      pub desk-turned : (became : LogResult) {log : List LogRow} {pending : Option WaitingAt} → log ≡ with_row d.log centre (Some ask) became
+          → pending ≡ waiting_of became (length d.log) place → any_pending d.log ≡ false → HasGrown (length d.log) p q
+          → IsTurn t p (length d.log + 1) op became q → IsDesk (record d { passes = set d.passes place q; log = log; pending = pending })
+      desk-turned became {log = log} log-is pending-is idle grown turn =
+          subst (λ w. IsDesk (record d { passes = set d.passes place q; log = log; pending = w })) (sym pending-is)
+          (subst (λ l. IsDesk (record d { passes = set d.passes place q; log = l; pending = waiting_of became (length d.log) place })) (sym log-is)
+          (desk-pushed (row-of became) (waiting_of became (length d.log) place) refl refl grown (row-agrees became turn) (turn-rows became turn)
+          (waits-turned d.site.names d.log centre ask place became named idle)))
 
 pub longer-same : (agent top : ℕ) (histories : List (List Entry)) → AreLonger agent top histories histories
 longer-same agent top histories = record {
@@ -426,10 +431,9 @@ module _ {W : Type 0} (permits : W → ℕ → ℕ → Primitive → Option ℕ)
   judged-agrees (refusal.BadSpec bad) origin history id other refused = tt
   judged-agrees refusal.NoMemory origin history id other refused = absurd (other refl)
 
-  -- after a call that was refused before its turn
-  pub desk-refused : (why : Refusal) → (why ≡ refusal.NoMemory → ⊥) → IsRefusedFor permits d.site d.agent waits centre asked why
+  row-refused : (why : Refusal) → (why ≡ refusal.NoMemory → ⊥) → IsRefusedFor permits d.site d.agent waits centre asked why
       → IsDesk (record d { log = with_row d.log centre (Some ask) (Refused why) })
-  desk-refused why other refused =
+  row-refused why other refused =
       let row : LogRow = record { number = length d.log + 1; centre = centre; ask = Some ask; result = Refused why } in
       let next : IsNextRow (origins_of d.site.centres) d.site.names (histories_of d.passes) d.agent d.log row = record {
         counted = refl;
@@ -444,3 +448,8 @@ module _ {W : Type 0} (permits : W → ℕ → ℕ → Primitive → Option ℕ)
             (λ k name history at there. HaveRow-longer d.log (row ∷ []) name (calls_of d.agent history) (is.agrees.calls k name history at there));
         waits = waits-refused d.site.names d.log centre ask why d.pending is.waits;
       }
+
+  -- after a call that was refused before its turn
+  pub desk-refused : (why : Refusal) {log : List LogRow} → log ≡ with_row d.log centre (Some ask) (Refused why) → (why ≡ refusal.NoMemory → ⊥)
+      → IsRefusedFor permits d.site d.agent waits centre asked why → IsDesk (record d { log = log })
+  desk-refused why log-is other refused = subst (λ l. IsDesk (record d { log = l })) (sym log-is) (row-refused why other refused)

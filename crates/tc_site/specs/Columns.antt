@@ -1,5 +1,6 @@
 -- The passes of a site by columns: each agent has one column, with a pass for each centre, in order.
-use Rattle.std.specs.Prelude.{◌≡◌, ℕ, suc, ◌≤◌, false, List, [], ◌∷◌, ◌++◌, All, length, map, Some, slice_get, Vec}
+use Rattle.std.specs.Prelude.{◌≡◌, ℕ, suc, ◌≤◌, false, List, [], ◌∷◌, ◌++◌}
+use Rattle.std.specs.Prelude.{All, length, map, Some, slice_get, Vec}
 use Rattle.std.specs.Global.{Global}
 use mathlib.Core.List.{IsPrefix}
 use Rattle.tc_centre.specs.Centre.{Centre}
@@ -37,15 +38,16 @@ pub record AreOpened (agents : ℕ) (cores : List Centre) (centres : List (Turns
   pub fresh : AreFreshColumns centres columns
 
 -- each column has passes of its agent, none of which holds a turn
-pub record AreColumns (centres : List (TurnstileState Origin)) (columns : List (List (PassState Entry Origin)))
-    : Type 0 where
+pub record AreColumns (centres : List (TurnstileState Origin))
+    (columns : List (List (PassState Entry Origin))) : Type 0 where
   pub are : (agent : ℕ) (column : List (PassState Entry Origin)) → slice_get columns agent ≡ Some column
       → ArePasses agent centres column
   pub free : (agent : ℕ) (column : List (PassState Entry Origin)) → slice_get columns agent ≡ Some column
       → All (λ (p : PassState Entry Origin). p.holds ≡ false) column
 
 -- the column's last pass is the agent's pass of this centre, and holds no turn
-pub record HasLast (t : TurnstileState Origin) (agent : ℕ) (column : List (PassState Entry Origin)) : Type 0 where
+pub record HasLast (t : TurnstileState Origin) (agent : ℕ) (column : List (PassState Entry Origin))
+    : Type 0 where
   pub front : List (PassState Entry Origin)
   pub p : PassState Entry Origin
   pub is : column ≡ front ++ p ∷ []
@@ -53,8 +55,8 @@ pub record HasLast (t : TurnstileState Origin) (agent : ℕ) (column : List (Pas
   pub free : p.holds ≡ false
 
 abbrev pub HaveLasts : TurnstileState Origin → List (List (PassState Entry Origin)) → Type 0
-HaveLasts t columns = (agent : ℕ) (column : List (PassState Entry Origin)) → slice_get columns agent ≡ Some column
-    → HasLast t agent column
+HaveLasts t columns = (agent : ℕ) (column : List (PassState Entry Origin))
+    → slice_get columns agent ≡ Some column → HasLast t agent column
 
 -- the column lost its last pass, the agent's of this centre, which has ended
 pub record LosesLast (t : TurnstileState Origin) (agent : ℕ) (old : List (PassState Entry Origin))
@@ -78,16 +80,16 @@ pub record IsSeenBy (history : List Entry) (agent : ℕ) (p : PassState Entry Or
   pub seen : IsPrefix p.seen history
   pub mine : calls_of agent history ≡ calls_of agent p.seen
 
--- what is left of a centre that was closed: it begins as the centre did, its history is at rest, and nobody but the
--- agents has made an entry
+-- what is left of a centre that was closed: it begins as the centre did, its history is at rest, and nobody
+-- but the agents has made an entry
 pub record IsLeftOf (t : TurnstileState Origin) (core : Centre) : Type 0 where
   pub origin_is : core.origin ≡ t.origin
   pub rest : IsAtRest core.origin core.history
   pub others : (agent : ℕ) → t.passes ≤ agent → calls_of agent core.history ≡ []
 
 -- the centre was closed, once the last pass of each column had ended
-pub record IsClosedOver (t : TurnstileState Origin) (olds : List (List (PassState Entry Origin))) (core : Centre)
-    (news : List (List (PassState Entry Origin))) : Type 0 where
+pub record IsClosedOver (t : TurnstileState Origin) (olds : List (List (PassState Entry Origin)))
+    (core : Centre) (news : List (List (PassState Entry Origin))) : Type 0 where
   pub left : IsLeftOf t core
   pub whole : length news ≡ length olds
   pub each : (agent : ℕ) (old new : List (PassState Entry Origin)) → slice_get olds agent ≡ Some old
@@ -103,8 +105,8 @@ pub record IsClosedAt (columns : List (List (PassState Entry Origin))) (place : 
       → IsSeenBy core.history agent p
 
 -- what is left of these centres, of which the first is at this place
-abbrev pub AreClosedFrom : List (List (PassState Entry Origin)) → ℕ → List (TurnstileState Origin) → List Centre
-    → Type 0
+abbrev pub AreClosedFrom : List (List (PassState Entry Origin)) → ℕ → List (TurnstileState Origin)
+    → List Centre → Type 0
 AreClosedFrom columns place [] [] = Unit {0}
 AreClosedFrom columns place [] (core ∷ cores) = ⊥
 AreClosedFrom columns place (t ∷ ts) [] = ⊥

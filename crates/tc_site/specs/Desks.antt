@@ -18,8 +18,8 @@ use Rattle.tc_turn.specs.Passes.{PassState}
 use Rattle.tc_site.specs.Sites.{SiteState, ArePasses, AgreesSeen, TURNS, histories_of}
 use Rattle.tc_site.specs.declared.waiting.WaitingAt.{WaitingAt}
 
--- an agent's desk: its site, the agent, its passes, its log, where it has a pending row, and at which centre it
--- holds a turn
+-- an agent's desk: its site, the agent, its passes, its log, where it has a pending row, and at which centre
+-- it holds a turn
 pub record AgentState (W : Type 0) : Type 0 where
   pub site : SiteState W
   pub agent : ℕ
@@ -52,8 +52,8 @@ desk_of d = record {
   free = is_none d.held;
 }
 
--- the row at this place alone is pending, and it is one of this centre; no row behind it was served, but there may be
--- refused ones and ones that polled
+-- the row at this place alone is pending, and it is one of this centre; no row behind it was served, but
+-- there may be refused ones and ones that polled
 pub record IsWaitingAt (names : List (List ℕ)) (log : List LogRow) (w : WaitingAt) : Type 0 where
   pub front : List LogRow
   pub row_is : LogRow
@@ -75,21 +75,24 @@ abbrev pub is_held : Option ℕ → ℕ → Bool
 is_held None k = false
 is_held (Some place) k = nat_eq place k
 
--- what the type promises of a desk: the passes are the agent's, the turn that is held is known, the log agrees with
--- what the passes have seen, and so is the row that is pending
+-- what the type promises of a desk: the passes are the agent's, the turn that is held is known, the log
+-- agrees with what the passes have seen, and the row that is pending is known
 pub record IsDesk {W : Type 0} (d : AgentState W) : Type 0 where
   pub agent_is : d.agent < length d.site.roles
   pub are : ArePasses d.agent d.site.centres d.passes
-  pub holds : (k : ℕ) (p : PassState Entry Origin) → slice_get d.passes k ≡ Some p → p.holds ≡ is_held d.held k
+  pub holds : (k : ℕ) (p : PassState Entry Origin) → slice_get d.passes k ≡ Some p
+      → p.holds ≡ is_held d.held k
   pub agrees : AgreesSeen d.site.centres d.site.names d.passes d.agent d.log
   pub waits : WaitsAt d.site.names d.log d.pending
 
 -- the warden permits the role to use the primitive on the centre
 abbrev pub Permits : {W : Type 0} → (W → ℕ → ℕ → Primitive → Option ℕ) → W → ℕ → ℕ → Primitive → Type 0
-Permits permits warden role place primitive = (number : ℕ) × (permits warden role place primitive ≡ Some number)
+Permits permits warden role place primitive =
+    (number : ℕ) × (permits warden role place primitive ≡ Some number)
 
 -- the log is decided by the site's warden, for the agent's role
-abbrev pub IsSound : {W : Type 0} → (W → ℕ → ℕ → Primitive → Option ℕ) → SiteState W → ℕ → List LogRow → Type 0
+abbrev pub IsSound : {W : Type 0} → (W → ℕ → ℕ → Primitive → Option ℕ) → SiteState W → ℕ → List LogRow
+    → Type 0
 IsSound permits s agent log = (role : ℕ) → slice_get s.roles agent ≡ Some role
     → IsDecided (Permits permits s.warden role) s.names log
 

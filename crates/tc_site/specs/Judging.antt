@@ -20,7 +20,8 @@ fault_of fault.NoMemory = refusal.NoMemory
 
 module _ {W : Type 0} (permits : W → ℕ → ℕ → Primitive → Option ℕ) where
   -- the agent, of which no ask waits, may ask this of the centre at the place
-  pub record IsAllowed (s : SiteState W) (agent : ℕ) (waits : Bool) (centre : List ℕ) (ask : Ask) (place : ℕ) : Type 0 where
+  pub record IsAllowed (s : SiteState W) (agent : ℕ) (waits : Bool) (centre : List ℕ) (ask : Ask)
+      (place : ℕ) : Type 0 where
     pub named : slice_get s.names place ≡ Some centre
     pub idle : waits ≡ false
     pub role : ℕ
@@ -28,7 +29,8 @@ module _ {W : Type 0} (permits : W → ℕ → ℕ → Primitive → Option ℕ)
     pub may : Permits permits s.warden role place (primitive_of ask)
 
   -- nothing permits it
-  pub record IsDenied (s : SiteState W) (agent : ℕ) (waits : Bool) (centre : List ℕ) (ask : Ask) : Type 0 where
+  pub record IsDenied (s : SiteState W) (agent : ℕ) (waits : Bool) (centre : List ℕ) (ask : Ask)
+      : Type 0 where
     pub place : ℕ
     pub named : slice_get s.names place ≡ Some centre
     pub idle : waits ≡ false
@@ -37,7 +39,8 @@ module _ {W : Type 0} (permits : W → ℕ → ℕ → Primitive → Option ℕ)
     pub may_not : Permits permits s.warden role place (primitive_of ask) → ⊥
 
   -- the ask may be made, but its operand isn't one
-  pub record IsFaulty (s : SiteState W) (agent : ℕ) (waits : Bool) (centre : List ℕ) (ask : Ask) (why : Type 0) : Type 0 where
+  pub record IsFaulty (s : SiteState W) (agent : ℕ) (waits : Bool) (centre : List ℕ) (ask : Ask)
+      (why : Type 0) : Type 0 where
     pub place : ℕ
     pub allowed : IsAllowed s agent waits centre ask place
     pub is : why
@@ -47,9 +50,12 @@ module _ {W : Type 0} (permits : W → ℕ → ℕ → Primitive → Option ℕ)
   IsRefusedFor s agent waits centre ask refusal.UnknownCentre = Contains s.names centre → ⊥
   IsRefusedFor s agent waits centre ask refusal.Waiting = Contains s.names centre × (waits ≡ true)
   IsRefusedFor s agent waits centre ask refusal.Denied = IsDenied s agent waits centre ask
-  IsRefusedFor s agent waits centre ask refusal.TooBig = IsFaulty s agent waits centre ask (OpOf ask TooBig)
-  IsRefusedFor s agent waits centre ask refusal.NotGround = IsFaulty s agent waits centre ask (OpOf ask NotGround)
-  IsRefusedFor s agent waits centre ask (refusal.BadSpec bad) = IsFaulty s agent waits centre ask (OpOf ask (Faulty bad))
+  IsRefusedFor s agent waits centre ask refusal.TooBig =
+      IsFaulty s agent waits centre ask (OpOf ask TooBig)
+  IsRefusedFor s agent waits centre ask refusal.NotGround =
+      IsFaulty s agent waits centre ask (OpOf ask NotGround)
+  IsRefusedFor s agent waits centre ask (refusal.BadSpec bad) =
+      IsFaulty s agent waits centre ask (OpOf ask (Faulty bad))
   IsRefusedFor s agent waits centre ask refusal.TurnsSpent = ⊥
   IsRefusedFor s agent waits centre ask (refusal.Full weight pending) = ⊥
   IsRefusedFor s agent waits centre ask refusal.NoMemory = Unit {0}

@@ -1,4 +1,5 @@
 pub mod Sites
+pub mod Founding
 pub mod Columns
 pub mod Desks
 pub mod Judging

@@ -1,5 +1,5 @@
 -- What a look for the reply to a pending row makes of a pass and a log.
-use Rattle.std.specs.Prelude.{◌≡◌, ℕ, ◌+◌, ◌<◌, List, ◌∷◌, ◌++◌, length, Option, Some, None, Ok, Err}
+use Rattle.std.specs.Prelude.{◌≡◌, ℕ, ◌+◌, ◌<◌, false, List, ◌∷◌, ◌++◌, length, Option, Some, None, Ok, Err}
 use Rattle.std.specs.declared.result.Result.{Result}
 use Rattle.tc_desk.specs.Desks.{replied}
 use Rattle.tc_desk.specs.declared.desks.DeskFault.{DeskFault}
@@ -8,26 +8,37 @@ use Rattle.tc_desk.specs.declared.desks.Seen.{Seen}
 use Rattle.tc_desk.specs.declared.desks.Seen.TheVariants as seen
 use Rattle.tc_desk.specs.declared.rows.LogRow.{LogRow}
 use Rattle.tc_model.specs.Replies.{reply_in}
+use Rattle.tc_model.specs.Run.{HasCall}
 use Rattle.tc_model.specs.State.{Origin}
 use Rattle.tc_model.specs.declared.entries.Entry.{Entry}
 use Rattle.tc_model.specs.declared.outcomes.Reply.{Reply}
-use Rattle.tc_shared.specs.Passes.{IsSpent, Sees, call_id}
+use Rattle.tc_shared.specs.Passes.{IsPassOf, IsSpent, Sees, call_id}
 use Rattle.tc_turn.specs.Passes.{TurnstileState, PassState}
 use Rattle.tc_site.specs.declared.waiting.WaitingAt.{WaitingAt}
 
+-- the pass is of the centre, holds no turn, and has seen the call of the log's row at a place
+pub record MayLook (t : TurnstileState Origin) (p : PassState Entry Origin) (log : List LogRow) (place : ℕ)
+    : Type 0 where
+  pub own : IsPassOf t p
+  pub free : p.holds ≡ false
+  pub inside : place < length log
+  pub called : HasCall (call_id p (place + 1)) p.seen
+
 -- the log with this reply in the row at a place
 abbrev pub IsPut : List LogRow → ℕ → Reply → List LogRow → Type 0
-IsPut log place reply after = (front : List LogRow) (row : LogRow) (back : List LogRow) → log ≡ front ++ row ∷ back
-    → place ≡ length front → after ≡ front ++ replied row reply ∷ back
+IsPut log place reply after = (front : List LogRow) (row : LogRow) (back : List LogRow)
+    → log ≡ front ++ row ∷ back → place ≡ length front → after ≡ front ++ replied row reply ∷ back
 
 -- the call of the row at a place has a reply in what the pass q has seen, and its row has got it
-pub record HasPut (place : ℕ) (log : List LogRow) (q : PassState Entry Origin) (after : List LogRow) : Type 0 where
+pub record HasPut (place : ℕ) (log : List LogRow) (q : PassState Entry Origin) (after : List LogRow)
+    : Type 0 where
   pub reply : Reply
   pub told : reply_in q.seen (call_id q (place + 1)) ≡ Some reply
   pub put : IsPut log place reply after
 
 -- it has none, and the log is as it was
-pub record HasNone (place : ℕ) (log : List LogRow) (q : PassState Entry Origin) (after : List LogRow) : Type 0 where
+pub record HasNone (place : ℕ) (log : List LogRow) (q : PassState Entry Origin) (after : List LogRow)
+    : Type 0 where
   pub none : reply_in q.seen (call_id q (place + 1)) ≡ None
   pub same : after ≡ log
 
@@ -48,15 +59,16 @@ still_of w (Ok seen.StillPending) = Some w
 still_of w (Err why) = Some w
 
 -- why a wait put no reply: no turn is left, and if one was, the call has no reply in what the pass has seen
-pub record HasWaitedInVain (place : ℕ) (p : PassState Entry Origin) (log : List LogRow) (q : PassState Entry Origin) (after : List LogRow)
-    : Type 0 where
+pub record HasWaitedInVain (place : ℕ) (p : PassState Entry Origin) (log : List LogRow)
+    (q : PassState Entry Origin) (after : List LogRow) : Type 0 where
   pub spent : q.turns ≡ 0
   pub same : p.turns ≡ 0 → q ≡ p
   pub none : 0 < p.turns → reply_in q.seen (call_id p (place + 1)) ≡ None
   pub log_same : after ≡ log
 
 -- what came of a wait
-abbrev pub IsWait : {A : Type 0} → ℕ → PassState Entry Origin → List LogRow → Result A DeskFault → PassState Entry Origin → List LogRow → Type 0
+abbrev pub IsWait : {A : Type 0} → ℕ → PassState Entry Origin → List LogRow → Result A DeskFault
+    → PassState Entry Origin → List LogRow → Type 0
 IsWait place p log (Ok done) q after = HasPut place log q after
 IsWait place p log (Err fault.TurnsSpent) q after = HasWaitedInVain place p log q after
 IsWait place p log (Err fault.NoMemory) q after = after ≡ log

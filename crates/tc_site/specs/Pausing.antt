@@ -17,9 +17,10 @@ pub record HoldsTurn {W : Type 0} (d : AgentState W) (place : ℕ) (core : Centr
   pub at_pass : slice_get d.passes place ≡ Some p
   pub paused : IsPausedOf t core p
 
--- the desk took one turn at the centre of this place, and holds it, with this core; of its passes this one alone has gone
--- on, and all else is as it was
-pub record Pauses {W : Type 0} (d : AgentState W) (place : ℕ) (core : Centre) (e : AgentState W) : Type 0 where
+-- the desk took one turn at the centre of this place, and holds it, with this core; of its passes this one
+-- alone has gone on, and all else is as it was
+pub record Pauses {W : Type 0} (d : AgentState W) (place : ℕ) (core : Centre) (e : AgentState W)
+    : Type 0 where
   pub t : TurnstileState Origin
   pub p : PassState Entry Origin
   pub q : PassState Entry Origin

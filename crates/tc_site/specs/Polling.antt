@@ -17,18 +17,19 @@ use Rattle.tc_shared.specs.Passes.{IsSpent, Sees, SeesFull, Tells}
 use Rattle.tc_turn.specs.Passes.{TurnstileState, PassState}
 use Rattle.tc_site.specs.Looking.{IsPut}
 
--- the poll told the reply to the call of the row at a place: that row has got it, and behind the log stands a row of the
--- poll, of this centre
-pub record HasToldReply (t : TurnstileState Origin) (place : ℕ) (p : PassState Entry Origin) (centre : List ℕ) (log : List LogRow)
-    (q : PassState Entry Origin) (after : List LogRow) : Type 0 where
+-- the poll told the reply to the call of the row at a place: that row has got it, and behind the log stands
+-- a row of the poll, of this centre
+pub record HasToldReply (t : TurnstileState Origin) (place : ℕ) (p : PassState Entry Origin)
+    (centre : List ℕ) (log : List LogRow) (q : PassState Entry Origin) (after : List LogRow)
+    : Type 0 where
   pub reply : Reply
   pub again : Reply
   pub tells : Tells t p (length log + 1) (place + 1) (poll.Answered reply again) q
   pub put : IsPut (with_row log centre None (Polled (Some again))) place reply after
 
 -- what came of one poll; where memory ran out before its turn, the pass is as it was
-abbrev pub IsPolled : TurnstileState Origin → ℕ → PassState Entry Origin → List ℕ → List LogRow → Result Seen DeskFault
-    → PassState Entry Origin → List LogRow → Type 0
+abbrev pub IsPolled : TurnstileState Origin → ℕ → PassState Entry Origin → List ℕ → List LogRow
+    → Result Seen DeskFault → PassState Entry Origin → List LogRow → Type 0
 IsPolled t place p centre log (Ok seen.Answered) q after = HasToldReply t place p centre log q after
 IsPolled t place p centre log (Ok seen.StillPending) q after =
     Tells t p (length log + 1) (place + 1) poll.NotYet q × (after ≡ with_row log centre None (Polled None))

@@ -1,5 +1,6 @@
 -- What contracts see of a site, of its kits and of the desks that have ended.
-use Rattle.std.specs.Prelude.{◌≡◌, ◌≢◌, ℕ, ◌<◌, ◌^◌, false, List, [], All, AllPairs, length, map, Some, slice_get, Vec}
+use Rattle.std.specs.Prelude.{◌≡◌, ◌≢◌, ℕ, ◌<◌, ◌^◌, false, List, [], All, AllPairs}
+use Rattle.std.specs.Prelude.{length, map, Some, slice_get, Vec}
 use Rattle.std.specs.Global.{Global}
 use Rattle.tc_centre.specs.Centre.{Centre}
 use Rattle.tc_config.specs.declared.configs.AgentConf.{AgentConf}
@@ -23,7 +24,8 @@ pub record HasPasses (agents : ℕ) (t : TurnstileState Origin) : Type 0 where
   pub agents_are : length t.origin.agents ≡ agents
 
 -- each centre has a name of its own, and a pass for each agent
-pub record IsSite (names : List (List ℕ)) (centres : List (TurnstileState Origin)) (roles : List ℕ) : Type 0 where
+pub record IsSite (names : List (List ℕ)) (centres : List (TurnstileState Origin)) (roles : List ℕ)
+    : Type 0 where
   pub whole : length names ≡ length centres
   pub differ : AllPairs ◌≢◌ names
   pub few : length centres < 2 ^ 32
@@ -43,8 +45,8 @@ pub record IsOwnPass (agent : ℕ) (t : TurnstileState Origin) (p : PassState En
   pub number : p.number ≡ agent
 
 -- the agent has one pass for each centre, in order
-pub record ArePasses (agent : ℕ) (centres : List (TurnstileState Origin)) (passes : List (PassState Entry Origin))
-    : Type 0 where
+pub record ArePasses (agent : ℕ) (centres : List (TurnstileState Origin))
+    (passes : List (PassState Entry Origin)) : Type 0 where
   pub wide : length passes ≡ length centres
   pub each : (k : ℕ) (t : TurnstileState Origin) (p : PassState Entry Origin) → slice_get centres k ≡ Some t
       → slice_get passes k ≡ Some p → IsOwnPass agent t p
@@ -54,8 +56,8 @@ abbrev pub TURNS : ℕ
 TURNS = 4294967295
 
 -- the passes have taken no turn
-pub record AreFresh (agent : ℕ) (centres : List (TurnstileState Origin)) (passes : List (PassState Entry Origin))
-    : Type 0 where
+pub record AreFresh (agent : ℕ) (centres : List (TurnstileState Origin))
+    (passes : List (PassState Entry Origin)) : Type 0 where
   pub are : ArePasses agent centres passes
   pub fresh : (k : ℕ) (t : TurnstileState Origin) (p : PassState Entry Origin) → slice_get centres k ≡ Some t
       → slice_get passes k ≡ Some p → p ≡ new_pass t.table t.origin TURNS agent
@@ -72,8 +74,8 @@ pub record EndedState (W : Type 0) : Type 0 where
   pub log : List LogRow
 
 -- the log agrees with what the agent's passes have seen
-abbrev pub AgreesSeen : List (TurnstileState Origin) → List (List ℕ) → List (PassState Entry Origin) → ℕ → List LogRow
-    → Type 0
+abbrev pub AgreesSeen : List (TurnstileState Origin) → List (List ℕ) → List (PassState Entry Origin) → ℕ
+    → List LogRow → Type 0
 AgreesSeen centres names passes agent log = Agrees (origins_of centres) names (histories_of passes) agent log
 
 -- the agent's passes hold no turn, and its log agrees with what they have seen
@@ -87,8 +89,10 @@ pub record IsEndedDesk {W : Type 0} (e : EndedState W) (passes : List (PassState
 abbrev pub roles_of : List AgentConf → List ℕ
 roles_of agents = map (λ (a : AgentConf). a.role) agents
 
--- centres may be shared: none has served anything, each has as many agents as there are, and a name of its own
-pub record AreFreshCores (names : List (List ℕ)) (cores : List Centre) (agents : List AgentConf) : Type 0 where
+-- centres may be shared: none has served anything, each has as many agents as there are, and a name of its
+-- own
+pub record AreFreshCores (names : List (List ℕ)) (cores : List Centre) (agents : List AgentConf)
+    : Type 0 where
   pub whole : length names ≡ length cores
   pub differ : AllPairs ◌≢◌ names
   pub few : length cores < 2 ^ 32
@@ -97,8 +101,8 @@ pub record AreFreshCores (names : List (List ℕ)) (cores : List Centre) (agents
   pub agents_are : All (λ (x : Centre). length x.origin.agents ≡ length agents) cores
 
 -- the site has these names, centres that begin as these cores do, the agents' roles, and this warden
-pub record IsSiteOf {W : Type 0} (names : List (List ℕ)) (cores : List Centre) (agents : List AgentConf) (warden : W)
-    (s : SiteState W) : Type 0 where
+pub record IsSiteOf {W : Type 0} (names : List (List ℕ)) (cores : List Centre) (agents : List AgentConf)
+    (warden : W) (s : SiteState W) : Type 0 where
   pub names_are : s.names ≡ names
   pub origins : origins_of s.centres ≡ map (λ (x : Centre). x.origin) cores
   pub roles_are : s.roles ≡ roles_of agents

@@ -21,7 +21,8 @@ use Rattle.tc_turn.specs.Passes.{TurnstileState, PassState}
 use Rattle.tc_site.specs.declared.waiting.WaitingAt.{WaitingAt}
 
 -- why a call was refused in its turn, or for want of one
-abbrev pub IsTurnRefused : TurnstileState Origin → PassState Entry Origin → Refusal → PassState Entry Origin → Type 0
+abbrev pub IsTurnRefused : TurnstileState Origin → PassState Entry Origin → Refusal
+    → PassState Entry Origin → Type 0
 IsTurnRefused t p refusal.TurnsSpent q = IsSpent p q
 IsTurnRefused t p (refusal.Full weight pending) q = SeesFull t p weight pending q
 IsTurnRefused t p refusal.UnknownCentre q = ⊥
@@ -33,7 +34,8 @@ IsTurnRefused t p (refusal.BadSpec bad) q = ⊥
 IsTurnRefused t p refusal.NoMemory q = ⊥
 
 -- what the call of this number has come to
-abbrev pub IsTurn : TurnstileState Origin → PassState Entry Origin → ℕ → Op → LogResult → PassState Entry Origin → Type 0
+abbrev pub IsTurn : TurnstileState Origin → PassState Entry Origin → ℕ → Op → LogResult
+    → PassState Entry Origin → Type 0
 IsTurn t p number op (Replied reply) q = Makes t p number op (answer.Replied reply) q
 IsTurn t p number op Pending q = Makes t p number op answer.Pending q
 IsTurn t p number op (Refused why) q = IsTurnRefused t p why q

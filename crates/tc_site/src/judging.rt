@@ -1,5 +1,6 @@
 //! What is decided of a call before a turn is taken.
-ghost use Rattle.std.specs.Prelude.{◌≡◌, ◌<◌, ◌^◌, IfSome, IfNone, IfOk, IfErr, Contains, Some, slice_get, length};
+ghost use Rattle.std.specs.Prelude.{◌≡◌, ◌<◌, ◌^◌, IfSome, IfNone, IfOk, IfErr};
+ghost use Rattle.std.specs.Prelude.{Contains, Some, slice_get, length};
 ghost use Rattle.tc_desk.specs.Operands.{OpOf, Sound};
 ghost use Rattle.tc_model.specs.Asks.{primitive_of};
 ghost use Rattle.tc_site.specs.Judging.{IsAllowed, IsRefusedFor, fault_of};

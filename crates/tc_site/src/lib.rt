@@ -1,10 +1,11 @@
 //! Sites: shared centres, a desk at them for each agent, and who decides what agents may do.
 //!
-//! A desk keeps its agent's log, which agrees with what its passes have seen of the histories. Desks may be used
-//! in threads of their own. Once each has ended, `close` gives the cores back, and the logs.
+//! `Site::new` makes the site of a configuration, `Site::of_cores` one round cores that are there. A desk
+//! keeps its agent's log, which agrees with what its passes have seen of the histories. Desks may be used in
+//! threads of their own. Once each has ended, `close` gives the cores back, and the logs.
 //!
 //! ```
-//! let (site, kits) = Site::of_cores(alloc, names, cores, &agents, warden)?;
+//! let (site, kits) = Site::new(alloc, &config, warden)?;
 //! // in the thread of each kit:
 //! let mut desk = AgentDesk::new(alloc, &site, kit);
 //! let served = desk.call(rt, alloc, &centre, ask);
@@ -16,6 +17,7 @@
 
 mod closing;
 mod desks;
+mod founding;
 mod judging;
 mod kits;
 mod looking;

@@ -1,8 +1,7 @@
 //! Looks for the reply to a pending row, and waits for it.
-ghost use Rattle.std.specs.Prelude.{◌≡◌, ◌+◌, ◌<◌, false, vec_len};
-ghost use Rattle.tc_model.specs.Run.{HasCall};
-ghost use Rattle.tc_shared.specs.Passes.{IsPassOf, Keeps, Waits, call_id};
-ghost use Rattle.tc_site.specs.Looking.{IsLook, IsPut, IsWait, left_of, still_of};
+ghost use Rattle.std.specs.Prelude.{◌≡◌, ◌<◌, vec_len};
+ghost use Rattle.tc_shared.specs.Passes.{Keeps, Waits};
+ghost use Rattle.tc_site.specs.Looking.{IsLook, IsPut, IsWait, MayLook, left_of, still_of};
 
 use crate::waiting::WaitingAt;
 use std::alloc::Global;
@@ -20,10 +19,7 @@ pub(crate) fn look_for<R: Wait>(
     log: &mut Vec<LogRow>,
     place: usize,
 ) -> Result<Seen, DeskFault>
-    requires own { IsPassOf centre.now pass.old }
-    requires free { pass.old.holds ≡ false }
-    requires inside { place < vec_len log.old }
-    requires called { HasCall (call_id pass.old (place + 1)) pass.old.seen }
+    requires may { MayLook centre.now pass.old log.old.items place }
     ensures looked { IsLook centre.now place pass.old log.old.items result pass.new log.new.items }
     ensures kept { Keeps centre.now pass.old pass.new }
 {
@@ -47,10 +43,7 @@ pub(crate) fn wait_for<R: Wait>(
     log: &mut Vec<LogRow>,
     place: usize,
 ) -> Result<(), DeskFault>
-    requires own { IsPassOf centre.now pass.old }
-    requires free { pass.old.holds ≡ false }
-    requires inside { place < vec_len log.old }
-    requires called { HasCall (call_id pass.old (place + 1)) pass.old.seen }
+    requires may { MayLook centre.now pass.old log.old.items place }
     ensures waited { IsWait place pass.old log.old.items result pass.new log.new.items }
     ensures turns { Waits centre.now pass.old pass.new }
     ensures kept { Keeps centre.now pass.old pass.new }

@@ -1,9 +1,9 @@
 //! Polls for the reply to a pending row.
-ghost use Rattle.std.specs.Prelude.{◌≡◌, ◌+◌, ◌<◌, false, All, Some, length, slice_get, vec_len};
+ghost use Rattle.std.specs.Prelude.{◌≡◌, ◌+◌, ◌<◌, All, Some, length, slice_get};
 ghost use Rattle.tc_desk.specs.declared.rows.LogRow.{LogRow};
 ghost use Rattle.tc_model.specs.Calls.{id_of};
-ghost use Rattle.tc_model.specs.Run.{HasCall};
-ghost use Rattle.tc_shared.specs.Passes.{IsPassOf, Keeps, call_id};
+ghost use Rattle.tc_shared.specs.Passes.{Keeps};
+ghost use Rattle.tc_site.specs.Looking.{MayLook};
 ghost use Rattle.tc_site.specs.Polling.{IsPolled};
 
 use crate::looking::put_reply;
@@ -24,10 +24,7 @@ pub(crate) fn poll_for<R: Wait>(
     log: &mut Vec<LogRow>,
     place: usize,
 ) -> Result<Seen, DeskFault>
-    requires own { IsPassOf centre.now pass.old }
-    requires free { pass.old.holds ≡ false }
-    requires inside { place < vec_len log.old }
-    requires called { HasCall (call_id pass.old (place + 1)) pass.old.seen }
+    requires may { MayLook centre.now pass.old log.old.items place }
     requires next { All (λ e. (id_of e).number < length log.old.items + 1) pass.old.mine }
     ensures polled { (row : LogRow) → slice_get log.old.items place ≡ Some row
         → IsPolled centre.now place pass.old row.centre log.old.items result pass.new log.new.items }

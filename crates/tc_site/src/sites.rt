@@ -2,15 +2,18 @@
 ghost use Rattle.std.specs.Prelude.{◌≡◌, ◌≤◌, ◌<◌, [], ℕ, Some, All, length, map, slice_get, IfOk};
 ghost use Rattle.tc_centre.specs.Centre.{Centre};
 ghost use Rattle.tc_model.specs.Calls.{calls_of};
-ghost use Rattle.tc_site.specs.Sites.{AreClosed, AreFreshCores, AreOfSite, AllAgree, IsSiteOf, EndedState, KitState, rows_of};
+ghost use Rattle.tc_site.specs.Founding.{IsFounded};
+ghost use Rattle.tc_site.specs.Sites.{AreClosed, AreFreshCores, AreOfSite, AllAgree, IsSiteOf};
+ghost use Rattle.tc_site.specs.Sites.{EndedState, KitState, rows_of};
 
 use crate::closing::{Left, close_all, take_apart};
+use crate::founding::{centre_names, cores};
 use crate::kits::{Closed, DeskKit, EndedDesk};
 use crate::sharing::{Opened, kits, open_all, roles};
 use std::alloc::Global;
 use std::marker::Model;
 use tc_centre::Core;
-use tc_config::AgentConf;
+use tc_config::{AgentConf, Config};
 use tc_desk::Warden;
 use tc_lists::NoMemory;
 use tc_shared::SharedCentre;
@@ -80,6 +83,24 @@ impl<W: Warden> Site<W> {
 }
 
 impl<W: Warden + Drop> Site<W> {
+    /// The site of a configuration, and a kit for each agent, in order. Each pass has 4,294,967,295 turns.
+    ///
+    /// Names, tuples and clauses are copied. Where memory ends nothing is left of the site.
+    pub fn new(
+        alloc: Global,
+        config: &Config,
+        warden: W,
+    ) -> Result<(Site<W>, Vec<DeskKit<W>>), NoMemory>
+        requires some { length config.now.agents ≡ 0 → config.now.centres ≡ [] }
+        ensures site { IfOk result (λ r. IsFounded config.now warden r.0) }
+        ensures kits { IfOk result (λ r.
+            AreOfSite (λ (k : KitState W). k.site) (λ (k : KitState W). k.agent) r.0 r.1.items) }
+    {
+        let names = centre_names(alloc, config.centres())?;
+        let cores = cores(alloc, config)?;
+        Site::of_cores(alloc, names, cores, config.agents(), warden)
+    }
+
     /// A site round cores that have served nothing, and a kit for each agent, in order. Each pass has
     /// 4,294,967,295 turns. Where memory ends the cores are dropped.
     pub fn of_cores(

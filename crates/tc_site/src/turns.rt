@@ -1,5 +1,6 @@
 //! An agent's turns at a centre.
-ghost use Rattle.std.specs.Prelude.{◌≡◌, ℕ, ◌+◌, ◌<◌, ◌++◌, ◌∷◌, [], false, All, IfOk, OnErr, vec_len, vec_capacity, Ok, Err};
+ghost use Rattle.std.specs.Prelude.{◌≡◌, ℕ, ◌+◌, ◌<◌, ◌++◌, ◌∷◌, [], false, All};
+ghost use Rattle.std.specs.Prelude.{IfOk, OnErr, vec_len, vec_capacity, Ok, Err};
 ghost use Rattle.tc_desk.specs.Desks.{with_row};
 ghost use Rattle.tc_model.specs.Calls.{id_of};
 ghost use Rattle.tc_shared.specs.Passes.{IsPassOf, Keeps, SeesRoom};
