@@ -1,9 +1,12 @@
 //! Configurations.
-ghost use Rattle.std.specs.Prelude.{◌≡◌};
+ghost use Rattle.std.specs.Prelude.{◌≡◌, map, IfOk};
 ghost use Rattle.tc_config.specs.Configurations.{IsConfig, configuration};
+ghost use Rattle.tc_config.specs.declared.configs.AgentConf.{AgentConf};
+ghost use Rattle.tc_config.specs.declared.configs.CentreConf.{CentreConf};
 
+use std::alloc::Global;
 use std::marker::Model;
-use tc_lists::Seq;
+use tc_lists::{NoMemory, Seq};
 use tc_model::{Clauses, Script};
 use tc_policy::Roles;
 use tc_term::{Ground, Name};
@@ -112,4 +115,26 @@ impl Config {
     {
         (self.centres, self.role_names, self.roles, self.agents)
     }
+}
+
+/// The names of agents, in order, copied.
+pub fn agent_names(alloc: Global, agents: &[AgentConf]) -> Result<Vec<Name>, NoMemory>
+    ensures { IfOk result (λ names. names.items ≡ map (λ (a : AgentConf). a.name) agents.now) }
+{
+    let mut names = Vec::with_capacity(alloc, agents.len())?;
+    for agent in agents {
+        names.push(agent.name.copy(alloc)?)?;
+    }
+    Ok(names)
+}
+
+/// The names of centres, in order, copied.
+pub fn centre_names(alloc: Global, centres: &[CentreConf]) -> Result<Vec<Name>, NoMemory>
+    ensures { IfOk result (λ names. names.items ≡ map (λ (s : CentreConf). s.name) centres.now) }
+{
+    let mut names = Vec::with_capacity(alloc, centres.len())?;
+    for centre in centres {
+        names.push(centre.name.copy(alloc)?)?;
+    }
+    Ok(names)
 }

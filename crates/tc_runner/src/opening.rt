@@ -1,7 +1,6 @@
 //! The centres of a configuration, as they are opened.
 ghost use Rattle.std.specs.Prelude.{◌≡◌, ◌<◌, [], All, length, map, IfOk};
 ghost use Rattle.tc_config.specs.Configurations.{IsCentre};
-ghost use Rattle.tc_config.specs.declared.configs.CentreConf.{CentreConf};
 ghost use Rattle.tc_runner.specs.Cores.{rows_of};
 ghost use Rattle.tc_runner.specs.Plans.{AreAgentNames, IsFresh, fresh_core, fresh_cores, names_of};
 
@@ -9,7 +8,7 @@ use crate::plans::Plan;
 use std::alloc::Global;
 use std::snapshot::Snapshot;
 use tc_centre::Core;
-use tc_config::{AgentConf, CentreConf, Config};
+use tc_config::{AgentConf, CentreConf, Config, agent_names, centre_names};
 use tc_desk::LogRow;
 use tc_lists::NoMemory;
 use tc_term::Name;
@@ -91,29 +90,6 @@ fn core(alloc: Global, agents: &[AgentConf], centre: CentreConf) -> Result<Core,
         centre.clauses,
         centre.tuples.into_vec(),
     )
-}
-
-// The names of the agents, in order.
-fn agent_names(alloc: Global, agents: &[AgentConf]) -> Result<Vec<Name>, NoMemory>
-    ensures { IfOk result (λ names. names.items ≡ names_of agents.now) }
-{
-    let mut names = Vec::with_capacity(alloc, agents.len())?;
-    for agent in agents {
-        names.push(agent.name.copy(alloc)?)?;
-    }
-    Ok(names)
-}
-
-// The names of the centres, in order.
-fn centre_names(alloc: Global, centres: &[CentreConf]) -> Result<Vec<Name>, NoMemory>
-    ensures { IfOk result
-        (λ names. names.items ≡ map (λ (s : CentreConf). s.name) centres.now) }
-{
-    let mut names = Vec::with_capacity(alloc, centres.len())?;
-    for centre in centres {
-        names.push(centre.name.copy(alloc)?)?;
-    }
-    Ok(names)
 }
 
 // So many logs without a row.

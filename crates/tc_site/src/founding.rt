@@ -1,15 +1,14 @@
-//! What the site of a configuration is founded on: the names of its centres, and their cores. All is copied.
+//! The cores that the site of a configuration is founded on. All is copied.
 ghost use Rattle.std.specs.Prelude.{◌≡◌, ◌<◌, [], length, map, IfOk};
 ghost use Rattle.tc_config.specs.Configurations.{IsCentre};
-ghost use Rattle.tc_config.specs.declared.configs.AgentConf.{AgentConf};
 ghost use Rattle.tc_config.specs.declared.configs.CentreConf.{CentreConf};
 ghost use Rattle.tc_site.specs.Founding.{fresh_core};
 
 use std::alloc::Global;
 use tc_centre::Core;
-use tc_config::{AgentConf, CentreConf, Config};
+use tc_config::{CentreConf, Config, agent_names};
 use tc_lists::NoMemory;
-use tc_term::{Ground, Name};
+use tc_term::Ground;
 
 /// A core for each centre, in order. It has the names of all agents.
 pub(crate) fn cores(alloc: Global, config: &Config) -> Result<Vec<Core>, NoMemory>
@@ -38,17 +37,6 @@ fn core(alloc: Global, config: &Config, centre: &CentreConf) -> Result<Core, NoM
     Core::new(alloc, name, agents, centre.budget, clauses, tuples)
 }
 
-// The names of the agents, in order.
-fn agent_names(alloc: Global, agents: &[AgentConf]) -> Result<Vec<Name>, NoMemory>
-    ensures { IfOk result (λ names. names.items ≡ map (λ (a : AgentConf). a.name) agents.now) }
-{
-    let mut names = Vec::with_capacity(alloc, agents.len())?;
-    for agent in agents {
-        names.push(agent.name.copy(alloc)?)?;
-    }
-    Ok(names)
-}
-
 // The same tuples.
 fn copy_tuples(alloc: Global, tuples: &[Ground]) -> Result<Vec<Ground>, NoMemory>
     ensures { IfOk result (λ copies. copies.items ≡ tuples.now) }
@@ -58,15 +46,4 @@ fn copy_tuples(alloc: Global, tuples: &[Ground]) -> Result<Vec<Ground>, NoMemory
         copies.push(tuple.copy(alloc)?)?;
     }
     Ok(copies)
-}
-
-/// The names of the centres, in order.
-pub(crate) fn centre_names(alloc: Global, centres: &[CentreConf]) -> Result<Vec<Name>, NoMemory>
-    ensures { IfOk result (λ names. names.items ≡ map (λ (s : CentreConf). s.name) centres.now) }
-{
-    let mut names = Vec::with_capacity(alloc, centres.len())?;
-    for centre in centres {
-        names.push(centre.name.copy(alloc)?)?;
-    }
-    Ok(names)
 }

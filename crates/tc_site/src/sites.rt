@@ -7,13 +7,13 @@ ghost use Rattle.tc_site.specs.Sites.{AreClosed, AreFreshCores, AreOfSite, AllAg
 ghost use Rattle.tc_site.specs.Sites.{EndedState, KitState, rows_of};
 
 use crate::closing::{Left, close_all, take_apart};
-use crate::founding::{centre_names, cores};
+use crate::founding::cores;
 use crate::kits::{Closed, DeskKit, EndedDesk};
 use crate::sharing::{Opened, kits, open_all, roles};
 use std::alloc::Global;
 use std::marker::Model;
 use tc_centre::Core;
-use tc_config::{AgentConf, Config};
+use tc_config::{AgentConf, Config, centre_names};
 use tc_desk::Warden;
 use tc_lists::NoMemory;
 use tc_shared::SharedCentre;

@@ -1,6 +1,6 @@
 use Rattle.std.proofs.Common.{◌≡◌, map, take}
 use Rattle.tc_config.specs.declared.configs.AgentConf.{AgentConf}
-use Rattle.tc_runner.proofs.opening.agent_names.Given as goal
+use Rattle.tc_config.proofs.configs.agent_names.Given as goal
 
 abbrev pub invariant-loop-agent : goal.invariant-loop-agent
-invariant-loop-agent l = l.names.items ≡ map (λ (x : AgentConf). x.name) (take l.agent-index l.agents)
+invariant-loop-agent l = l.names.items ≡ map (λ (a : AgentConf). a.name) (take l.agent-index l.agents)

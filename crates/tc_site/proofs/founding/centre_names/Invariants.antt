@@ -1,6 +1,0 @@
-use Rattle.std.proofs.Common.{◌≡◌, map, take}
-use Rattle.tc_config.specs.declared.configs.CentreConf.{CentreConf}
-use Rattle.tc_site.proofs.founding.centre_names.Given as goal
-
-abbrev pub invariant-loop-centre : goal.invariant-loop-centre
-invariant-loop-centre l = l.names.items ≡ map (λ (s : CentreConf). s.name) (take l.centre-index l.centres)
