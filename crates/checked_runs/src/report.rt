@@ -20,14 +20,14 @@ const DRAWN: usize = 24;
 
 /// Parts of lines that tell what reactions have done.
 const KINDS: [&[u8]; 8] = [
-    b" fired ",
-    b" failed ",
-    b" put ",
-    b" took ",
-    b" read ",
+    b" fired",
+    b" failed",
+    b" put",
+    b" took",
+    b" read",
     b" over pre",
     b" over post",
-    b" bad spec ",
+    b" bad spec",
 ];
 
 /// Runs configurations that are drawn.
