@@ -1,4 +1,8 @@
 //! Clauses of reactions: how they are read, and what is wrong with others.
+ghost use Rattle.std.specs.Prelude.{◌<◌, IfSome};
+ghost use Rattle.tc_term.specs.Tree.{depth};
+ghost use Rattle.tc_term.specs.TreeView.{tree_of};
+
 use crate::fault::Fault;
 use crate::texts::{append, append_term};
 use crate::values::compound;
@@ -118,7 +122,10 @@ pub fn clause_of(alloc: Global, term: &Term) -> Result<Result<Clause, &'static [
 }
 
 // The arguments of a compound of this name that has two.
-fn as_two<'t>(name: &[u8], term: &'t Term) -> Option<(&'t Term, &'t Term)> {
+fn as_two<'t>(name: &[u8], term: &'t Term) -> Option<(&'t Term, &'t Term)>
+    ensures first { IfSome result (λ r. depth (tree_of r.0.now) < depth (tree_of term.now)) }
+    ensures rest { IfSome result (λ r. depth (tree_of r.1.now) < depth (tree_of term.now)) }
+{
     match term {
         Term::Comp(other, args) if other.bytes() == name => match args.items() {
             [left, right] => Some((left, right)),
