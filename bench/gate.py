@@ -1,21 +1,23 @@
 #!/usr/bin/env python3
 """What the gate costs, crate by crate: processor seconds of proof, of tests and of must-fail edits.
 
-bench/gate.py           runs `rt ci --anew` at the top of the repository, and prints the table of docs/GATE.md
-bench/gate.py NAME ..   the same of these crates and those below them
+bench/gate.py                  runs `rt ci --anew` at the top of the repository, and prints the table of docs/GATE.md
+bench/gate.py NAME ..          the same of these crates and those below them
+bench/gate.py --kept [NAME ..] without --anew: what an earlier run here has passed is not tried, and has no time
 
 What `rt ci` says goes to standard error. Every prover that it starts is looked at twice a second, so times
-are exact to a second for each start of a prover.
+are exact to a second for each start of a prover. A run that is interrupted, or that `kill` ends, prints the
+table of what it has seen so far.
 """
 import os
 import pathlib
 import re
+import signal
 import subprocess
 import sys
 import time
 
 TOP = pathlib.Path(__file__).resolve().parent.parent
-COMMAND = ["rt", "ci", "--anew"]
 KINDS = ("proof", "tests", "edits")
 TICKS = os.sysconf("SC_CLK_TCK")
 
@@ -75,6 +77,14 @@ def counts_of(crate):
     return sources.count("#[test]"), len(edits)
 
 
+def seconds_of(used):
+    """What each kind of work has cost, by crate and kind."""
+    seconds = {}
+    for work, spent in used.values():
+        seconds[work] = seconds.get(work, 0) + spent
+    return seconds
+
+
 def print_table(seconds, wall):
     print("| crate | proof, s | tests, s | their number | edits, s | their number | whole, s |")
     print("|---|---|---|---|---|---|---|")
@@ -91,17 +101,31 @@ def print_table(seconds, wall):
     print(f"\nWall time {wall / 60:.1f} minutes on {os.cpu_count()} processors.")
 
 
+def command_of(words):
+    """The run of `rt ci` that these words ask for."""
+    kept = "--kept" in words
+    names = [word for word in words if word != "--kept"]
+    return ["rt", "ci", *([] if kept else ["--anew"]), *names]
+
+
+def watch(run, kinds, used):
+    """Looks at the provers until the run has ended, or somebody ends it."""
+    signal.signal(signal.SIGTERM, signal.default_int_handler)
+    try:
+        while run.poll() is None:
+            add_sample(run.pid, kinds, used)
+            time.sleep(0.5)
+    except KeyboardInterrupt:
+        run.terminate()
+        run.wait()
+
+
 def main():
     began = time.monotonic()
-    run = subprocess.Popen([*COMMAND, *sys.argv[1:]], cwd=TOP, stdin=subprocess.DEVNULL, stdout=sys.stderr)
+    run = subprocess.Popen(command_of(sys.argv[1:]), cwd=TOP, stdin=subprocess.DEVNULL, stdout=sys.stderr)
     kinds, used = {}, {}
-    while run.poll() is None:
-        add_sample(run.pid, kinds, used)
-        time.sleep(0.5)
-    seconds = {}
-    for work, spent in used.values():
-        seconds[work] = seconds.get(work, 0) + spent
-    print_table(seconds, time.monotonic() - began)
+    watch(run, kinds, used)
+    print_table(seconds_of(used), time.monotonic() - began)
     sys.exit(run.returncode)
 
 

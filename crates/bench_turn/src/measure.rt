@@ -1,4 +1,4 @@
-//! One measurement: so many threads make turns, at the turnstile or under a `Mutex`.
+//! One measurement: so many threads make turns, at the turnstile or under a `Mutex`, or sleep.
 ghost use Rattle.std.specs.Prelude.{◌≡◌, ◌<◌, false, All};
 ghost use Rattle.tc_turn.specs.Passes.{IsPassOf};
 
@@ -8,6 +8,7 @@ use std::sync::{Mutex, Wait};
 use std::thread::Threads;
 use std::time::{Clock, CpuClock, Duration};
 use std::{io, thread};
+use tc_bells::Bell;
 use tc_turn::{Pass, Turnstile};
 
 /// How many threads make how many turns each, of how many rounds of work each.
@@ -138,4 +139,52 @@ pub fn under_mutex<R: Threads + Wait + Clock + CpuClock + Sync>(
     let end = Moment::now(rt)?;
     let turns = tally.lock(rt).turns;
     Ok(start.until(&end, turns))
+}
+
+/// What a thread does while others sleep.
+#[derive(Clone, Copy)]
+enum Part {
+    Sleeps,
+    Rings,
+}
+
+// Sleeps until the bell has rung.
+fn sleep_at<R: Wait>(rt: &R, bell: &Bell) {
+    for _ in rt.forever() {
+        if bell.rung() > 0 {
+            return;
+        }
+        bell.sleep(rt, 0);
+    }
+}
+
+/// So many threads sleep at a bell, which rings after this time.
+pub fn asleep<R: Threads + Wait + Clock + CpuClock + Sync>(
+    rt: &R,
+    alloc: Global,
+    threads: usize,
+    time: Duration,
+) -> anyhow::Result<Measured> {
+    let bell = Bell::new();
+    let bell = &bell;
+    let mut parts = vec![in alloc; Part::Sleeps; threads]?;
+    parts.push(Part::Rings)?;
+    let all = parts.len();
+    let start = Moment::now(rt)?;
+    thread::for_each_mut(
+        rt,
+        parts.as_mut_slice(),
+        all,
+        &|_, part: &mut Part| {
+            match *part {
+                Part::Sleeps => sleep_at(rt, bell),
+                Part::Rings => {
+                    let _ = thread::sleep(rt, time);
+                    bell.ring();
+                }
+            }
+        },
+    );
+    let end = Moment::now(rt)?;
+    Ok(start.until(&end, 0))
 }

@@ -1,5 +1,5 @@
 //! The table of all measurements.
-use crate::measure::{Load, Measured, at_turnstile, under_mutex};
+use crate::measure::{Load, Measured, asleep, at_turnstile, under_mutex};
 use std::alloc::Global;
 use std::sync::Wait;
 use std::thread::Threads;
@@ -13,7 +13,13 @@ const TURNS_WITH_WORK: u32 = 200_000;
 /// So many rounds of work take about two microseconds.
 const ROUNDS: u32 = 1_000;
 
-/// Prints how many turns a second each lock gives, and the processor time of one.
+/// How many threads sleep, and for how many seconds.
+const SLEEPERS: usize = 64;
+
+const SECONDS: u64 = 2;
+
+/// Prints how many turns a second each lock gives, and the processor time of one; and that of threads
+/// that sleep.
 pub fn print<R: Threads + Wait + Clock + CpuClock + Print + Sync>(
     rt: &R,
     alloc: Global,
@@ -31,6 +37,20 @@ pub fn print<R: Threads + Wait + Clock + CpuClock + Print + Sync>(
             print_row(rt, &load, &ours, &mutex)?;
         }
     }
+    print_sleep(rt, alloc)
+}
+
+fn print_sleep<R: Threads + Wait + Clock + CpuClock + Print + Sync>(
+    rt: &R,
+    alloc: Global,
+) -> anyhow::Result<()> {
+    let slept = asleep(rt, alloc, SLEEPERS, Duration::from_secs(SECONDS))?;
+    println!(rt;
+        "{} threads asleep at a bell for {} seconds: {} us of processor time",
+        SLEEPERS,
+        SECONDS,
+        nanos(&slept.processor) / 1_000
+    )?;
     Ok(())
 }
 

@@ -1,8 +1,7 @@
 -- Many agents, as they make steps.
-use Rattle.std.proofs.Common.{◌≡◌, ℕ, ◌+◌, ◌<◌, ◌≤◌, inl, inr, List, [], ◌∷◌, ◌++◌, Bool, true, false, ◌||◌, All, Some, length, get_or, refl, sym, ap, ◌∙◌, subst, arith, length-append, append_assoc, append-nil}
+use Rattle.std.proofs.Common.{◌≡◌, ℕ, ◌+◌, ◌-◌, ◌*◌, ◌<◌, ◌≤◌, inl, inr, List, [], ◌∷◌, ◌++◌, true, All, Some, length, get_or, refl, sym, ap, ◌∙◌, subst, arith, length-append, append_assoc, append-nil}
 use Rattle.std.proofs.Math.ListN.{set}
 use Rattle.std.proofs.Math.Seq.{get_or-append_seam, set-append_seam}
-use Rattle.std.proofs.lemmas.Bool.{false≢true, true≢false}
 use Rattle.std.proofs.lemmas.List.Elements.{All-nil, All-cons, All-head, All-tail, All-push}
 use Rattle.std.proofs.lemmas.List.Sums.{sum_by-append}
 use Rattle.std.proofs.lemmas.Map.Keys.{any_passes_from_place}
@@ -12,7 +11,7 @@ use Rattle.tc_desk.specs.Logs.{any_pending, is_pending}
 use Rattle.tc_desk.specs.declared.desks.Seen.TheVariants as seen
 use Rattle.tc_desk.specs.declared.rows.LogRow.{LogRow}
 use Rattle.tc_sched.specs.Clients.{Client}
-use Rattle.tc_sched.specs.Steps.{AllWent, ArePlaced, HasEnded, IsReady, Rests, Settles, Steps, Went, is_moved, left_in, left_of}
+use Rattle.tc_sched.specs.Steps.{AllWent, ArePlaced, HasEnded, IsReady, Moves, Rests, Settles, Steps, Went, left_in, left_of, moves_of}
 use Rattle.tc_sched.specs.declared.actor.Step.{Step}
 use Rattle.tc_sched.specs.declared.actor.Step.TheVariants as step
 
@@ -25,6 +24,12 @@ has-pending log row is =
 -- where a look found the row still pending, it is
 pub still-pending : (d e : DeskState) → Looks d seen.StillPending e → any_pending e.log ≡ true
 still-pending d e looks = ap any_pending looks.0 ∙ has-pending d.log looks.2.row looks.2.is
+
+-- a step moves at most once
+moves-few : (h : Step) → moves_of h ≤ 1
+moves-few step.Moved = omega arith
+moves-few step.Blocked = omega arith
+moves-few step.Ended = omega arith
 
 module _ {D B : Type 0} (state : D → DeskState) (bond : D → B) (is_sound : D → Type 0) where
   abbrev Go : ℕ → Client D → Client D → Type 0
@@ -159,7 +164,7 @@ module _ {D B : Type 0} (state : D → DeskState) (bond : D → B) (is_sound : D
       }
 
   -- the agents before a place have each made a step
-  pub record Swept (names : List (List ℕ)) (old now : List (Client D)) (i : ℕ) (moved : Bool) : Type 0 where
+  pub record Swept (names : List (List ℕ)) (old now : List (Client D)) (i moved : ℕ) : Type 0 where
     pub before : List (Client D)
     pub after : List (Client D)
     pub rest : List (Client D)
@@ -168,10 +173,11 @@ module _ {D B : Type 0} (state : D → DeskState) (bond : D → B) (is_sound : D
     pub long : length after ≡ i
     pub went : AllGo 1 before after
     pub ready : AllReady 1 names rest
-    pub moves : moved ≡ true → left_in state after < left_in state before
-    pub rests : moved ≡ false → All (Rests state) after
+    pub few : moved ≤ i
+    pub moves : left_in state after + moved ≤ left_in state before
+    pub rests : moved ≡ 0 → All (Rests state) after
 
-  pub swept-none : (names : List (List ℕ)) (old : List (Client D)) → AllReady 1 names old → Swept names old old 0 false
+  pub swept-none : (names : List (List ℕ)) (old : List (Client D)) → AllReady 1 names old → Swept names old old 0 0
   swept-none names old r = record {
     before = [];
     after = [];
@@ -181,7 +187,8 @@ module _ {D B : Type 0} (state : D → DeskState) (bond : D → B) (is_sound : D
     long = refl;
     went = tt;
     ready = r;
-    moves = λ e. absurd (false≢true e);
+    few = omega arith;
+    moves = omega arith;
     rests = λ e. All-nil (Rests state);
   }
 
@@ -192,7 +199,7 @@ module _ {D B : Type 0} (state : D → DeskState) (bond : D → B) (is_sound : D
       subst (IsReady state 1 names) (sym (at ∙ get_or-append_seam after r rs x)) (All-head (IsReady state 1 names) r rs ready)
 
   -- the agent that is next is ready
-  pub swept-next : (names : List (List ℕ)) (old now : List (Client D)) (i : ℕ) (moved : Bool) (x : Client D) → Swept names old now i moved
+  pub swept-next : (names : List (List ℕ)) (old now : List (Client D)) (i moved : ℕ) (x : Client D) → Swept names old now i moved
       → x ≡ get_or now i x → i < length now → IsReady state 1 names x
   swept-next names old now i moved x s at below =
       let here : x ≡ get_or (s.after ++ s.rest) (length s.after) x =
@@ -200,28 +207,26 @@ module _ {D B : Type 0} (state : D → DeskState) (bond : D → B) (is_sound : D
       let long = ap length s.is in
       next-of names s.after s.rest x s.ready here (omega (arith, long, below, s.long))
 
-  moves-on : (moved : Bool) (h : Step) (ta tb : ℕ) (c e : Client D) → (moved ≡ true → ta < tb) → ta ≤ tb → left_of state e ≤ left_of state c
-      → (h ≡ step.Moved → left_of state e < left_of state c) → (moved || is_moved h) ≡ true → ta + left_of state e < tb + left_of state c
-  moves-on true h ta tb c e m le l less x = let a = m refl in omega (arith, a, l)
-  moves-on false step.Moved ta tb c e m le l less x = let a = less refl in omega (arith, le, a)
-  moves-on false step.Blocked ta tb c e m le l less x = absurd (false≢true x)
-  moves-on false step.Ended ta tb c e m le l less x = absurd (false≢true x)
+  moves-on : (moved : ℕ) (h : Step) (ta tb : ℕ) (c e : Client D) → ta + moved ≤ tb → left_of state e ≤ left_of state c
+      → (h ≡ step.Moved → left_of state e < left_of state c) → ta + left_of state e + (moved + moves_of h) ≤ tb + left_of state c
+  moves-on moved step.Moved ta tb c e m l less = let a = less refl in omega (arith, m, a)
+  moves-on moved step.Blocked ta tb c e m l less = omega (arith, m, l)
+  moves-on moved step.Ended ta tb c e m l less = omega (arith, m, l)
 
-  rests-on : (moved : Bool) (h : Step) (after : List (Client D)) (c e : Client D) → (moved ≡ false → All (Rests state) after) → Steps state c h e
-      → (moved || is_moved h) ≡ false → All (Rests state) (after ++ e ∷ [])
-  rests-on true h after c e m st x = absurd (true≢false x)
-  rests-on false step.Moved after c e m st x = absurd (true≢false x)
-  rests-on false step.Blocked after c e m st x =
-      All-push (Rests state) after e (m refl) (inr (still-pending (state c.desk) (state e.desk) st))
-  rests-on false step.Ended after c e m st x =
-      All-push (Rests state) after e (m refl) (inl (subst (HasEnded state) (sym st.1) st.0))
+  rests-on : (moved : ℕ) (h : Step) (after : List (Client D)) (c e : Client D) → (moved ≡ 0 → All (Rests state) after) → Steps state c h e
+      → moved + moves_of h ≡ 0 → All (Rests state) (after ++ e ∷ [])
+  rests-on moved step.Moved after c e m st x = absurd (omega (arith, x))
+  rests-on moved step.Blocked after c e m st x =
+      All-push (Rests state) after e (m (omega (arith, x))) (inr (still-pending (state c.desk) (state e.desk) st))
+  rests-on moved step.Ended after c e m st x =
+      All-push (Rests state) after e (m (omega (arith, x))) (inl (subst (HasEnded state) (sym st.1) st.0))
 
-  swept-at : (names : List (List ℕ)) (old before after rest : List (Client D)) (moved : Bool) (x v : Client D) (h : Step)
-      → old ≡ before ++ rest → AllGo 1 before after → AllReady 1 names rest → (moved ≡ true → left_in state after < left_in state before) → (moved ≡ false → All (Rests state) after)
+  swept-at : (names : List (List ℕ)) (old before after rest : List (Client D)) (moved : ℕ) (x v : Client D) (h : Step)
+      → old ≡ before ++ rest → AllGo 1 before after → AllReady 1 names rest → moved ≤ length after → left_in state after + moved ≤ left_in state before → (moved ≡ 0 → All (Rests state) after)
       → x ≡ get_or (after ++ rest) (length after) x → length after < length (after ++ rest) → Go 1 x v → Steps state x h v → (h ≡ step.Moved → left_of state v < left_of state x)
-      → Swept names old (set (after ++ rest) (length after) v) (length after + 1) (moved || is_moved h)
-  swept-at names old before after [] moved x v h was went ready moves rests at below w st less = absurd (let a = length-append after [] in omega (arith, a, below))
-  swept-at names old before after (r ∷ rs) moved x v h was went ready moves rests at below w st less =
+      → Swept names old (set (after ++ rest) (length after) v) (length after + 1) (moved + moves_of h)
+  swept-at names old before after [] moved x v h was went ready few moves rests at below w st less = absurd (let a = length-append after [] in omega (arith, a, below))
+  swept-at names old before after (r ∷ rs) moved x v h was went ready few moves rests at below w st less =
       let here : x ≡ r = at ∙ get_or-append_seam after r rs x in
       let w' : Go 1 r v = subst (λ (y : Client D). Go 1 y v) here w in
       let st' : Steps state r h v = subst (λ (y : Client D). Steps state y h v) here st in
@@ -235,17 +240,18 @@ module _ {D B : Type 0} (state : D → DeskState) (bond : D → B) (is_sound : D
         long = length-append after (v ∷ []);
         went = all-append 1 before after (r ∷ []) (v ∷ []) went (w', tt);
         ready = All-tail (IsReady state 1 names) r rs ready;
-        moves = λ e. let m = moves-on moved h (left_in state after) (left_in state before) r v moves (all-left 1 before after went) w'.left less' e in omega (arith, a, b, m);
+        few = let one = moves-few h in omega (arith, few, one);
+        moves = let m = moves-on moved h (left_in state after) (left_in state before) r v moves w'.left less' in omega (arith, a, b, m);
         rests = rests-on moved h after r v rests st';
       }
 
-  pub swept-step : (names : List (List ℕ)) (old now : List (Client D)) (i : ℕ) (moved : Bool) (x v : Client D) (h : Step) → Swept names old now i moved
+  pub swept-step : (names : List (List ℕ)) (old now : List (Client D)) (i moved : ℕ) (x v : Client D) (h : Step) → Swept names old now i moved
       → x ≡ get_or now i x → i < length now → Go 1 x v → Steps state x h v → (h ≡ step.Moved → left_of state v < left_of state x)
-      → Swept names old (set now i v) (i + 1) (moved || is_moved h)
+      → Swept names old (set now i v) (i + 1) (moved + moves_of h)
   swept-step names old now i moved x v h s at below w st less =
-      let P : List (Client D) → ℕ → Type 0 = λ l k. Swept names old (set l k v) (k + 1) (moved || is_moved h) in
+      let P : List (Client D) → ℕ → Type 0 = λ l k. Swept names old (set l k v) (k + 1) (moved + moves_of h) in
       subst (λ (l : List (Client D)). P l i) (sym s.is) (subst (λ k. P (s.after ++ s.rest) k) s.long
-      (swept-at names old s.before s.after s.rest moved x v h s.was s.went s.ready s.moves s.rests
+      (swept-at names old s.before s.after s.rest moved x v h s.was s.went s.ready (subst (λ k. moved ≤ k) (sym s.long) s.few) s.moves s.rests
       (subst (λ k. x ≡ get_or (s.after ++ s.rest) k x) (sym s.long) (subst (λ (l : List (Client D)). x ≡ get_or l i x) s.is at))
       (subst (λ k. k < length (s.after ++ s.rest)) (sym s.long) (subst (λ (l : List (Client D)). i < length l) s.is below)) w st less))
 
@@ -261,7 +267,7 @@ module _ {D B : Type 0} (state : D → DeskState) (bond : D → B) (is_sound : D
       (all-append 1 before after (r ∷ rs) (v ∷ rs) went (w', all-same 1 1 names rs (All-tail (IsReady state 1 names) r rs ready))))
 
   -- memory has run out at an agent
-  pub swept-failed : (names : List (List ℕ)) (old now : List (Client D)) (i : ℕ) (moved : Bool) (x v : Client D) → Swept names old now i moved
+  pub swept-failed : (names : List (List ℕ)) (old now : List (Client D)) (i moved : ℕ) (x v : Client D) → Swept names old now i moved
       → x ≡ get_or now i x → i < length now → Go 1 x v → AllGo 1 old (set now i v)
   swept-failed names old now i moved x v s at below w =
       let P : List (Client D) → ℕ → Type 0 = λ l k. AllGo 1 old (set l k v) in
@@ -275,14 +281,102 @@ module _ {D B : Type 0} (state : D → DeskState) (bond : D → B) (is_sound : D
   rest-none after (r ∷ rs) le = absurd (let a = length-append after (r ∷ rs) in omega (arith, a, le))
 
   -- all have made a step
-  pub record SweptAll (old now : List (Client D)) (moved : Bool) : Type 0 where
+  pub record SweptAll (old now : List (Client D)) (moved : ℕ) : Type 0 where
     pub went : AllGo 1 old now
-    pub moves : moved ≡ true → left_in state now < left_in state old
-    pub rests : moved ≡ false → All (Rests state) now
+    pub moves : left_in state now + moved ≤ left_in state old
+    pub rests : moved ≡ 0 → All (Rests state) now
 
-  pub swept-all : (names : List (List ℕ)) (old now : List (Client D)) (i : ℕ) (moved : Bool) → Swept names old now i moved → length now ≤ i → SweptAll old now moved
+  pub swept-all : (names : List (List ℕ)) (old now : List (Client D)) (i moved : ℕ) → Swept names old now i moved → length now ≤ i → SweptAll old now moved
   swept-all names old now i moved s le =
       let none : s.rest ≡ [] = rest-none s.after s.rest (subst (λ k. length (s.after ++ s.rest) ≤ k) (sym s.long) (subst (λ (l : List (Client D)). length l ≤ i) s.is le)) in
       let was : old ≡ s.before = s.was ∙ (ap (λ (l : List (Client D)). s.before ++ l) none ∙ append-nil s.before) in
       let is : now ≡ s.after = s.is ∙ (ap (λ (l : List (Client D)). s.after ++ l) none ∙ append-nil s.after) in
       rw (was, is) record { went = s.went; moves = s.moves; rests = s.rests }
+
+  -- so many sweeps were made, of which each moved an agent
+  pub record Settling (names : List (List ℕ)) (cs es : List (Client D)) (made : ℕ) : Type 0 where
+    pub moved : made + left_in state es ≤ left_in state cs
+    pub went : AllGo (left_in state cs - left_in state es) cs es
+    pub ready : AllReady (left_in state es + 1) names es
+
+  pub settling-none : (names : List (List ℕ)) (cs : List (Client D)) → AllReady (left_in state cs + 1) names cs → Settling names cs cs 0
+  settling-none names cs r = record { moved = omega arith; went = all-same _ _ names cs r; ready = r }
+
+  -- the next sweep can be made
+  pub settling-ready : (names : List (List ℕ)) (cs ds : List (Client D)) (made : ℕ) → Settling names cs ds made → AllReady 1 names ds
+  settling-ready names cs ds made s = all-less (left_in state ds + 1) 1 names ds (omega arith) s.ready
+
+  -- it was made, whatever it moved
+  pub settling-last : (names : List (List ℕ)) (cs ds es : List (Client D)) (made : ℕ) → Settling names cs ds made → AllGo 1 ds es
+      → Settles state bond is_sound cs es
+  settling-last names cs ds es made s w =
+      let m = s.moved in let l = all-left 1 ds es w in record {
+        left = omega (arith, m, l);
+        went = all-more (left_in state cs - left_in state ds + 1) _ cs es (omega (arith, m, l)) (all-on (left_in state cs - left_in state ds) 1 cs ds es s.went w);
+      }
+
+  -- it moved an agent
+  pub settling-more : (names : List (List ℕ)) (cs ds es : List (Client D)) (made : ℕ) → Settling names cs ds made → AllGo 1 ds es
+      → left_in state es < left_in state ds → Settling names cs es (made + 1)
+  settling-more names cs ds es made s w fell =
+      let m = s.moved in let V = left_in state es in record {
+        moved = omega (arith, m, fell);
+        went = all-more (left_in state cs - left_in state ds + 1) (left_in state cs - V) cs es (omega (arith, m, fell)) (all-on (left_in state cs - left_in state ds) 1 cs ds es s.went w);
+        ready = all-after 1 (V + 1) names ds es (all-less (left_in state ds + 1) (1 + (V + 1)) names ds (omega (arith, fell)) s.ready) w;
+      }
+
+  -- no further one is made
+  pub settling-moves : (names : List (List ℕ)) (cs es : List (Client D)) (made : ℕ) → 0 < made → Settling names cs es made → Moves state bond is_sound cs es
+  settling-moves names cs es made some s = record { left = let m = s.moved in omega (arith, m, some); went = s.went }
+
+  pub moves-settles : (cs es : List (Client D)) → Moves state bond is_sound cs es → Settles state bond is_sound cs es
+  moves-settles cs es m = record { left = let l = m.left in omega (arith, l); went = all-more _ _ cs es (omega arith) m.went }
+
+  -- so far the agents have taken at most three turns each time that one of them moved
+  pub record Driving (names : List (List ℕ)) (cs es : List (Client D)) : Type 0 where
+    pub left : left_in state es ≤ left_in state cs
+    pub went : AllGo (3 * (left_in state cs - left_in state es)) cs es
+    pub ready : AllReady (3 * left_in state es + 2) names es
+
+  pub driving-none : (names : List (List ℕ)) (cs : List (Client D)) → AllReady (3 * left_in state cs + 2) names cs → Driving names cs cs
+  driving-none names cs r = record { left = omega arith; went = all-same _ _ names cs r; ready = r }
+
+  -- the next round can be made
+  pub driving-ready : (names : List (List ℕ)) (cs es : List (Client D)) → Driving names cs es → AllReady (left_in state es + 1) names es
+  driving-ready names cs es d = all-less (3 * left_in state es + 2) (left_in state es + 1) names es (omega arith) d.ready
+
+  -- and after it the sweeps of this thread
+  pub round-ready : (names : List (List ℕ)) (cs ds es : List (Client D)) → Driving names cs ds → Settles state bond is_sound ds es
+      → AllReady (left_in state es + 1) names es
+  round-ready names cs ds es d s =
+      let U = left_in state ds in let V = left_in state es in let l = s.left in
+      all-after (U - V + 1) (V + 1) names ds es (all-less (3 * U + 2) (U - V + 1 + (V + 1)) names ds (omega (arith, l)) d.ready) s.went
+
+  -- how many turns were taken where the round is the last thing done, or the sweeps after it
+  pub round-last : (names : List (List ℕ)) (cs ds es : List (Client D)) → Driving names cs ds → Settles state bond is_sound ds es
+      → AllGo (3 * left_in state cs + 2) cs es
+  round-last names cs ds es d s =
+      let T = left_in state cs in let U = left_in state ds in let V = left_in state es in let a = d.left in let b = s.left in
+      all-more (3 * (T - U) + (U - V + 1)) (3 * T + 2) cs es (omega (arith, a, b)) (all-on (3 * (T - U)) (U - V + 1) cs ds es d.went s.went)
+
+  pub sweeps-last : (names : List (List ℕ)) (cs ds es fs : List (Client D)) → Driving names cs ds → Settles state bond is_sound ds es
+      → Settles state bond is_sound es fs → AllGo (3 * left_in state cs + 2) cs fs
+  sweeps-last names cs ds es fs d s t =
+      let T = left_in state cs in let U = left_in state ds in let V = left_in state es in let W = left_in state fs in
+      let a = d.left in let b = s.left in let e = t.left in
+      all-more (3 * (T - U) + (U - V + 1) + (V - W + 1)) (3 * T + 2) cs fs (omega (arith, a, b, e))
+      (all-on (3 * (T - U) + (U - V + 1)) (V - W + 1) cs es fs (all-on (3 * (T - U)) (U - V + 1) cs ds es d.went s.went) t.went)
+
+  -- the sweeps moved an agent, so another round follows
+  pub driving-more : (names : List (List ℕ)) (cs ds es fs : List (Client D)) → Driving names cs ds → Settles state bond is_sound ds es
+      → Moves state bond is_sound es fs → Driving names cs fs
+  driving-more names cs ds es fs d s t =
+      let T = left_in state cs in let U = left_in state ds in let V = left_in state es in let W = left_in state fs in
+      let a = d.left in let b = s.left in let e = t.left in record {
+        left = omega (arith, a, b, e);
+        went = all-more (3 * (T - U) + (U - V + 1) + (V - W)) (3 * (T - W)) cs fs (omega (arith, a, b, e))
+            (all-on (3 * (T - U) + (U - V + 1)) (V - W) cs es fs (all-on (3 * (T - U)) (U - V + 1) cs ds es d.went s.went) t.went);
+        ready = all-after (V - W) (3 * W + 2) names es fs
+            (all-after (U - V + 1) (V - W + (3 * W + 2)) names ds es
+            (all-less (3 * U + 2) (U - V + 1 + (V - W + (3 * W + 2))) names ds (omega (arith, b, e)) d.ready) s.went) t.went;
+      }

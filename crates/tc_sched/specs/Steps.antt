@@ -98,8 +98,13 @@ module _ {D B : Type 0} (state : D → DeskState) (bond : D → B) (is_sound : D
     pub left : left_in state es ≤ left_in state cs
     pub went : AllWent (left_in state cs - left_in state es + 1) cs es
 
--- whether it moved
-abbrev pub is_moved : Step → Bool
-is_moved step.Moved = true
-is_moved step.Blocked = false
-is_moved step.Ended = false
+  -- the agents moved, and each has taken at most as many turns as all moved
+  pub record Moves (cs es : List (Client D)) : Type 0 where
+    pub left : left_in state es < left_in state cs
+    pub went : AllWent (left_in state cs - left_in state es) cs es
+
+-- 1 where it moved
+abbrev pub moves_of : Step → ℕ
+moves_of step.Moved = 1
+moves_of step.Blocked = 0
+moves_of step.Ended = 0

@@ -1,5 +1,6 @@
 //! Actors: each makes the asks of one agent's scripts, one after another.
-ghost use Rattle.std.specs.Prelude.{◌≡◌, ◌<◌, [], true, false, length, slice_get, IfNone, IfOk, IfSome, OnErr, Some};
+ghost use Rattle.std.specs.Prelude.{◌≡◌, ◌<◌, [], true, false, length, slice_get, Some};
+ghost use Rattle.std.specs.Prelude.{IfNone, IfOk, IfSome, OnErr};
 ghost use Rattle.tc_asks.specs.Nexts.{IsNextAsk};
 ghost use Rattle.tc_desk.specs.Asks.{steps_of};
 ghost use Rattle.tc_desk.specs.Logs.{any_pending, is_pending};

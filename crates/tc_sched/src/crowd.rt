@@ -1,6 +1,6 @@
 //! Crowds: many actors, dealt out to threads.
-ghost use Rattle.std.specs.Prelude.{◌≡◌, ◌<◌, ◌+◌, ◌*◌, true, false, All, IfOk, OnOk};
-ghost use Rattle.tc_sched.specs.Steps.{AllWent, IsReady, Rests, Settles, is_moved, left_in};
+ghost use Rattle.std.specs.Prelude.{◌≡◌, ◌<◌, ◌≤◌, ◌+◌, ◌*◌, true, false, All, IfOk, OnOk};
+ghost use Rattle.tc_sched.specs.Steps.{AllWent, IsReady, Moves, Rests, Settles, left_in, moves_of};
 
 use crate::actor::{Actor, Step};
 use std::alloc::Global;
@@ -12,11 +12,30 @@ use tc_desk::{Desk, Gate};
 use tc_lists::NoMemory;
 use tc_term::Name;
 
+/// How many sweeps the calling thread makes before another round.
+const SWEEPS: u64 = 64;
+
+/// How long sweeps over some actors go on: while each moved some, but no more than so many, and up to so
+/// many sweeps.
+#[derive(Clone, Copy)]
+struct Pace {
+    sweeps: u64,
+    moves: usize,
+}
+
+/// Until a sweep moves no actor.
+const TO_THE_END: Pace = Pace {
+    sweeps: u64::MAX,
+    moves: usize::MAX,
+};
+
 /// Makes steps of all actors, in so many threads, until each has ended or its last ask is pending.
 ///
 /// The actors are dealt out to the workers in equal parts, in order. In a round each worker makes a
-/// step of each of its actors, over and over, until none of them moved; then each actor of all
-/// makes one step, in this thread. Where that moved one, another round follows.
+/// step of each of its actors, over and over, until none of them moved. Then this thread makes a step
+/// of each actor of all, over and over, while that moved some, but no more of them than there are
+/// workers: what few can do one after another, new threads would not do sooner. Where more moved, or
+/// some still move after many such sweeps, another round follows.
 ///
 /// Whatever is answered, the rows of each actor are those of its first items. After `NoMemory` the
 /// actors can be driven on.
@@ -36,9 +55,13 @@ pub fn drive<R: Threads + Wait + Sync, D: Desk + Send, G: Gate + Sync>(
     ensures rests { OnOk result (All (Rests D.state) actors.new) }
 {
     let size = actors.len().div_ceil(workers).max(1);
+    let alone = Pace {
+        sweeps: SWEEPS,
+        moves: workers,
+    };
     for _ in rt.forever() {
         round(rt, actors, alloc, names, size, gate)?;
-        let moved = sweep(rt, actors, alloc, names, gate)?;
+        let moved = settle(rt, actors, alloc, names, gate, alone)?;
         if !moved {
             return Ok(());
         }
@@ -68,7 +91,7 @@ fn round<R: Threads + Wait + Sync, D: Desk + Send, G: Gate + Sync>(
             requires { All (IsReady D.state (left_in D.state part.old + 1) names.now) part.old }
             ensures { Settles D.state D.bond D.sound part.old part.new }
         {
-            if settle(rt, part, alloc, names, gate).is_err() {
+            if settle(rt, part, alloc, names, gate, TO_THE_END).is_err() {
                 failed.store(true, Ordering::SeqCst);
             }
         },
@@ -79,49 +102,62 @@ fn round<R: Threads + Wait + Sync, D: Desk + Send, G: Gate + Sync>(
     Ok(())
 }
 
-// Makes sweeps until one moved no actor.
+// Makes sweeps as long as the pace says, one at least. Whether the last one moved an actor.
 fn settle<R: Wait, D: Desk, G: Gate>(
     rt: &R,
     actors: &mut [Actor<D>],
     alloc: Global,
     names: &[Name],
     gate: &G,
-) -> Result<(), NoMemory>
+    pace: Pace,
+) -> Result<bool, NoMemory>
+    requires sweeps { 0 < pace.sweeps }
     requires ready { All (IsReady D.state (left_in D.state actors.old + 1) names.now) actors.old }
-    ensures { Settles D.state D.bond D.sound actors.old actors.new }
+    ensures settles { Settles D.state D.bond D.sound actors.old actors.new }
+    ensures moves { IfOk result (λ moved. moved ≡ true
+        → Moves D.state D.bond D.sound actors.old actors.new) }
+    ensures rests { IfOk result (λ moved. moved ≡ false → All (Rests D.state) actors.new) }
 {
-    while sweep(rt, actors, alloc, names, gate)? {}
-    Ok(())
+    for made in 0..pace.sweeps {
+        let moved = sweep(rt, actors, alloc, names, gate)?;
+        if moved == 0 {
+            return Ok(false);
+        }
+        if moved > pace.moves {
+            return Ok(true);
+        }
+    }
+    Ok(true)
 }
 
-// Makes one step of each actor, in order. Whether one moved.
+// Makes one step of each actor, in order. How many moved.
 fn sweep<R: Wait, D: Desk, G: Gate>(
     rt: &R,
     actors: &mut [Actor<D>],
     alloc: Global,
     names: &[Name],
     gate: &G,
-) -> Result<bool, NoMemory>
+) -> Result<usize, NoMemory>
     requires ready { All (IsReady D.state 1 names.now) actors.old }
     ensures went { AllWent D.state D.bond D.sound 1 actors.old actors.new }
-    ensures moved { IfOk result (λ moved. moved ≡ true
-        → left_in D.state actors.new < left_in D.state actors.old) }
-    ensures rests { IfOk result (λ moved. moved ≡ false → All (Rests D.state) actors.new) }
+    ensures moved { IfOk result (λ moved.
+        left_in D.state actors.new + moved ≤ left_in D.state actors.old) }
+    ensures rests { IfOk result (λ moved. moved ≡ 0 → All (Rests D.state) actors.new) }
 {
-    let mut moved = false;
+    let mut moved = 0;
     for i in 0..actors.len() {
         let step = actors[i].step(rt, alloc, names, gate)?;
-        moved = moved | has_moved(step);
+        moved += moves(step);
     }
     Ok(moved)
 }
 
-// Whether the actor moved.
-fn has_moved(step: Step) -> bool
-    ensures { result ≡ is_moved step }
+// 1 where the actor moved.
+fn moves(step: Step) -> usize
+    ensures { result ≡ moves_of step }
 {
     match step {
-        Step::Moved => true,
-        Step::Blocked | Step::Ended => false,
+        Step::Moved => 1,
+        Step::Blocked | Step::Ended => 0,
     }
 }

@@ -34,7 +34,7 @@ const TURNS: usize = 1;
 const ENTRIES: usize = 2;
 
 /// How often a thread looks again before it sleeps: some microseconds.
-const LOOKS: u32 = 100;
+const LOOKS: u32 = 3_000;
 
 /// How often a thread sleeps at the entrance before it takes a ticket though others are out.
 const SLEEPS: u32 = 2;

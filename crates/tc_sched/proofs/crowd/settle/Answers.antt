@@ -1,38 +1,41 @@
-use Rattle.std.proofs.Common.{◌<◌, ◌+◌, ◌-◌, arith}
+use Rattle.std.proofs.Common.{◌<◌, ◌+◌, arith}
 use Rattle.tc_sched.specs.Steps.{left_in}
-use Rattle.tc_sched.proofs.Crowds.{all-same, all-more, all-on, all-after, all-less, all-left}
+use Rattle.tc_sched.proofs.Crowds.{settling-none, settling-last, settling-more, settling-moves, moves-settles}
 use Rattle.tc_sched.proofs.crowd.settle.Goals as goal
 
-pub loop-init : goal.loop-init
-loop-init g c = let r = c.requires.ready in record { left = omega arith; went = all-same g.D.Desk.state g.D.Desk.bond g.D.Desk.sound _ _ c.args.names.now c.args.actors.now r; ready = r }
+pub loop-made-init : goal.loop-made-init
+loop-made-init g c = settling-none g.D.Desk.state g.D.Desk.bond g.D.Desk.sound c.args.names.now c.args.actors.now c.requires.ready
 
-pub sweep-requires : goal.sweep-requires
-sweep-requires g c = record { ready = all-less g.D.Desk.state g.D.Desk.bond g.D.Desk.sound (left_in g.D.Desk.state c.loop.actors + 1) 1 c.args.names.now c.loop.actors (omega arith) c.loop.invariant.ready }
+pub returns-in_err-moved-clause-settles : goal.returns-in_err-moved-clause-settles
+returns-in_err-moved-clause-settles g c =
+    settling-last g.D.Desk.state g.D.Desk.bond g.D.Desk.sound c.args.names.now c.args.actors.now c.loop-made.actors c.sweep.new.actors c.loop-made.made c.loop-made.invariant c.sweep.ensures.went
 
-pub returns-in_err-sweep : goal.returns-in_err-sweep
-returns-in_err-sweep g c =
-    let T = left_in g.D.Desk.state c.args.actors.now in let U = left_in g.D.Desk.state c.loop.actors in
-    let inv = c.loop.invariant in let w = c.sweep.ensures.went in
-    let l1 = inv.left in let l2 = all-left g.D.Desk.state g.D.Desk.bond g.D.Desk.sound 1 _ _ w in record {
-      left = omega (arith, l1, l2);
-      went = all-more g.D.Desk.state g.D.Desk.bond g.D.Desk.sound _ _ _ _ (omega (arith, l1, l2)) (all-on g.D.Desk.state g.D.Desk.bond g.D.Desk.sound (T - U) 1 _ _ _ inv.went w);
-    }
+pub returns-then-moved-eq0-clause-settles : goal.returns-then-moved-eq0-clause-settles
+returns-then-moved-eq0-clause-settles g c =
+    settling-last g.D.Desk.state g.D.Desk.bond g.D.Desk.sound c.args.names.now c.args.actors.now c.loop-made.actors c.sweep.new.actors c.loop-made.made c.loop-made.invariant c.sweep.ensures.went
 
-pub loop-preserved : goal.loop-preserved
-loop-preserved g c =
-    let T = left_in g.D.Desk.state c.args.actors.now in let U = left_in g.D.Desk.state c.loop.actors in let V = left_in g.D.Desk.state c.sweep.new.actors in
-    let inv = c.loop.invariant in let w = c.sweep.ensures.went in
-    let l1 = inv.left in let fell : V < U = c.in_ok-sweep.ensures.moved c.if-branch.true in record {
-      left = omega (arith, l1, fell);
-      went = all-more g.D.Desk.state g.D.Desk.bond g.D.Desk.sound (T - U + 1) (T - V) c.args.actors.now c.sweep.new.actors (omega (arith, l1, fell)) (all-on g.D.Desk.state g.D.Desk.bond g.D.Desk.sound (T - U) 1 c.args.actors.now c.loop.actors c.sweep.new.actors inv.went w);
-      ready = all-after g.D.Desk.state g.D.Desk.bond g.D.Desk.sound 1 (V + 1) c.args.names.now c.loop.actors c.sweep.new.actors (all-less g.D.Desk.state g.D.Desk.bond g.D.Desk.sound (U + 1) (1 + (V + 1)) c.args.names.now c.loop.actors (omega (arith, fell)) inv.ready) w;
-    }
+pub returns-then-moved-pace-clause-settles : goal.returns-then-moved-pace-clause-settles
+returns-then-moved-pace-clause-settles g c =
+    settling-last g.D.Desk.state g.D.Desk.bond g.D.Desk.sound c.args.names.now c.args.actors.now c.loop-made.actors c.sweep.new.actors c.loop-made.made c.loop-made.invariant c.sweep.ensures.went
 
-pub returns : goal.returns
-returns g c =
-    let T = left_in g.D.Desk.state c.args.actors.now in let U = left_in g.D.Desk.state c.loop.actors in
-    let inv = c.loop.invariant in let w = c.sweep.ensures.went in
-    let l1 = inv.left in let l2 = all-left g.D.Desk.state g.D.Desk.bond g.D.Desk.sound 1 c.loop.actors c.sweep.new.actors w in record {
-      left = omega (arith, l1, l2);
-      went = all-more g.D.Desk.state g.D.Desk.bond g.D.Desk.sound (T - U + 1) _ c.args.actors.now c.sweep.new.actors (omega (arith, l1, l2)) (all-on g.D.Desk.state g.D.Desk.bond g.D.Desk.sound (T - U) 1 c.args.actors.now c.loop.actors c.sweep.new.actors inv.went w);
-    }
+pub returns-then-moved-pace-clause-moves : goal.returns-then-moved-pace-clause-moves
+returns-then-moved-pace-clause-moves g c = λ moved.
+    let fell : left_in g.D.Desk.state c.sweep.new.actors < left_in g.D.Desk.state c.loop-made.actors =
+    let least = c.in_ok-moved.ensures.moved in let some = c.if-moved-eq0.false in omega (arith, least, some) in
+    settling-moves g.D.Desk.state g.D.Desk.bond g.D.Desk.sound c.args.names.now c.args.actors.now c.sweep.new.actors (c.loop-made.made + 1) (omega arith)
+    (settling-more g.D.Desk.state g.D.Desk.bond g.D.Desk.sound c.args.names.now c.args.actors.now c.loop-made.actors c.sweep.new.actors c.loop-made.made c.loop-made.invariant c.sweep.ensures.went fell)
+
+pub loop-made-preserved : goal.loop-made-preserved
+loop-made-preserved g c =
+    let fell : left_in g.D.Desk.state c.sweep.new.actors < left_in g.D.Desk.state c.loop-made.actors =
+    let least = c.in_ok-moved.ensures.moved in let some = c.if-moved-eq0.false in omega (arith, least, some) in
+    settling-more g.D.Desk.state g.D.Desk.bond g.D.Desk.sound c.args.names.now c.args.actors.now c.loop-made.actors c.sweep.new.actors c.loop-made.made c.loop-made.invariant c.sweep.ensures.went fell
+
+pub returns-clause-settles : goal.returns-clause-settles
+returns-clause-settles g c =
+    moves-settles g.D.Desk.state g.D.Desk.bond g.D.Desk.sound c.args.actors.now c.loop-made.actors
+    (settling-moves g.D.Desk.state g.D.Desk.bond g.D.Desk.sound c.args.names.now c.args.actors.now c.loop-made.actors c.loop-made.made (let some = c.requires.sweeps in let end = c.loop-made-test.false in omega (arith, some, end)) c.loop-made.invariant)
+
+pub returns-clause-moves : goal.returns-clause-moves
+returns-clause-moves g c = λ moved.
+    settling-moves g.D.Desk.state g.D.Desk.bond g.D.Desk.sound c.args.names.now c.args.actors.now c.loop-made.actors c.loop-made.made (let some = c.requires.sweeps in let end = c.loop-made-test.false in omega (arith, some, end)) c.loop-made.invariant

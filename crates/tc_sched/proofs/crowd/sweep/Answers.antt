@@ -1,4 +1,4 @@
-use Rattle.std.proofs.Common.{◌≡◌, ◌<◌, ◌+◌, sym, arith, subst, Bool, ◌||◌}
+use Rattle.std.proofs.Common.{◌≡◌, ◌<◌, ◌+◌, ℕ, sym, arith, subst}
 use Rattle.std.proofs.Math.ListN.{set}
 use Rattle.tc_sched.specs.Clients.{Client}
 use Rattle.tc_sched.specs.Steps.{IsReady, Steps, Went, left_of}
@@ -28,8 +28,8 @@ loop-i-preserved g c =
     let v = c.step.new.self in
     let h = c.in_ok-step.step in
     let at = c.index-actors-i.is in
-    subst (λ (b : Bool). Swept state bond is_sound c.args.names.now c.args.actors.now (set c.loop-i.actors c.loop-i.i v) (c.loop-i.i + 1) (c.loop-i.moved || b))
-    (sym c.has_moved-moved.ensures)
+    subst (λ (b : ℕ). Swept state bond is_sound c.args.names.now c.args.actors.now (set c.loop-i.actors c.loop-i.i v) (c.loop-i.i + 1) (c.loop-i.moved + b))
+    (sym c.moves-moved.ensures)
     (swept-step state bond is_sound c.args.names.now c.args.actors.now c.loop-i.actors c.loop-i.i c.loop-i.moved c.index-actors-i.result v h
     c.loop-i.invariant at (omega (arith, c.loop-i-test.true, c.loop-i.auto.actors))
     (subst (λ (x : Client g.row.D.Denot). Went state bond is_sound 1 x v) (sym at) c.step.ensures.went)
