@@ -1,6 +1,8 @@
 //! An agent as this check sees it: what its scripts ask next, and the rows that it has so far.
-use crate::centres::{Answer, Ask, Word, append_answer};
-use crate::texts::append_all;
+use crate::centres::{Answer, Ask, Word, append_reply, spelled};
+use crate::clauses::{Spelled, text_of_clauses};
+use crate::fault::Fault;
+use crate::texts::{append_all, append_count};
 use crate::values::{Values, filled, meets};
 use std::alloc::Global;
 use tc_lists::{NoMemory, append_number};
@@ -83,17 +85,18 @@ impl Agent {
         alloc: Global,
         agent: usize,
         grants: &[Grant],
-    ) -> Result<Option<Ask>, NoMemory> {
+    ) -> Result<Option<Ask>, Fault> {
         for _ in 0..self.items.len() {
             let Some(ask) = self.ask_at(alloc, agent)? else {
                 return Ok(None);
             };
-            match self.refusal(&ask, grants) {
-                Some(why) => self.add_row(alloc, why)?,
-                None => return Ok(Some(ask)),
+            if let Some(why) = self.refusal(&ask, grants) {
+                self.add_row(alloc, why)?;
+            } else if let Some(ask) = self.with_clauses(alloc, ask)? {
+                return Ok(Some(ask));
             }
         }
-        self.ask_at(alloc, agent)
+        Ok(self.ask_at(alloc, agent)?)
     }
 
     // What the item asks that has no row yet.
@@ -107,6 +110,7 @@ impl Agent {
         }
         Ok(Some(Ask {
             agent,
+            name: self.name.copy(alloc)?,
             number: (self.at as u64).saturating_add(1),
             centre: item.place,
             word: item.word,
@@ -126,6 +130,34 @@ impl Agent {
         None
     }
 
+    // The call, with the clauses that it sets as they are told; none behind the row that says why they
+    // are no clauses.
+    fn with_clauses(&mut self, alloc: Global, mut ask: Ask) -> Result<Option<Ask>, Fault> {
+        if ask.word != Word::SetSpec {
+            return Ok(Some(ask));
+        }
+        match spelled(alloc, &ask.operand)? {
+            Some(Spelled::Clauses(clauses)) => {
+                let text = text_of_clauses(alloc, &clauses)?;
+                ask.operand = Term::Atom(Name::new(alloc, &text)?);
+                Ok(Some(ask))
+            }
+            Some(Spelled::Bad(number, why)) => {
+                self.add_bad_row(alloc, number, why)?;
+                Ok(None)
+            }
+            None => Err(Fault::Beyond("clauses are set that are no text")),
+        }
+    }
+
+    // Adds the row of clauses of which the one of this number is none, for this reason.
+    fn add_bad_row(&mut self, alloc: Global, number: usize, why: &[u8]) -> Result<(), NoMemory> {
+        let mut told = Vec::new(alloc);
+        append_count(b"bad spec ", number, b" ", &mut told)?;
+        told.extend_from_slice(why)?;
+        self.add_row(alloc, &told)
+    }
+
     /// Takes in what has come of the call that it made last.
     pub fn take(&mut self, alloc: Global, answer: &Answer) -> Result<(), NoMemory> {
         if let Answer::Pending = answer {
@@ -137,7 +169,7 @@ impl Agent {
             self.learn(alloc, tuple)?;
         }
         let mut told = Vec::new(alloc);
-        append_answer(alloc, answer, &mut told)?;
+        append_reply(alloc, answer, &mut told)?;
         self.add_row(alloc, &told)
     }
 
@@ -165,7 +197,7 @@ impl Agent {
 
     /// Adds the row of a call that still waits. False where an item is left that should have been
     /// asked.
-    pub fn end(&mut self, alloc: Global, agent: usize, grants: &[Grant]) -> Result<bool, NoMemory> {
+    pub fn end(&mut self, alloc: Global, agent: usize, grants: &[Grant]) -> Result<bool, Fault> {
         if self.waits {
             self.add_row(alloc, b"pending")?;
             return Ok(true);

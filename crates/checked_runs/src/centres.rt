@@ -1,8 +1,14 @@
-//! A tuple centre as this check sees it: a list of tuples and a list of requests.
+//! A tuple centre as this check sees it: lists of clauses, of tuples and of requests.
+use crate::bodies::{Event, Moment, Scene};
+use crate::cascades::{Cascade, Setting};
+use crate::clauses::{Clause, Spelled, clauses_of, text_of_clauses};
+use crate::fault::Fault;
+use crate::lists::{chosen, copies, removed};
 use crate::texts::{append_all, append_term};
 use crate::values::oldest;
 use std::alloc::Global;
 use tc_lists::NoMemory;
+use tc_print::print_quoted;
 use tc_term::{Name, Term};
 
 /// What an agent may do at a centre.
@@ -57,6 +63,7 @@ impl Word {
 #[derive(Drop)]
 pub struct Ask {
     pub agent: usize,
+    pub name: Name,
     pub number: u64,
     pub centre: usize,
     pub word: Word,
@@ -70,11 +77,26 @@ pub enum Answer {
     Tuple(Term),
     NoTuple,
     Pending,
-    NoClauses,
+    Clauses(Vec<u8>),
+    /// The reactions to a request went over the budget.
+    OverBefore,
+    /// Those to what was done went over it, with the tuple that was chosen, if one was.
+    OverBehind(Option<Term>),
 }
 
-/// Appends the text of an answer.
+/// Appends the text of an answer, as it stands in a history.
 pub fn append_answer(alloc: Global, answer: &Answer, into: &mut Vec<u8>) -> Result<(), NoMemory> {
+    match answer {
+        Answer::OverBehind(Some(tuple)) => {
+            into.extend_from_slice(b"over post ")?;
+            append_term(alloc, tuple, into)
+        }
+        _ => append_reply(alloc, answer, into),
+    }
+}
+
+/// Appends the text of an answer, as an agent is told it.
+pub fn append_reply(alloc: Global, answer: &Answer, into: &mut Vec<u8>) -> Result<(), NoMemory> {
     match answer {
         Answer::Done => into.extend_from_slice(b"done"),
         Answer::Tuple(tuple) => {
@@ -83,7 +105,12 @@ pub fn append_answer(alloc: Global, answer: &Answer, into: &mut Vec<u8>) -> Resu
         }
         Answer::NoTuple => into.extend_from_slice(b"none"),
         Answer::Pending => into.extend_from_slice(b"pending"),
-        Answer::NoClauses => into.extend_from_slice(b"spec ''"),
+        Answer::Clauses(text) => {
+            into.extend_from_slice(b"spec ")?;
+            print_quoted(alloc, text, into)
+        }
+        Answer::OverBefore => into.extend_from_slice(b"over pre"),
+        Answer::OverBehind(_) => into.extend_from_slice(b"over post"),
     }
 }
 
@@ -107,23 +134,43 @@ pub fn append_operation(
 pub struct Request {
     pub agent: usize,
     pub number: u64,
+    name: Name,
     takes: bool,
     template: Term,
 }
 
-/// The tuples that are there and the requests that wait, each oldest first.
+impl Request {
+    // What is asked for.
+    fn operation(&self) -> &'static [u8] {
+        if self.takes { b"in" } else { b"rd" }
+    }
+}
+
+/// What has come of a call or of a request, and a line for each reaction to that.
+#[derive(Drop)]
+pub struct Outcome {
+    pub answer: Answer,
+    pub lines: Vec<Vec<u8>>,
+}
+
+/// The clauses and the budget of a centre, the tuples that are there and the requests that wait, each
+/// oldest first.
 #[derive(Drop)]
 pub struct Centre {
     pub name: Name,
+    budget: usize,
+    clauses: Vec<Clause>,
     tuples: Vec<Term>,
     waiting: Vec<Request>,
 }
 
 impl Centre {
     /// A centre without a tuple.
-    pub fn new(alloc: Global, name: Name) -> Centre {
+    pub fn new(alloc: Global, name: Name, budget: usize) -> Centre {
         Centre {
             name,
+            budget,
+            clauses: Vec::new(alloc),
             tuples: Vec::new(alloc),
             waiting: Vec::new(alloc),
         }
@@ -140,56 +187,130 @@ impl Centre {
         Ok(())
     }
 
+    /// Puts a clause behind all others.
+    pub fn add_clause(&mut self, clause: Clause) -> Result<(), NoMemory> {
+        self.clauses.push(clause)?;
+        Ok(())
+    }
+
     /// Does what a call asks for.
-    pub fn serve(&mut self, alloc: Global, ask: Ask) -> Result<Answer, NoMemory> {
+    pub fn serve(&mut self, alloc: Global, ask: Ask) -> Result<Outcome, Fault> {
         match ask.word {
-            Word::Out => {
-                self.put(ask.operand)?;
-                Ok(Answer::Done)
-            }
-            Word::In => self.wait(ask, true),
-            Word::Rd => self.wait(ask, false),
-            Word::Inp => self.search(alloc, &ask.operand, true),
-            Word::Rdp => self.search(alloc, &ask.operand, false),
-            Word::SetSpec => Ok(Answer::Done),
-            Word::GetSpec => Ok(Answer::NoClauses),
+            Word::Out => Ok(self.serve_out(alloc, &ask)?),
+            Word::In => Ok(self.wait(alloc, ask, true)?),
+            Word::Rd => Ok(self.wait(alloc, ask, false)?),
+            Word::Inp => Ok(self.search(alloc, &ask, b"inp", true)?),
+            Word::Rdp => Ok(self.search(alloc, &ask, b"rdp", false)?),
+            Word::SetSpec => self.replace(alloc, &ask.operand),
+            Word::GetSpec => Ok(Outcome {
+                answer: Answer::Clauses(text_of_clauses(alloc, &self.clauses)?),
+                lines: Vec::new(alloc),
+            }),
         }
+    }
+
+    // Replaces the clauses.
+    fn replace(&mut self, alloc: Global, text: &Term) -> Result<Outcome, Fault> {
+        let Some(Spelled::Clauses(clauses)) = spelled(alloc, text)? else {
+            return Err(Fault::Beyond("clauses are replaced by none"));
+        };
+        self.clauses = clauses;
+        Ok(Outcome {
+            answer: Answer::Done,
+            lines: Vec::new(alloc),
+        })
+    }
+
+    // Puts a tuple.
+    fn serve_out(&mut self, alloc: Global, ask: &Ask) -> Result<Outcome, NoMemory> {
+        let before = self.kept(alloc)?;
+        self.put(ask.operand.copy(alloc)?)?;
+        let event = Event::new(alloc, b"out", Moment::Done, &ask.operand)?;
+        self.react(
+            alloc,
+            &ask.name,
+            event,
+            before,
+            (Answer::Done, Answer::OverBehind(None)),
+        )
     }
 
     // Lets a call wait.
-    fn wait(&mut self, ask: Ask, takes: bool) -> Result<Answer, NoMemory> {
-        self.waiting.push(Request {
+    fn wait(&mut self, alloc: Global, ask: Ask, takes: bool) -> Result<Outcome, NoMemory> {
+        let request = Request {
             agent: ask.agent,
             number: ask.number,
+            name: ask.name,
             takes,
             template: ask.operand,
-        })?;
-        Ok(Answer::Pending)
+        };
+        let before = self.kept(alloc)?;
+        let event = Event::new(alloc, request.operation(), Moment::Asked, &request.template)?;
+        let outcome = self.react(
+            alloc,
+            &request.name,
+            event,
+            before,
+            (Answer::Pending, Answer::OverBefore),
+        )?;
+        if let Answer::Pending = outcome.answer {
+            self.waiting.push(request)?;
+        }
+        Ok(outcome)
     }
 
     // The oldest tuple that the template matches, taken or copied.
-    fn search(&mut self, alloc: Global, template: &Term, takes: bool) -> Result<Answer, NoMemory> {
-        let Some(place) = oldest(alloc, &self.tuples, template)? else {
-            return Ok(Answer::NoTuple);
-        };
-        match chosen(alloc, &mut self.tuples, place, takes)? {
-            Some(tuple) => Ok(Answer::Tuple(tuple)),
-            None => Ok(Answer::NoTuple),
+    fn search(
+        &mut self,
+        alloc: Global,
+        ask: &Ask,
+        operation: &'static [u8],
+        takes: bool,
+    ) -> Result<Outcome, NoMemory> {
+        let before = self.kept(alloc)?;
+        if let Some(place) = oldest(alloc, &self.tuples, &ask.operand)?
+            && let Some(tuple) = chosen(alloc, &mut self.tuples, place, takes)?
+        {
+            return self.tell(alloc, &ask.name, operation, tuple, before);
         }
+        let event = Event::new(alloc, operation, Moment::Missed, &ask.operand)?;
+        self.react(
+            alloc,
+            &ask.name,
+            event,
+            before,
+            (Answer::NoTuple, Answer::OverBehind(None)),
+        )
     }
 
-    /// The oldest request that can be answered, which no longer waits then, and its tuple.
-    pub fn answer_next(&mut self, alloc: Global) -> Result<Option<(Request, Term)>, NoMemory> {
+    // Tells a tuple that was chosen.
+    fn tell(
+        &mut self,
+        alloc: Global,
+        agent: &Name,
+        operation: &'static [u8],
+        tuple: Term,
+        before: Vec<Term>,
+    ) -> Result<Outcome, NoMemory> {
+        let event = Event::new(alloc, operation, Moment::Done, &tuple)?;
+        let other = Answer::OverBehind(Some(tuple.copy(alloc)?));
+        self.react(alloc, agent, event, before, (Answer::Tuple(tuple), other))
+    }
+
+    /// The oldest request that can be answered, which no longer waits then, and what has come of it.
+    pub fn answer_next(&mut self, alloc: Global) -> Result<Option<(Request, Outcome)>, NoMemory> {
         let Some((place, age)) = self.next_answer(alloc)? else {
             return Ok(None);
         };
         let Some(request) = removed(&mut self.waiting, place) else {
             return Ok(None);
         };
-        match chosen(alloc, &mut self.tuples, age, request.takes)? {
-            Some(tuple) => Ok(Some((request, tuple))),
-            None => Ok(None),
-        }
+        let before = self.kept(alloc)?;
+        let Some(tuple) = chosen(alloc, &mut self.tuples, age, request.takes)? else {
+            return Ok(None);
+        };
+        let outcome = self.tell(alloc, &request.name, request.operation(), tuple, before)?;
+        Ok(Some((request, outcome)))
     }
 
     // The places of the oldest request that can be answered, and of its tuple.
@@ -201,29 +322,52 @@ impl Centre {
         }
         Ok(None)
     }
+
+    // The tuples as they are, for the case that reactions go over the budget.
+    fn kept(&self, alloc: Global) -> Result<Vec<Term>, NoMemory> {
+        if self.clauses.is_empty() {
+            return Ok(Vec::new(alloc));
+        }
+        copies(alloc, &self.tuples)
+    }
+
+    // Runs the reactions to an event. Where they go over the budget, the tuples are as before, and the
+    // second of the answers is the one that counts.
+    fn react(
+        &mut self,
+        alloc: Global,
+        agent: &Name,
+        event: Event,
+        before: Vec<Term>,
+        answers: (Answer, Answer),
+    ) -> Result<Outcome, NoMemory> {
+        let (answer, other) = answers;
+        let mut cascade = Cascade::new(alloc, event)?;
+        let setting = Setting {
+            clauses: &self.clauses,
+            scene: Scene {
+                agent,
+                centre: &self.name,
+            },
+            budget: self.budget,
+        };
+        let is_within = cascade.run(alloc, setting, &mut self.tuples)?;
+        let lines = cascade.lines;
+        if is_within {
+            return Ok(Outcome { answer, lines });
+        }
+        self.tuples = before;
+        Ok(Outcome {
+            answer: other,
+            lines,
+        })
+    }
 }
 
-// The tuple at this place, taken or copied.
-fn chosen(
-    alloc: Global,
-    tuples: &mut Vec<Term>,
-    place: usize,
-    takes: bool,
-) -> Result<Option<Term>, NoMemory> {
-    if takes {
-        return Ok(removed(tuples, place));
-    }
-    match tuples.get(place) {
-        Some(tuple) => Ok(Some(tuple.copy(alloc)?)),
-        None => Ok(None),
-    }
-}
-
-// The element at this place, which is taken out.
-fn removed<T>(list: &mut Vec<T>, place: usize) -> Option<T> {
-    if place < list.len() {
-        Some(list.remove(place))
-    } else {
-        None
+/// What the text of clauses in an operand is: nothing, where there is no text.
+pub fn spelled(alloc: Global, operand: &Term) -> Result<Option<Spelled>, Fault> {
+    match operand {
+        Term::Atom(name) => Ok(Some(clauses_of(alloc, name.bytes())?)),
+        _ => Ok(None),
     }
 }

@@ -1,13 +1,13 @@
 //! The check: a text is gone through call by call, in an order in which they can have been made.
 use crate::agents::{Agent, Grant};
-use crate::centres::{Answer, Ask, Centre, Request, append_answer, append_operation};
+use crate::centres::{Answer, Ask, Centre, Outcome, Request, append_answer, append_operation};
 use crate::fault::Fault;
 use crate::parts::{History, Parts, parts_of};
 use crate::worlds::{World, world_of};
 use std::alloc::Global;
 use tc_lists::{NoMemory, append_number};
 use tc_print::print_name;
-use tc_term::{Name, Term};
+use tc_term::Name;
 
 /// Whether the text is one that the configuration may lead to, with this number as status.
 ///
@@ -119,18 +119,30 @@ fn make(
     let mut line = entry(alloc, b"call ", &agent.name, ask.number)?;
     line.extend_from_slice(b" ")?;
     append_operation(alloc, ask.word, &ask.operand, &mut line)?;
-    let answer = centre.serve(alloc, ask)?;
-    end_entry(alloc, &answer, &mut line)?;
+    let outcome = centre.serve(alloc, ask)?;
+    end_entry(alloc, &outcome.answer, &mut line)?;
     history.take(
         &line,
         "a call isn't the one that was asked, or its answer isn't right",
     )?;
-    agent.take(alloc, &answer)?;
+    take_reactions(&outcome, history)?;
+    agent.take(alloc, &outcome.answer)?;
     for _ in 0..centre.waiting() {
-        let Some((request, tuple)) = centre.answer_next(alloc)? else {
+        let Some((request, outcome)) = centre.answer_next(alloc)? else {
             return Ok(());
         };
-        give(alloc, &request, tuple, agents, history)?;
+        give(alloc, &request, &outcome, agents, history)?;
+    }
+    Ok(())
+}
+
+// Takes the lines of all reactions.
+fn take_reactions(outcome: &Outcome, history: &mut History<'_>) -> Result<(), Fault> {
+    for line in &outcome.lines {
+        history.take(
+            line,
+            "a reaction isn't the one that was triggered, or does something else",
+        )?;
     }
     Ok(())
 }
@@ -139,7 +151,7 @@ fn make(
 fn give(
     alloc: Global,
     request: &Request,
-    tuple: Term,
+    outcome: &Outcome,
     agents: &mut [Agent],
     history: &mut History<'_>,
 ) -> Result<(), Fault> {
@@ -147,13 +159,13 @@ fn give(
         return Err(Fault::Wrong("a request is of no agent"));
     };
     let mut line = entry(alloc, b"give ", &agent.name, request.number)?;
-    let answer = Answer::Tuple(tuple);
-    end_entry(alloc, &answer, &mut line)?;
+    end_entry(alloc, &outcome.answer, &mut line)?;
     history.take(
         &line,
         "a request isn't answered, or not in its turn, or by another tuple",
     )?;
-    agent.take(alloc, &answer)?;
+    take_reactions(outcome, history)?;
+    agent.take(alloc, &outcome.answer)?;
     Ok(())
 }
 

@@ -1,8 +1,9 @@
 //! Configurations that are drawn.
 use crate::centres::{WORDS, Word};
-use crate::texts::append_count;
+use crate::texts::{append_all, append_count};
 use std::alloc::Global;
 use tc_lists::NoMemory;
+use tc_print::print_quoted;
 
 /// Tuples that a centre begins with.
 const TUPLES: [&[u8]; 6] = [b"p(1)", b"p(2)", b"q(1,2)", b"q(2,2)", b"f(p(1))", b"r"];
@@ -36,16 +37,66 @@ const ITEMS: [(&[u8], bool); 13] = [
     (b"rdp(", false),
 ];
 
-/// Numbers that follow from a seed.
+/// Reactions that a centre may have.
+const REACTIONS: [&[u8]; 30] = [
+    b"reaction(out(p(X)),(in_r(count(N)),M is N + 1,out_r(count(M))))",
+    b"reaction(out(p(X)),out_r(count(0)))",
+    b"reaction(in_r(count(N)),(N > 2,N mod 2 =:= 1,out_r(f(N))))",
+    b"reaction(out(X),out_r(seen(X)))",
+    b"reaction(out_r(seen(X)),(X = p(Y),Y >= 2,in_r(seen(X))))",
+    b"reaction(out(r),(in_r(r),rd_r(p(X)),in_r(absent(X))))",
+    b"reaction(out(q(X,Y)),out_r(first(X,Y)))",
+    b"reaction(out_r(first(X,Y)),(in_r(first(X,Y)),out_r(second(Y,X))))",
+    b"reaction(out_r(second(X,X)),((in_r(second(X,Y)),X = Y),out_r(p(X))))",
+    b"reaction(inp(f(X)),(success,out_r(again(X))))",
+    b"reaction(out_r(again(X)),(in_r(again(X)),out_r(again(X))))",
+    b"reaction(inp(p(X)),(failure,out_r(p(3))))",
+    b"reaction(inp(p(X)),(success,post,out_r(r)))",
+    b"reaction(in(T),(pre,out_r(wanted)))",
+    b"reaction(in(T),(post,in_r(wanted)))",
+    b"reaction(rd(p(X)),(success,current_tuple(p(Y)),X = Y,out_r(q(X,Y))))",
+    b"reaction(rd_r(X),(X \\= r,out_r(touched(X))))",
+    b"reaction(out(r),(no_r(lock),out_r(lock)))",
+    b"reaction(rdp(T),(current_agent(A),current_tc(C),current_op(O),out_r(who(A,C,O))))",
+    b"reaction(out(q(X,Y)),(X < Y,Z is X * 3 - Y // 2,Z =\\= 0,out_r(p(Z))))",
+    b"reaction(inp(q(X,Y)),(failure,X = 7,Y = 8,X \\= Y,out_r(q(X,Y))))",
+    b"reaction(out(q(X,Y)),(rd_r(q(A,B)),rd_r(q(B,C))))",
+    b"reaction(in(T),(pre,out_r(again(T))))",
+    b"reaction(rd(T),(pre,out_r(p(1))))",
+    b"reaction(in(q(A,B)),(pre,A = g(B),current_tuple(T),T = q(g(C),C),no_r(T)))",
+    b"reaction(rdp(q(X,f(X))),(failure,out_r(r)))",
+    b"reaction(in(Z),(rd_r(Z),true,X is foo + 1))",
+    b"reaction(out_r(p(X)),(X < 9,Y is X + 1,out_r(p(Y))))",
+    b"reaction(in(p(X)),(pre,no_r(p(3)),out_r(p(5))))",
+    b"reaction(rdp(X),(success,in_r(X),out_r(f(p(2)))))",
+];
+
+/// What else the clauses of a centre are to be replaced by.
+const TEXTS: [&[u8]; 8] = [
+    b"''",
+    b"'reaction(out(r),((no_r(lock),out_r(lock)),rd_r(r))). % the last'",
+    b"'reaction(out(p(X)),jump).'",
+    b"'reaction(out(r),true). reaction(jump(X),true).'",
+    b"'rule.'",
+    b"'reaction(out(r),true). reaction('",
+    b"'reaction(out(99999999999999999999),true).'",
+    b"'reaction(out(r),(X is 1 + 2,Y = X,out_r(p(Y)))).'",
+];
+
+/// Numbers that follow from a seed, for configurations with reactions or without.
 #[derive(Clone, Copy)]
 pub struct Draws {
     state: u64,
+    reacts: bool,
 }
 
 impl Draws {
     /// Numbers that follow from this seed.
-    pub fn new(seed: u64) -> Draws {
-        Draws { state: seed }
+    pub fn new(seed: u64, reacts: bool) -> Draws {
+        Draws {
+            state: seed,
+            reacts,
+        }
     }
 
     // A number below the count: 0 where that is 0.
@@ -76,7 +127,8 @@ pub struct Drawn {
 
 /// The next configuration.
 pub fn next_drawn(alloc: Global, draws: &mut Draws) -> Result<Drawn, NoMemory> {
-    let centres = draws.below(8).saturating_add(1);
+    let most_centres = if draws.reacts { 2 } else { 8 };
+    let centres = draws.below(most_centres).saturating_add(1);
     let agents = draws.below(11).saturating_add(2);
     let mut text = Vec::new(alloc);
     text.extend_from_slice(b"role(r).\nrole(s).\n")?;
@@ -85,7 +137,7 @@ pub fn next_drawn(alloc: Global, draws: &mut Draws) -> Result<Drawn, NoMemory> {
     }
     let mut items: usize = 0;
     for agent in 0..agents {
-        let count = draw_agent(draws, agent, centres, &mut text)?;
+        let count = draw_agent(alloc, draws, agent, centres, &mut text)?;
         items = items.saturating_add(count);
     }
     Ok(Drawn {
@@ -96,9 +148,24 @@ pub fn next_drawn(alloc: Global, draws: &mut Draws) -> Result<Drawn, NoMemory> {
     })
 }
 
+// A centre with a small budget, and some reactions.
+fn draw_reactions(draws: &mut Draws, centre: usize, into: &mut Vec<u8>) -> Result<(), NoMemory> {
+    append_count(b"centre(c", centre, b",", into)?;
+    append_count(b"", draws.below(12).saturating_add(2), b").\n", into)?;
+    for _ in 0..draws.below(12).saturating_add(6) {
+        append_count(b"spec(c", centre, b",", into)?;
+        append_all(&[draws.one(&REACTIONS), b").\n"], into)?;
+    }
+    Ok(())
+}
+
 // A centre, with some tuples, and with all grants to one role and some to the other.
 fn draw_centre(draws: &mut Draws, centre: usize, into: &mut Vec<u8>) -> Result<(), NoMemory> {
-    append_count(b"centre(c", centre, b").\n", into)?;
+    if draws.reacts {
+        draw_reactions(draws, centre, into)?;
+    } else {
+        append_count(b"centre(c", centre, b").\n", into)?;
+    }
     for _ in 0..draws.below(6) {
         append_count(b"tuple(c", centre, b",", into)?;
         into.extend_from_slice(draws.one(&TUPLES))?;
@@ -129,6 +196,7 @@ fn append_grant(
 
 // An agent with one script or two, and how many items these have.
 fn draw_agent(
+    alloc: Global,
     draws: &mut Draws,
     agent: usize,
     centres: usize,
@@ -140,16 +208,17 @@ fn draw_agent(
         b",r).\n"
     };
     append_count(b"agent(a", agent, role, into)?;
-    let first = draw_script(draws, agent, centres, into)?;
+    let first = draw_script(alloc, draws, agent, centres, into)?;
     if draws.below(3) > 0 {
         return Ok(first);
     }
-    let second = draw_script(draws, agent, centres, into)?;
+    let second = draw_script(alloc, draws, agent, centres, into)?;
     Ok(first.saturating_add(second))
 }
 
 // A script, and how many items it has.
 fn draw_script(
+    alloc: Global,
     draws: &mut Draws,
     agent: usize,
     centres: usize,
@@ -163,14 +232,14 @@ fn draw_script(
         }
         let centre = draws.below(centres);
         append_count(b"c", centre, b" ? ", into)?;
-        draw_operation(draws, into)?;
+        draw_operation(alloc, draws, into)?;
     }
     into.extend_from_slice(b"]).\n")?;
     Ok(count)
 }
 
 // An operation.
-fn draw_operation(draws: &mut Draws, into: &mut Vec<u8>) -> Result<(), NoMemory> {
+fn draw_operation(alloc: Global, draws: &mut Draws, into: &mut Vec<u8>) -> Result<(), NoMemory> {
     let kind = draws.below(ITEMS.len().saturating_add(1));
     match ITEMS.get(kind) {
         Some((word, puts)) => {
@@ -182,15 +251,31 @@ fn draw_operation(draws: &mut Draws, into: &mut Vec<u8>) -> Result<(), NoMemory>
             })?;
             into.extend_from_slice(b")")
         }
-        None => draw_of_clauses(draws, into),
+        None => draw_of_clauses(alloc, draws, into),
     }
 }
 
 // An operation on the clauses of a centre.
-fn draw_of_clauses(draws: &mut Draws, into: &mut Vec<u8>) -> Result<(), NoMemory> {
+fn draw_of_clauses(alloc: Global, draws: &mut Draws, into: &mut Vec<u8>) -> Result<(), NoMemory> {
     if draws.below(2) == 0 {
-        into.extend_from_slice(Word::GetSpec.text())
-    } else {
-        into.extend_from_slice(b"set_spec('')")
+        return into.extend_from_slice(Word::GetSpec.text());
     }
+    into.extend_from_slice(b"set_spec(")?;
+    if !draws.reacts {
+        into.extend_from_slice(b"''")?;
+    } else if draws.below(3) == 0 {
+        into.extend_from_slice(draws.one(&TEXTS))?;
+    } else {
+        draw_clauses(alloc, draws, into)?;
+    }
+    into.extend_from_slice(b")")
+}
+
+// A text of clauses.
+fn draw_clauses(alloc: Global, draws: &mut Draws, into: &mut Vec<u8>) -> Result<(), NoMemory> {
+    let mut clauses = Vec::new(alloc);
+    for _ in 0..draws.below(9) {
+        append_all(&[draws.one(&REACTIONS), b". "], &mut clauses)?;
+    }
+    print_quoted(alloc, &clauses, into)
 }

@@ -16,8 +16,8 @@ fn append_centre(centre: usize, into: &mut Vec<u8>) -> Result<(), NoMemory> {
     Ok(())
 }
 
-// The role, and so many centres.
-fn with_centres(alloc: Global, centres: usize) -> Result<Vec<u8>, NoMemory> {
+/// The role, and so many centres.
+pub fn with_centres(alloc: Global, centres: usize) -> Result<Vec<u8>, NoMemory> {
     let mut text = b"role(r).\n".to_vec(alloc)?;
     for centre in 0..centres {
         append_centre(centre, &mut text)?;
@@ -25,8 +25,8 @@ fn with_centres(alloc: Global, centres: usize) -> Result<Vec<u8>, NoMemory> {
     Ok(text)
 }
 
-// Appends an agent and the beginning of its script.
-fn begin_agent(agent: usize, into: &mut Vec<u8>) -> Result<(), NoMemory> {
+/// Appends an agent and the beginning of its script.
+pub fn begin_agent(agent: usize, into: &mut Vec<u8>) -> Result<(), NoMemory> {
     append_count(b"agent(a", agent, b",r).\n", into)?;
     append_count(b"script(a", agent, b",[", into)
 }

@@ -2,35 +2,43 @@
 //!
 //! The check (`checking`) shares no code with what serves calls: it reads the configuration, goes
 //! through the text call by call, and works out each line by plain lists of tuples and requests.
+//! Bodies of reactions are run over such a list too, and a cascade is a list of events.
 //! Only which agent calls next at a centre is taken from the text. That call has to be the one that
 //! the agent's script asks next, with the values that came before; so the histories of all centres
 //! together are those of calls that can have been made one after another, in script order. Whatever
 //! else stands in the text, a letter more or less, is told as wrong.
-//!
-//! It knows no reactions: no configuration here has any.
 //!
 //! What is run, a line for each run:
 //!
 //! | Runs | Show |
 //! |---|---|
 //! | configurations drawn from a seed | that texts are right where calls meet, wait and are answered |
+//! | the same with reactions | that cascades are right: fired and failed, over the budget, replaced |
 //! | rings, locks, pairs and a meeting | that logs which don't depend on the order of calls stay the same |
+//! | philosophers, a counter and a barrier | the same where reactions do the work |
 //! | two agents and a gate | that agents of two workers go on side by side |
 //! | texts that are damaged | that the check tells each damage |
 //! | 1,000 agents at 64 centres | the same as the first, at size |
 #![tactic(auto)]
 
 mod agents;
+mod bodies;
+mod cascades;
 mod centres;
 mod checking;
+mod clauses;
 mod damage;
 mod draws;
+mod equations;
 mod fault;
 mod fixed;
 mod gates;
 mod harm;
 mod lines;
+mod lists;
+mod numbers;
 mod parts;
+mod reactive;
 mod report;
 mod running;
 mod texts;

@@ -4,6 +4,7 @@ use crate::fault::Fault;
 use crate::fixed::{crowd, lock, meeting, pairs, ring};
 use crate::gates::Held;
 use crate::lines::{append_line, append_verdict, append_workers};
+use crate::reactive::{barrier, counter, philosophers, replaced};
 use crate::running::run;
 use crate::texts::{append_all, append_count};
 use std::alloc::Global;
@@ -17,17 +18,76 @@ const WORKERS: [u64; 5] = [1, 2, 4, 8, 64];
 /// How many configurations are drawn.
 const DRAWN: usize = 24;
 
+/// Parts of lines that tell what reactions have done.
+const KINDS: [&[u8]; 8] = [
+    b" fired",
+    b" failed",
+    b" put",
+    b" took",
+    b" read",
+    b" over pre",
+    b" over post",
+    b" bad spec",
+];
+
 /// Runs configurations that are drawn.
 pub fn report_drawn<R: Threads + Wait + Sync>(
     rt: &R,
     alloc: Global,
     into: &mut Vec<u8>,
 ) -> Result<(), Fault> {
-    let mut draws = Draws::new(2026);
-    for number in 0..DRAWN {
+    let mut draws = Draws::new(2026, false);
+    report_draws(rt, alloc, b"drawn ", &mut draws, into)?;
+    let mut draws = Draws::new(2027, true);
+    report_draws(rt, alloc, b"drawn with reactions ", &mut draws, into)?;
+    report_kinds(rt, alloc, Draws::new(2027, true), into)
+}
+
+// Tells how often each kind of line stands in the texts that one worker has written.
+fn report_kinds<R: Threads + Wait + Sync>(
+    rt: &R,
+    alloc: Global,
+    mut draws: Draws,
+    into: &mut Vec<u8>,
+) -> Result<(), Fault> {
+    let mut texts = Vec::new(alloc);
+    for _ in 0..DRAWN {
         let drawn = next_drawn(alloc, &mut draws)?;
+        let ran = run(rt, alloc, &drawn.text, 1, &NoGate)?;
+        texts.extend_from_slice(&ran.text)?;
+    }
+    into.extend_from_slice(b"in the texts of these with 1 worker:")?;
+    for kind in KINDS {
+        append_count(b" ", occurrences(kind, &texts), kind, into)?;
+    }
+    into.extend_from_slice(b"\n")?;
+    Ok(())
+}
+
+// How often this stands in a text.
+fn occurrences(this: &[u8], text: &[u8]) -> usize {
+    let mut count: usize = 0;
+    for place in 0..text.len() {
+        let (_, behind) = text.split_at(place.min(text.len()));
+        if behind.starts_with(this) {
+            count = count.saturating_add(1);
+        }
+    }
+    count
+}
+
+// Runs configurations that are drawn so.
+fn report_draws<R: Threads + Wait + Sync>(
+    rt: &R,
+    alloc: Global,
+    name: &[u8],
+    draws: &mut Draws,
+    into: &mut Vec<u8>,
+) -> Result<(), Fault> {
+    for number in 0..DRAWN {
+        let drawn = next_drawn(alloc, draws)?;
         for workers in WORKERS {
-            append_count(b"drawn ", number, b" (", into)?;
+            append_count(name, number, b" (", into)?;
             append_count(b"", drawn.centres, b" centres, ", into)?;
             append_count(b"", drawn.agents, b" agents, ", into)?;
             append_count(b"", drawn.items, b" items), ", into)?;
@@ -47,11 +107,18 @@ pub fn report_fixed<R: Threads + Wait + Sync>(
     alloc: Global,
     into: &mut Vec<u8>,
 ) -> Result<(), Fault> {
-    let rows: [(&[u8], Vec<u8>); 4] = [
+    let rows: [(&[u8], Vec<u8>); 8] = [
         (b"ring of 12 agents, 5 rounds", ring(alloc, 12, 5)?),
         (b"a lock for 16 agents, 4 times", lock(alloc, 16, 4)?),
         (b"20 pairs with 10 numbers each", pairs(alloc, 20, 10)?),
         (b"a meeting of 100 agents", meeting(alloc, 100)?),
+        (b"9 philosophers, 4 meals", philosophers(alloc, 9, 4)?),
+        (
+            b"a counter that 16 agents raise 20 times, to 320",
+            counter(alloc, 16, 20)?,
+        ),
+        (b"a barrier of 30 agents", barrier(alloc, 30)?),
+        (b"reactions replaced at 12 centres", replaced(alloc, 12)?),
     ];
     for (name, configuration) in rows {
         let first = run(rt, alloc, &configuration, 1, &NoGate)?;

@@ -39,9 +39,26 @@ impl Values {
         if let Some(known) = self.get(variable) {
             return Ok(*known == *value);
         }
+        self.put(alloc, variable, value)?;
+        Ok(true)
+    }
+
+    /// Notes what a variable stands for that has stood for nothing.
+    pub fn put(&mut self, alloc: Global, variable: u32, value: &Term) -> Result<(), NoMemory> {
         let value = value.copy(alloc)?;
         self.pairs.push(Pair { variable, value })?;
-        Ok(true)
+        Ok(())
+    }
+
+    /// Lets a variable stand for this, also where it stands in what others stand for.
+    pub fn bind(&mut self, alloc: Global, variable: u32, value: &Term) -> Result<(), NoMemory> {
+        let mut one = Values::none(alloc);
+        one.put(alloc, variable, value)?;
+        for pair in self.pairs.iter_mut() {
+            let value = filled(alloc, &pair.value, &one)?;
+            pair.value = value;
+        }
+        self.put(alloc, variable, value)
     }
 }
 
@@ -91,8 +108,8 @@ pub fn filled(alloc: Global, term: &Term, values: &Values) -> Result<Term, NoMem
     }
 }
 
-// The compound of these arguments: where there is none, the atom.
-fn compound(name: Name, terms: Vec<Term>) -> Term {
+/// The compound of these arguments: where there is none, the atom.
+pub fn compound(name: Name, terms: Vec<Term>) -> Term {
     if terms.is_empty() {
         return Term::Atom(name);
     }

@@ -5,11 +5,15 @@ ghost use Rattle.tc_term.specs.TreeView.{tree_of};
 
 use crate::agents::{Agent, Grant, Item};
 use crate::centres::{Centre, Word};
+use crate::clauses::clause_of;
 use crate::fault::Fault;
 use crate::texts::append;
 use std::alloc::Global;
 use tc_read::read_clause;
 use tc_term::{Name, Term};
+
+// The budget of a centre that is given none.
+const BUDGET: i64 = 1000;
 
 /// The centres and the agents, in the order of their clauses, and the grants.
 #[derive(Drop)]
@@ -45,7 +49,11 @@ impl World {
             return Err(Fault::Beyond("a clause is a compound"));
         };
         match (word.bytes(), args.items()) {
-            (b"centre", [Term::Atom(name)]) => self.add_centre(alloc, name),
+            (b"centre", [Term::Atom(name)]) => self.add_centre(alloc, name, BUDGET),
+            (b"centre", [Term::Atom(name), Term::Int(budget)]) => {
+                self.add_centre(alloc, name, *budget)
+            }
+            (b"spec", [Term::Atom(centre), clause]) => self.add_clause(alloc, centre, clause),
             (b"role", [Term::Atom(_)]) => Ok(()),
             (b"tuple", [Term::Atom(centre), tuple]) => self.add_tuple(alloc, centre, tuple),
             (b"grant", [Term::Atom(role), Term::Atom(centre), Term::Atom(word)]) => {
@@ -57,9 +65,23 @@ impl World {
         }
     }
 
-    fn add_centre(&mut self, alloc: Global, name: &Name) -> Result<(), Fault> {
-        let centre = Centre::new(alloc, name.copy(alloc)?);
+    fn add_centre(&mut self, alloc: Global, name: &Name, budget: i64) -> Result<(), Fault> {
+        let Ok(budget) = usize::try_from(budget) else {
+            return Err(Fault::Beyond("a budget is below 0"));
+        };
+        let centre = Centre::new(alloc, name.copy(alloc)?, budget);
         Ok(append(&mut self.centres, centre)?)
+    }
+
+    fn add_clause(&mut self, alloc: Global, centre: &Name, clause: &Term) -> Result<(), Fault> {
+        let place = self.place_of(centre)?;
+        let Ok(clause) = clause_of(alloc, clause)? else {
+            return Err(Fault::Beyond("a reaction has another form"));
+        };
+        if let Some(centre) = self.centres.get_mut(place) {
+            centre.add_clause(clause)?;
+        }
+        Ok(())
     }
 
     fn add_tuple(&mut self, alloc: Global, centre: &Name, tuple: &Term) -> Result<(), Fault> {
