@@ -71,7 +71,13 @@ fn two(alloc: Global, first: Move, second: Move) -> Result<Vec<Vec<Move>>, NoMem
 fn alone(alloc: Global, acts: &[Act]) -> Result<Vec<Vec<Move>>, NoMemory> {
     let mut moves = Vec::with_capacity(alloc, acts.len())?;
     for act in acts {
-        append(&mut moves, Move { after: 0, act: *act })?;
+        append(
+            &mut moves,
+            Move {
+                after: 0,
+                act: *act,
+            },
+        )?;
     }
     Ok(vec![in alloc; moves]?)
 }
@@ -87,7 +93,14 @@ pub fn report_turns<R: Threads + Wait + Sync>(
         notes: &[&[b"done", b"done", b"no turn left"]],
         histories: &[b"call a 1 out(p(1)) = done\ncall a 2 out(p(1)) = done\n"],
     };
-    report(rt, alloc, 2, &alone(alloc, &[PUT, PUT, PUT])?, &expected, into)
+    report(
+        rt,
+        alloc,
+        2,
+        &alone(alloc, &[PUT, PUT, PUT])?,
+        &expected,
+        into,
+    )
 }
 
 /// One agent that polls for a call that it hasn't made, and for one that it has.
@@ -101,13 +114,27 @@ pub fn report_polls<R: Threads + Wait + Sync>(
         notes: &[&[b"no such call"]],
         histories: &[b""],
     };
-    report(rt, alloc, 2, &alone(alloc, &[Act::Poll(5)])?, &stranger, into)?;
+    report(
+        rt,
+        alloc,
+        2,
+        &alone(alloc, &[Act::Poll(5)])?,
+        &stranger,
+        into,
+    )?;
     let own = Expected {
         title: b"a poll for a call that was made",
         notes: &[&[b"done", b"done"]],
         histories: &[b"call a 1 out(p(1)) = done\nlook a 2 1 = done\n"],
     };
-    report(rt, alloc, 2, &alone(alloc, &[PUT, Act::Poll(1)])?, &own, into)
+    report(
+        rt,
+        alloc,
+        2,
+        &alone(alloc, &[PUT, Act::Poll(1)])?,
+        &own,
+        into,
+    )
 }
 
 /// One agent holds a turn, while another calls.

@@ -43,6 +43,15 @@ pub fn together<R: Threads + Wait + Sync>(
     Ok(Outcome { notes, core })
 }
 
+/// What all threads of a row see.
+#[derive(Clone, Copy)]
+struct Scene<'a> {
+    alloc: Global,
+    centre: &'a SharedCentre,
+    stage: &'a Stage,
+    moves: &'a [Vec<Move>],
+}
+
 // Plays with each pass, in a thread of its own.
 fn play_all<R: Threads + Wait + Sync>(
     rt: &R,
@@ -55,14 +64,29 @@ fn play_all<R: Threads + Wait + Sync>(
     ensures { IfOk result (λ played. ArePlayed centre.now passes.items played.items) }
 {
     let stage = Stage::new();
-    let stage = &stage;
+    let scene = Scene {
+        alloc,
+        centre,
+        stage: &stage,
+        moves,
+    };
+    let scene = &scene;
     thread::map_vec(
         rt,
         passes,
         &|pass: CentrePass| -> Played
-            requires { IsFreshPassOf centre.now pass }
-            ensures { IsPlayed centre.entry.now pass result }
-        { play(rt, alloc, centre, stage, pass, moves) },
+            requires { IsFreshPassOf scene.now.centre.now pass }
+            ensures { IsPlayed scene.entry.now.centre.now pass result }
+        {
+            play(
+                rt,
+                scene.alloc,
+                scene.centre,
+                scene.stage,
+                pass,
+                scene.moves,
+            )
+        },
     )
 }
 
