@@ -1,0 +1,27 @@
+//! Why a row could not be gone through.
+use std::alloc::AllocError;
+use tc_read::ReadFault;
+use thiserror::Error;
+
+/// What is wrong with how a row is set up; or memory has run out.
+#[derive(Clone, Copy, Debug, PartialEq, Eq, Error)]
+pub enum Fault {
+    #[error("{0}")]
+    Setup(&'static str),
+    #[error("a term was not read: {0}")]
+    Read(ReadFault),
+    #[error("out of memory")]
+    NoMemory,
+}
+
+impl From<AllocError> for Fault {
+    fn from(_error: AllocError) -> Fault {
+        Fault::NoMemory
+    }
+}
+
+impl From<ReadFault> for Fault {
+    fn from(fault: ReadFault) -> Fault {
+        Fault::Read(fault)
+    }
+}
