@@ -1,0 +1,46 @@
+-- The agents once they were driven.
+use Rattle.std.proofs.Common.{◌≡◌, ◌∙◌, ℕ, zero, suc, ◌+◌, ◌*◌, ◌<◌, ◌≤◌, List, [], ◌∷◌, Option, Some, All, length, refl, sym, ap, subst, arith}
+use Rattle.std.specs.List.{AllZip, slice_get}
+use Rattle.std.proofs.lemmas.Option.{none-some, same_Some}
+use Rattle.tc_config.specs.declared.configs.AgentConf.{AgentConf}
+use Rattle.tc_lists.proofs.Elements.{All-slice_get}
+use Rattle.tc_model.specs.declared.asks.Primitive.{Primitive}
+use Rattle.tc_sched.specs.Clients.{Client}
+use Rattle.tc_sched.specs.Steps.{AllWent, ArePlaced, IsReady, Went, left_in}
+use Rattle.tc_site.specs.Desks.{AgentState, IsSound, desk_of}
+use Rattle.tc_site.specs.Sites.{SiteState}
+use Rattle.tc_workers.specs.Crews.{AreAtDesks, CanDrive}
+use Rattle.tc_workers.proofs.Driven.{all-at, ready}
+
+-- what stands in the second list is related to what stands in the first
+zip-at : {X Y : Type 0} (R : X → Y → Type 0) (xs : List X) (ys : List Y) (k : ℕ) (y : Y) → AllZip R xs ys → slice_get ys k ≡ Some y
+    → (x : X) × (slice_get xs k ≡ Some x) × R x y
+zip-at R [] [] k y zip at = absurd (none-some y at)
+zip-at R [] (z ∷ ys) k y zip at = absurd zip
+zip-at R (x ∷ xs) [] k y zip at = absurd zip
+zip-at R (x ∷ xs) (z ∷ ys) zero y zip at = (x, refl, subst (R x) (same_Some z y at) zip.0)
+zip-at R (x ∷ xs) (z ∷ ys) (suc k) y zip at = zip-at R xs ys k y zip.1 at
+
+module _ {W : Type 0} (permits : W → ℕ → ℕ → Primitive → Option ℕ) (s : SiteState W) (names : List (List ℕ)) (agents : List AgentConf)
+    (olds news : List (Client (AgentState W))) (can : CanDrive s names agents) (at : AreAtDesks permits s agents olds)
+    (went : AllWent {B = SiteState W × ℕ} desk_of (λ (d : AgentState W). (d.site, d.agent)) (λ (d : AgentState W). IsSound permits d.site d.agent d.log)
+    (3 * left_in desk_of olds + 2) olds news) where
+  ready-at : (k : ℕ) (e : Client (AgentState W)) → slice_get news k ≡ Some e → IsReady desk_of 1 names e
+  ready-at k e here =
+      let c = zip-at (Went {B = SiteState W × ℕ} desk_of (λ (d : AgentState W). (d.site, d.agent)) (λ (d : AgentState W). IsSound permits d.site d.agent d.log) (3 * left_in desk_of olds + 2)) olds news k e went here in
+      let was = at.each k c.0 c.1 in
+      let old = All-slice_get (IsReady desk_of (3 * left_in desk_of olds + 2) names) olds k c.0 (ready permits s names agents olds can at) c.1 in
+      record {
+        free = c.2.kept.free;
+        names = c.2.kept.names ∙ old.names;
+        placed = subst (ArePlaced (length names)) (sym c.2.scripts) old.placed;
+        turns_left = λ j within.
+            let all = was.new.turns_are j (subst (λ (ns : List (List ℕ)). j < length ns) can.names_are within) in
+            let some = old.turns_left j within in
+            let most = c.2.spent.most j in
+            omega (arith, all, some, most);
+      }
+
+  -- each can make a step more
+  pub ready-again : All (IsReady desk_of 1 names) news
+  ready-again = all-at (IsReady desk_of 1 names) news ready-at

@@ -1,0 +1,3 @@
+pub mod Seated
+pub mod Driven
+pub mod Settings
