@@ -33,8 +33,8 @@ const TURNS: usize = 1;
 /// The word that counts the entries that are known.
 const ENTRIES: usize = 2;
 
-/// How often a thread looks again before it sleeps: some microseconds.
-const LOOKS: u32 = 1_000;
+/// How often a thread looks again before it sleeps: less than a microsecond.
+const LOOKS: u32 = 100;
 
 /// How often a thread sleeps at the entrance before it takes a ticket though others are out.
 const SLEEPS: u32 = 2;
