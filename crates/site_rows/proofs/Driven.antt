@@ -1,7 +1,6 @@
 -- The agents once they were driven.
-use Rattle.std.proofs.Common.{◌≡◌, ◌∙◌, ℕ, zero, suc, ◌+◌, ◌*◌, ◌<◌, ◌≤◌, List, [], ◌∷◌, Option, Some, All, length, refl, sym, ap, subst, arith}
-use Rattle.std.specs.List.{AllZip, slice_get}
-use Rattle.std.proofs.lemmas.Option.{none-some, same_Some}
+use Rattle.std.proofs.Common.{◌≡◌, ◌∙◌, ℕ, ◌+◌, ◌*◌, ◌<◌, List, Option, Some, All, length, sym, subst, arith}
+use Rattle.std.specs.List.{slice_get}
 use Rattle.tc_config.specs.declared.configs.AgentConf.{AgentConf}
 use Rattle.tc_lists.proofs.Elements.{All-slice_get}
 use Rattle.tc_model.specs.declared.asks.Primitive.{Primitive}
@@ -10,16 +9,7 @@ use Rattle.tc_sched.specs.Steps.{AllWent, ArePlaced, IsReady, Went, left_in}
 use Rattle.tc_site.specs.Desks.{AgentState, IsSound, desk_of}
 use Rattle.tc_site.specs.Sites.{SiteState}
 use Rattle.tc_workers.specs.Crews.{AreAtDesks, CanDrive}
-use Rattle.tc_workers.proofs.Driven.{all-at, ready}
-
--- what stands in the second list is related to what stands in the first
-zip-at : {X Y : Type 0} (R : X → Y → Type 0) (xs : List X) (ys : List Y) (k : ℕ) (y : Y) → AllZip R xs ys → slice_get ys k ≡ Some y
-    → (x : X) × (slice_get xs k ≡ Some x) × R x y
-zip-at R [] [] k y zip at = absurd (none-some y at)
-zip-at R [] (z ∷ ys) k y zip at = absurd zip
-zip-at R (x ∷ xs) [] k y zip at = absurd zip
-zip-at R (x ∷ xs) (z ∷ ys) zero y zip at = (x, refl, subst (R x) (same_Some z y at) zip.0)
-zip-at R (x ∷ xs) (z ∷ ys) (suc k) y zip at = zip-at R xs ys k y zip.1 at
+use Rattle.tc_workers.proofs.Driven.{all-at, ready, zip-at}
 
 module _ {W : Type 0} (permits : W → ℕ → ℕ → Primitive → Option ℕ) (s : SiteState W) (names : List (List ℕ)) (agents : List AgentConf)
     (olds news : List (Client (AgentState W))) (can : CanDrive s names agents) (at : AreAtDesks permits s agents olds)

@@ -35,7 +35,7 @@ items-counted place (s ∷ ss) =
     omega (arith, rest, front, both, sum_by-cons (λ (t : Lines). length t.items) s ss)
 
 -- what stands in the second list is related to what stands in the first
-zip-at : {X Y : Type 0} (R : X → Y → Type 0) (xs : List X) (ys : List Y) (k : ℕ) (y : Y) → AllZip R xs ys → slice_get ys k ≡ Some y
+pub zip-at : {X Y : Type 0} (R : X → Y → Type 0) (xs : List X) (ys : List Y) (k : ℕ) (y : Y) → AllZip R xs ys → slice_get ys k ≡ Some y
     → (x : X) × (slice_get xs k ≡ Some x) × R x y
 zip-at R [] [] k y zip at = absurd (none-some y at)
 zip-at R [] (z ∷ ys) k y zip at = absurd zip
