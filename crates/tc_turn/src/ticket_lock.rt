@@ -33,8 +33,20 @@ const TURNS: usize = 1;
 /// The word that counts the entries that are known.
 const ENTRIES: usize = 2;
 
-/// How often a thread looks again before it sleeps: less than a microsecond.
+/// How often a thread looks whether its ticket is next, before it sleeps: less than a microsecond.
 const LOOKS: u32 = 100;
+
+/// So many looks find no ticket out where nobody comes back at once: some two microseconds.
+const IDLE_LOOKS: u32 = 400;
+
+/// How often the thread that watches looks before it dozes: some ten microseconds.
+const WATCHED_LOOKS: u32 = 2_000;
+
+/// After so many turns the thread that watches dozes: others come back at once.
+const WATCHED_TURNS: u64 = 2;
+
+/// How often the thread that watches dozes.
+const DOZES: u32 = 3;
 
 /// How often a thread sleeps at the entrance before it takes a ticket though others are out.
 const SLEEPS: u32 = 2;
@@ -63,21 +75,83 @@ pub(crate) struct TicketLock<C: Chronicle> {
 
 impl<C: Chronicle> TicketLock<C> {
     /// Waits until no ticket is out, or long enough.
+    ///
+    /// One thread at a time watches: it leaves those alone who come back at once, since the value is
+    /// then near at hand, and comes in between them after a doze. The others sleep; as long as one
+    /// watches nobody wakes them, since that one will.
     pub(crate) fn approach<R: Wait>(&self, rt: &R) {
-        for _ in 0..LOOKS {
-            if self.is_free() {
-                return;
-            }
-            spin_loop();
+        if self.is_free() {
+            return;
         }
         for _ in 0..SLEEPS {
+            if self.watches(rt) {
+                return;
+            }
             self.entrance.seek();
-            if self.is_free() {
+            if self.is_free() && !self.entrance.is_watched() {
                 return;
             }
             self.entrance.sleep(rt);
+            self.entrance.seek();
         }
-        self.entrance.seek();
+    }
+
+    // Watches until it may come in, where no other thread does.
+    fn watches<R: Wait>(&self, rt: &R) -> bool {
+        if !self.entrance.watch() {
+            return false;
+        }
+        let may_enter = self.becomes_idle() || self.finds_gap(rt);
+        self.entrance.unwatch();
+        may_enter
+    }
+
+    // Looks until nobody comes back at once.
+    fn becomes_idle(&self) -> bool {
+        let first = self.table.shared.peek(TURNS);
+        for _ in 0..WATCHED_LOOKS {
+            if self.stays_free() {
+                return true;
+            }
+            if self.table.shared.peek(TURNS).wrapping_sub(first) > WATCHED_TURNS {
+                return false;
+            }
+            spin_loop();
+        }
+        false
+    }
+
+    // Looks whether no ticket is out for a while.
+    fn stays_free(&self) -> bool {
+        for _ in 0..IDLE_LOOKS {
+            if !self.is_free() {
+                return false;
+            }
+            spin_loop();
+        }
+        true
+    }
+
+    // Dozes, and then looks for a moment in which no ticket is out.
+    fn finds_gap<R: Wait>(&self, rt: &R) -> bool {
+        for _ in 0..DOZES {
+            self.entrance.doze(rt);
+            if self.becomes_free() {
+                return true;
+            }
+        }
+        false
+    }
+
+    // Looks until no ticket is out.
+    fn becomes_free(&self) -> bool {
+        for _ in 0..IDLE_LOOKS {
+            if self.is_free() {
+                return true;
+            }
+            spin_loop();
+        }
+        false
     }
 
     // No ticket is out: the turns never run ahead of the tickets.
@@ -211,10 +285,10 @@ impl<C: Chronicle> TicketLock<C> {
 
     // Wakes the thread whose turn it is, or one that may come in.
     fn wake(&self, turn: u64) {
-        if self.table.shared.peek(TICKETS) == turn {
-            self.entrance.ring();
-        } else {
+        if self.table.shared.peek(TICKETS) != turn {
             self.bells.of(turn).ring_sleepers();
+        } else if !self.entrance.is_watched() {
+            self.entrance.ring();
         }
     }
 
