@@ -1,5 +1,5 @@
 -- Rows in places, and the slots that they give.
-use Rattle.std.proofs.Common.{◌≡◌, ◌≢◌, ◌<◌, ◌≤◌, ◌-◌, ◌+◌, ◌==◌, ◌⊎◌, length, slice_get, length-append, nat_lt, is_some, inl, inr, not, ℕ, zero, suc, Bool, true, false, cond, IsTrue, IsSome, Option, Some, None, List, [], ◌∷◌, ◌++◌, get_or, set, take, drop, map, filter, filter_map, All, refl, ap, sym, subst, ◌∙◌, arith}
+use Rattle.std.proofs.Common.{◌≡◌, ◌≢◌, ◌<◌, ◌≤◌, ◌-◌, ◌+◌, ◌⊎◌, length, slice_get, length-append, nat_lt, is_some, inl, inr, not, ℕ, zero, suc, Bool, true, false, cond, IsTrue, Option, Some, None, List, [], ◌∷◌, ◌++◌, get_or, set, take, drop, map, filter, All, refl, ap, sym, subst, ◌∙◌, arith}
 use Rattle.std.proofs.lemmas.Bool.{eq-eqb, true≢false}
 use Rattle.std.proofs.lemmas.Bool.Decides.{nat_tests}
 use Rattle.std.proofs.lemmas.List.{map-append, take-append-drop, append_assoc, get_or-take, get_or-drop, length-take-le, length-drop, take_all, length-map, length-set, take-set, drop-set-lt, get_or-set_same, set-get_or}
@@ -10,8 +10,8 @@ use Rattle.std.specs.Option.{option_map, IfSome}
 use Rattle.std.proofs.Math.Seq.{take-append_seam}
 use Rattle.tc_term.specs.Tree.{Tree}
 use Rattle.tc_bag.specs.declared.slots.Place.{Place}
-use Rattle.tc_bag.specs.Places.{slot_taken, slot_in, slots_of, slot_if, slot_at, AgesRise, EndsFilled, IsKept, IsFirstFilled}
-use Rattle.tc_bag.specs.Slots.{Slot, slot, InOrder, IsYoungest, is_not_of, with_taken}
+use Rattle.tc_bag.specs.Places.{slot_taken, slot_in, slots_of, slot_at, AgesRise, EndsFilled, AreRowPlaces}
+use Rattle.tc_bag.specs.Slots.{Slot, InOrder, IsYoungest, is_not_of, with_taken}
 use Rattle.tc_bag.proofs.ByAge.{filter-others, map-others, with_taken-other, slot_at-pass, slot_at-others, slot_at-none, slot_at-all}
 use Rattle.tc_lists.proofs.Elements.{All-append_left, All-append_right}
 use Rattle.tc_lists.proofs.Parts.{drop_read}
@@ -362,7 +362,7 @@ module _ (age i : ℕ) (ps : List Place) (p : Place) (rise : AgesRise ps) (at : 
       ∙ ap (λ qs. map (with_taken p.age n) (slots_of qs)) (sym placed)
       ∙ ap (λ a. map (with_taken a n) (slots_of ps)) same_age
 
-  pub kept-set_taken : (n filled : ℕ) → IsKept ps filled → IsKept (set ps i (record { age = p.age; taken = n; tuple = p.tuple })) filled
+  pub kept-set_taken : (n filled : ℕ) → AreRowPlaces ps filled → AreRowPlaces (set ps i (record { age = p.age; taken = n; tuple = p.tuple })) filled
   kept-set_taken n filled kept =
       let q : Place = record { age = p.age; taken = n; tuple = p.tuple } in
       let is : set ps i q ≡ take i ps ++ q ∷ drop (i + 1) ps = set_cut ps i q at.0 in
@@ -529,8 +529,8 @@ pub slots-push : (ps : List Place) (p : Place) (t : Tree) → p.tuple ≡ Some t
 slots-push ps p t some =
     slots-append ps (p ∷ []) ∙ ap (λ o. slots_of ps ++ cons_option (option_map (slot_taken p.age p.taken) o) []) some
 
-pub kept-push : (ps : List Place) (filled : ℕ) (p : Place) (t : Tree) → IsKept ps filled → p.tuple ≡ Some t
-    → All (λ s. s.age < p.age) (slots_of ps) → IsKept (ps ++ p ∷ []) (filled + 1)
+pub kept-push : (ps : List Place) (filled : ℕ) (p : Place) (t : Tree) → AreRowPlaces ps filled → p.tuple ≡ Some t
+    → All (λ s. s.age < p.age) (slots_of ps) → AreRowPlaces (ps ++ p ∷ []) (filled + 1)
 kept-push ps filled p t kept some below = record {
   rise = rise-push ps p kept.rise (places_below p.age ps kept.rise kept.ends below);
   ends = ends-push ps p (ap is_some some);

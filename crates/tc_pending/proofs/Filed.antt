@@ -14,7 +14,7 @@ use Rattle.tc_pending.specs.Filed.{Has, HasFirst, IsFiled, KeepsAll}
 use Rattle.tc_pending.specs.Rising.{IsAbove}
 use Rattle.tc_pending.proofs.Log.{rewound-append, unnoted, not_none}
 use Rattle.tc_pending.proofs.Coded.{length-codes}
-use Rattle.tc_pending.proofs.Rising.{Rises-push, Rises-remove}
+use Rattle.tc_pending.proofs.Rising.{NumbersRise-push, NumbersRise-remove}
 
 Has-same : (index : Index) (c d s t : ℕ) → d ≡ c → t ≡ s → Has index c s → Has index d t
 Has-same index c d s t code serial has =
@@ -36,7 +36,7 @@ module _ (index : Index) (below : ℕ) (codes serials : List ℕ) (filed : IsFil
   pub IsFiled-push : (c s : ℕ) → IsAbove serials s → below ≤ s → IsFiled index below (codes ++ c ∷ []) (serials ++ s ∷ [])
   IsFiled-push c s above least = record {
     each = omega (arith, filed.each, length-append codes (c ∷ []), length-append serials (s ∷ []));
-    rises = Rises-push serials s filed.rises above;
+    rises = NumbersRise-push serials s filed.rises above;
     has = λ k inside low. ⊎_elim
         (λ (among : k < length serials).
         let same : get_or (serials ++ s ∷ []) k 0 ≡ get_or serials k 0 = get_or_append_left serials (s ∷ []) 0 k among in
@@ -55,7 +55,7 @@ module _ (index : Index) (below : ℕ) (codes serials : List ℕ) (filed : IsFil
       let also : place < length codes = omega (arith, there, filed.each) in
       record {
         each = omega (arith, filed.each, count, length-remove codes place also);
-        rises = Rises-remove serials place there filed.rises;
+        rises = NumbersRise-remove serials place there filed.rises;
         has = λ k inside low. ⊎_elim
             (λ (before : k < place).
             let same = get_or-remove_below serials place 0 k before there in
