@@ -14,8 +14,11 @@ use Rattle.tc_lists.proofs.Runs.{length-le-prefix_len, take-prefix_len_passes}
 digit_is_word : (b : ℕ) → is_ascii_digit b ≡ true → is_word b ≡ true
 digit_is_word b h = grind (arith, nat_tests)
 
-lower_is_word : (b : ℕ) → is_name_start b ≡ true → is_word b ≡ true
+pub lower_is_word : (b : ℕ) → is_name_start b ≡ true → is_word b ≡ true
 lower_is_word b h = grind (arith, nat_tests)
+
+pub no_word_no_digit : (b : ℕ) → is_word b ≡ false → is_ascii_digit b ≡ false
+no_word_no_digit b h = grind (arith, nat_tests)
 
 start_is_word : (b : ℕ) → is_variable_start b ≡ true → is_word b ≡ true
 start_is_word b h = grind (arith, nat_tests)

@@ -5,6 +5,7 @@ use Rattle.std.specs.List.{prefix_len, list_all}
 use Rattle.tc_term.specs.Bytes.{is_name_start, is_word}
 use Rattle.tc_term.specs.Text.{is_name}
 use Rattle.tc_read.specs.Front.{word_at}
+use Rattle.tc_read.proofs.Lexemes.{lower_is_word}
 
 words-take : (k : ℕ) (s : List ℕ) → k ≤ prefix_len is_word s → list_all is_word (take k s) ≡ true
 words-take zero s h = refl
@@ -15,13 +16,10 @@ words-take (suc k) (b ∷ s) h = by (is_word b) refl (words-take k s)
     by true e more = ap (λ q. q && list_all is_word (take k s)) e ∙ more (omega (arith, h, ap (λ q. cond q (1 + prefix_len is_word s) 0) e))
     by false e more = absurd (omega (arith, h, ap (λ q. cond q (1 + prefix_len is_word s) 0) e))
 
-start_word : (b : ℕ) → is_name_start b ≡ true → is_word b ≡ true
-start_word b e = grind (arith, nat_tests)
-
 -- a first letter and the word bytes behind it, so far as they are taken, are a name
 pub is_name-word_at : (limit b : ℕ) (s : List ℕ) → is_name_start b ≡ true → nat_lt 0 limit ≡ true → is_name (word_at limit (b ∷ s)).0 ≡ true
 is_name-word_at limit b s start some =
-    let long : prefix_len is_word (b ∷ s) ≡ 1 + prefix_len is_word s = ap (λ q. cond q (1 + prefix_len is_word s) 0) (start_word b start) in
+    let long : prefix_len is_word (b ∷ s) ≡ 1 + prefix_len is_word s = ap (λ q. cond q (1 + prefix_len is_word s) 0) (lower_is_word b start) in
     let limit_some : 0 < limit = positive limit some in
     by (min limit (prefix_len is_word (b ∷ s))) (omega (arith, long, limit_some)) (omega (arith, long, limit_some))
   where
