@@ -1,12 +1,11 @@
 -- Batches of triggered reactions: the first member, those behind it, and one more batch.
-use Rattle.std.proofs.Common.{◌≡◌, ℕ, suc, ◌+◌, ◌-◌, ◌≤◌, ◌<◌, List, [], ◌∷◌, ◌++◌, All, length, map, take, drop, get_or, refl, sym, ap, subst, ◌∙◌, arith, length-append, length-drop, append_assoc, append-nil, drop-cons}
+use Rattle.std.proofs.Common.{◌≡◌, ℕ, ◌+◌, ◌-◌, ◌≤◌, ◌<◌, List, [], ◌∷◌, ◌++◌, All, length, map, drop, get_or, refl, sym, ap, subst, ◌∙◌, arith, length-append, length-drop, append-nil}
 use Rattle.std.specs.List.{flat_map}
 use Rattle.std.proofs.Math.Seq.{drop-nil, drop-append_seam}
 use Rattle.std.proofs.lemmas.List.{length-map, drop-drop, drop-append-le, drop-map}
 use Rattle.std.proofs.lemmas.List.Elements.{All-head, All-tail, All-push}
 use Rattle.std.proofs.lemmas.Grind.{flat_map-append}
 use Rattle.tc_lists.proofs.Parts.{drop_read}
-use Rattle.tc_model.specs.Triggers.{Member, members}
 use Rattle.tc_cascade.specs.declared.queue.Batch.{Batch}
 use Rattle.tc_cascade.specs.Batches.{members_of, triggered_in, IsQueue, HasSome, IsInFirst}
 

@@ -1,16 +1,14 @@
 -- A cascade that goes on by one item.
-use Rattle.std.proofs.Common.{◌≡◌, ◌≢◌, ℕ, zero, suc, ◌+◌, ◌-◌, ◌≤◌, ◌<◌, List, [], ◌∷◌, ◌++◌, length, map, take, drop, All, Contains, Some, refl, sym, ap, subst, ◌∙◌, arith, append_assoc, append-nil}
-use Rattle.std.proofs.Math.Seq.{take-nil}
+use Rattle.std.proofs.Common.{◌≡◌, ℕ, zero, suc, ◌+◌, ◌-◌, ◌≤◌, ◌<◌, List, [], ◌∷◌, ◌++◌, length, take, All, refl, sym, ap, subst, ◌∙◌, arith}
 use Rattle.std.proofs.lemmas.List.Elements.{All-append, All-head, All-tail}
 use Rattle.std.specs.List.{slice_get}
-use Rattle.tc_term.specs.Tree.{Tree}
 use Rattle.tc_model.specs.Choices.{Choice, TheFirst}
 use Rattle.tc_model.specs.Events.{Occurrence, Setting}
 use Rattle.tc_model.specs.Reactions.{Rule}
-use Rattle.tc_model.specs.Triggers.{Member, IsClause, AreTriggered, Triggers, raises, members}
+use Rattle.tc_model.specs.Triggers.{Member, IsClause, Triggers, raises}
 use Rattle.tc_model.specs.Tuples.{after_item, after_items}
 use Rattle.tc_model.specs.Bodies.{IsBody}
-use Rattle.tc_model.specs.Cascades.{Wave, IsTried, Cascades, Begins, IsWhole, IsOver, pick_of, clause_of, without}
+use Rattle.tc_model.specs.Cascades.{Wave, IsTried, Cascades, IsWhole, pick_of, clause_of, without}
 use Rattle.tc_model.specs.declared.items.Item.{Item}
 use Rattle.tc_model.specs.declared.items.Item.TheVariants.{Fired, Failed}
 use Rattle.tc_bag.specs.Stock.{Stock, tuples_of}

@@ -1,8 +1,8 @@
-use Rattle.std.proofs.Common.{◌≡◌, ◌≤◌, ◌<◌, ◌+◌, ◌-◌, ◌++◌, [], ◌∷◌, List, length, drop, refl, sym, ap, subst, ◌∙◌, arith, length-append, Bool, true, ◌==◌}
+use Rattle.std.proofs.Common.{◌≡◌, ◌+◌, ◌-◌, [], ◌∷◌, List, length, drop, refl, sym, ap, subst, ◌∙◌, arith, length-append, Bool, true, ◌==◌}
 use Rattle.std.proofs.lemmas.Bool.Decides.{Decides-eqb}
 use Rattle.tc_model.specs.Reactions.{Rule}
 use Rattle.tc_bag.proofs.Additions.{adds-none-again}
-use Rattle.tc_model.specs.Triggers.{Member, IsClause}
+use Rattle.tc_model.specs.Triggers.{IsClause}
 use Rattle.tc_cascade.specs.Adding.{Adds, Stands}
 use Rattle.tc_cascade.proofs.Waves.{at_first, at_stands, at_next, at_whole}
 use Rattle.tc_cascade.proofs.cascade.run_in.Goals as goal

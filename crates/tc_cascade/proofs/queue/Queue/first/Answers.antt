@@ -1,6 +1,5 @@
-use Rattle.std.proofs.Common.{◌≡◌, ◌+◌, List, ◌∷◌, drop, length, arith, refl, sym, ap, subst, ◌∙◌}
+use Rattle.std.proofs.Common.{◌≡◌, List, ◌∷◌, drop, arith, refl, sym, ap, subst, ◌∙◌}
 use Rattle.tc_model.specs.Triggers.{Member}
-use Rattle.tc_cascade.specs.Batches.{triggered_in}
 use Rattle.tc_cascade.proofs.Passing.{first_triggered, next_triggered}
 use Rattle.tc_cascade.proofs.queue.Queue.first.Goals as goal
 

@@ -1,7 +1,7 @@
-use Rattle.std.proofs.Common.{◌≡◌, ◌+◌, ◌-◌, List, drop, length, refl, sym, ap, subst, ◌∙◌, arith}
+use Rattle.std.proofs.Common.{◌≡◌, ◌+◌, ◌-◌, List, drop, refl, sym, ap, subst, ◌∙◌, arith}
 use Rattle.tc_model.specs.Triggers.{Member}
 use Rattle.tc_cascade.specs.Batches.{triggered_in, IsQueue}
-use Rattle.tc_cascade.proofs.Passing.{next_triggered, batch_done, queue_next, queue_done}
+use Rattle.tc_cascade.proofs.Passing.{next_triggered, batch_done, queue_done}
 use Rattle.tc_cascade.proofs.queue.Queue.pass.Goals as goal
 
 pub invariant_of-self : goal.invariant_of-self
