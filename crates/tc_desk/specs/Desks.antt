@@ -46,12 +46,25 @@ pub record Spends (limit : ℕ) (d e : DeskState) : Type 0 where
   pub fell : (k : ℕ) → slice_index e.turns k ≤ slice_index d.turns k
   pub most : (k : ℕ) → slice_index d.turns k ≤ slice_index e.turns k + limit
 
--- at each centre at most one turn more was taken than entries are newly seen
+-- the row of the log that is pending
+pub record IsPendingRow (log : List LogRow) (row : LogRow) : Type 0 where
+  pub stands : Contains log row
+  pub pending : row.result ≡ Pending
+
+-- a row is pending at the centre of this place
+pub record IsPendingAt (d : DeskState) (k : ℕ) : Type 0 where
+  pub row : LogRow
+  pub is : IsPendingRow d.log row
+  pub named : slice_get d.names k ≡ Some row.centre
+
+-- at each centre at most one turn more was taken than entries are newly seen, and none where no row is
+-- pending
 pub record Waits (d e : DeskState) : Type 0 where
   pub wide : length e.turns ≡ length d.turns
   pub fell : (k : ℕ) → slice_index e.turns k ≤ slice_index d.turns k
   pub most : (k : ℕ)
       → slice_index d.turns k + slice_index d.seen k ≤ slice_index e.turns k + slice_index e.seen k + 1
+  pub elsewhere : (k : ℕ) → (IsPendingAt d k → ⊥) → slice_index e.turns k ≡ slice_index d.turns k
 
 -- one turn was taken, at the centre of this name
 pub record TakesTurn (d : DeskState) (centre : List ℕ) (e : DeskState) : Type 0 where
@@ -101,7 +114,8 @@ pub record Makes (d : DeskState) (centre : List ℕ) (ask : Ask) (how : Served) 
   pub log : e.log ≡ with_row d.log centre (Some ask) result
   pub waits : e.waits ≡ is_pending result
 
--- why a call was refused: the first reason that holds; but memory may run out at any time
+-- why a call was refused: the first reason that holds; but memory may run out at any time, in the turn of
+-- a call that may be made or where none was taken
 abbrev pub MayRefuse : DeskState → List ℕ → Ask → Refusal → DeskState → Type 0
 MayRefuse d centre ask refusal.UnknownCentre e = (Contains d.names centre → ⊥) × StandsStill d e
 MayRefuse d centre ask refusal.Waiting e =
@@ -115,7 +129,8 @@ MayRefuse d centre ask refusal.TurnsSpent e =
     IsReady d centre × IsSound ask × HasNoTurn d centre × StandsStill d e
 MayRefuse d centre ask (refusal.Full weight pending) e =
     IsReady d centre × IsSound ask × TakesTurn d centre e
-MayRefuse d centre ask refusal.NoMemory e = Unit {0}
+MayRefuse d centre ask refusal.NoMemory e =
+    StandsStill d e ⊎ (IsReady d centre × IsSound ask × TakesTurn d centre e)
 
 -- the log after a refusal: it has a row of that, but for want of memory
 abbrev pub refused_log : List LogRow → List ℕ → Ask → Refusal → List LogRow
@@ -138,11 +153,6 @@ pub record Refuses (d : DeskState) (centre : List ℕ) (ask : Ask) (why : Refusa
   pub may : MayRefuse d centre ask why e
   pub log : e.log ≡ refused_log d.log centre ask why
   pub waits : e.waits ≡ d.waits
-
--- the row of the log that is pending
-pub record IsPendingRow (log : List LogRow) (row : LogRow) : Type 0 where
-  pub stands : Contains log row
-  pub pending : row.result ≡ Pending
 
 -- the row with this reply
 abbrev pub replied : LogRow → Reply → LogRow
@@ -184,12 +194,13 @@ pub record IsSpent (d : DeskState) : Type 0 where
   pub is : IsPendingRow d.log row
   pub none : HasNoTurn d row.centre
 
--- why a look was not made: no row is pending, or no turn was left there; or memory ran out
+-- why a look was not made: no row is pending, or no turn was left there; or memory ran out, in the one turn
+-- or where none was taken
 abbrev pub CanStay : DeskState → DeskFault → DeskState → Type 0
 CanStay d fault.Idle e = (any_pending d.log ≡ false) × (e ≡ d)
 CanStay d fault.TurnsSpent e = IsSpent d × (e ≡ d)
 CanStay d (fault.Full weight pending) e = ⊥
-CanStay d fault.NoMemory e = any_pending d.log ≡ true
+CanStay d fault.NoMemory e = (any_pending d.log ≡ true) × (StandsStill d e ⊎ TakesTurnAtPending d e)
 
 -- the log is as it was
 pub record Stays (d : DeskState) (why : DeskFault) (e : DeskState) : Type 0 where

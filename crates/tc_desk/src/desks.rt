@@ -8,6 +8,7 @@ use std::alloc::Global;
 use std::sync::Wait;
 use tc_model::Ask;
 use tc_term::Name;
+use thiserror::Error;
 
 /// What came of a call that was served. The reply stands in its row.
 #[derive(Clone, Copy, Debug, PartialEq, Eq)]
@@ -24,16 +25,20 @@ pub enum Seen {
 }
 
 /// Why a desk could not look, wait or poll.
-#[derive(Clone, Copy, Debug, PartialEq, Eq)]
+#[derive(Clone, Copy, Debug, PartialEq, Eq, Error)]
 pub enum DeskFault {
     /// No row is pending.
+    #[error("no row is pending")]
     Idle,
     /// No turn is left at the pending row's centre.
+    #[error("no turn is left at the centre of the pending row")]
     TurnsSpent,
     /// The centre's history is so heavy that it takes no entry of a poll: what it weighs, and how many
     /// requests are pending.
+    #[error("the centre is full: its history weighs {weight}, and {pending} requests are pending")]
     Full { weight: u64, pending: u64 },
     /// Memory has run out.
+    #[error("out of memory")]
     NoMemory,
 }
 

@@ -4,28 +4,38 @@ ghost use Rattle.tc_desk.specs.Logs.{any_pending, is_pending};
 
 use tc_model::{Ask, BadSpec, Reply};
 use tc_term::Name;
+use thiserror::Error;
 
 /// Why an ask was not served: the first of these that holds. It leaves no entry in any history.
-#[derive(Clone, Copy, Debug, PartialEq, Eq)]
+#[derive(Clone, Copy, Debug, PartialEq, Eq, Error)]
 pub enum Refusal {
     /// No centre has this name.
+    #[error("unknown centre")]
     UnknownCentre,
     /// An earlier ask of the agent is pending.
+    #[error("an earlier ask is pending")]
     Waiting,
     /// The agent's role isn't permitted to do that there.
+    #[error("denied: no grant permits it")]
     Denied,
     /// The operand is beyond the limits of a tuple, a template or a text.
+    #[error("the operand is too big")]
     TooBig,
     /// A variable stands in a tuple or a text.
+    #[error("the operand is not ground")]
     NotGround,
     /// The operand is no text of clauses.
+    #[error("bad spec: {0}")]
     BadSpec(BadSpec),
     /// The agent has no turn left at the centre.
+    #[error("no turn is left at the centre")]
     TurnsSpent,
     /// The centre's history is so heavy that it takes no further call: what it weighed, and how many
     /// requests were pending.
+    #[error("the centre is full: its history weighed {weight}, and {pending} requests were pending")]
     Full { weight: u64, pending: u64 },
     /// Memory has run out. It never stands in a row.
+    #[error("out of memory")]
     NoMemory,
 }
 

@@ -1,5 +1,5 @@
 -- A desk after a poll: its pass of the pending row's centre has gone on, and its log has a row of the poll.
-use Rattle.std.proofs.Common.{◌≡◌, ℕ, zero, suc, ◌+◌, ◌<◌, true, false, List, [], ◌∷◌, ◌++◌, Option, Some, None, Ok, Err, Result, All, Contains, length, set, refl, sym, ap, ◌∙◌, subst, arith, ◌⊎◌, ⊎_elim}
+use Rattle.std.proofs.Common.{◌≡◌, ℕ, zero, suc, ◌+◌, ◌<◌, true, false, List, [], ◌∷◌, ◌++◌, Option, Some, None, Ok, Err, Result, All, Contains, length, set, refl, sym, ap, ◌∙◌, subst, arith, ◌⊎◌, inl, inr, ⊎_elim}
 use Rattle.std.specs.List.{slice_get, list_any}
 use Rattle.std.specs.Option.{is_none}
 use Rattle.std.proofs.lemmas.Bool.{or_parts, true≢false}
@@ -11,7 +11,7 @@ use Rattle.tc_centre.specs.declared.answers.Poll.TheVariants as poll
 use Rattle.tc_desk.specs.Agreeing.{AgreesRow, HasRow, IsLastServed, numbered}
 use Rattle.tc_desk.specs.Decided.{IsDecided, IsRead}
 use Rattle.tc_desk.specs.Desks as desks
-use Rattle.tc_desk.specs.Desks.{IsAnswered, Keeps, Polls, Spends, TakesTurn, TellsFull, replied, with_row}
+use Rattle.tc_desk.specs.Desks.{IsAnswered, Keeps, Polls, Spends, StandsStill, TakesTurn, TakesTurnAtPending, TellsFull, replied, with_row}
 use Rattle.tc_desk.specs.Logs.{is_served}
 use Rattle.tc_desk.specs.declared.desks.DeskFault.{DeskFault}
 use Rattle.tc_desk.specs.declared.desks.DeskFault.TheVariants as fault
@@ -35,7 +35,7 @@ use Rattle.tc_model.proofs.NextEntry.{reply_in-other, same_id-back}
 use Rattle.tc_shared.specs.Passes as passes
 use Rattle.tc_shared.specs.Passes.{Sees, SeesFull, Tells, call_id}
 use Rattle.tc_turn.specs.Passes.{TurnstileState, PassState}
-use Rattle.tc_site.specs.Desks.{AgentState, IsDesk, IsSound, IsWaitingAt, Permits, desk_of}
+use Rattle.tc_site.specs.Desks.{AgentState, IsDesk, IsSound, IsWaitingAt, Permits, counts_of, desk_of, turns_of}
 use Rattle.tc_site.specs.Looking.{HasPut, still_of}
 use Rattle.tc_site.specs.Polling.{HasToldReply, IsPolled}
 use Rattle.tc_site.specs.Sites.{IsOwnPass, IsSite, histories_of}
@@ -367,6 +367,21 @@ module _ {W : Type 0} (d : AgentState W) (is : IsDesk d) (site : IsSite d.site.n
     lost-goes : Sees t p q ⊎ (q ≡ p) → Goes p q
     lost-goes lost = ⊎_elim (λ (sees : Sees t p q). goes-after t p q q.seen p.mine sees.after) (λ same. goes-same t p q same) lost
 
+    lost-turn : (log : List LogRow) → Sees t p q ⊎ (q ≡ p)
+        → StandsStill (desk_of d) (desk_of (now log (Some w))) ⊎ TakesTurnAtPending (desk_of d) (desk_of (now log (Some w)))
+    lost-turn log lost =
+        ⊎_elim
+        (λ (sees : Sees t p q).
+        inr (record {
+          row = waiting.row_is;
+          is = pending-row d is site w waiting;
+          turn = takes-gone d w.centre p q at-p log (Some w) centre waiting.named sees.finds.left (ap (λ (x : PassState Entry Origin). x.turns) sees.after);
+        }))
+        (λ (same : q ≡ p).
+        let whole : set d.passes w.centre q ≡ d.passes = ap (λ x. set d.passes w.centre x) same ∙ set-self d.passes w.centre p at-p in
+        inl (record { turns = ap turns_of whole; seen = ap counts_of whole }))
+        lost
+
     abbrev Came : Result Seen DeskFault → List LogRow → Type 0
     Came r log = IsPolled t w.row p waiting.row_is.centre d.log r q log
 
@@ -442,7 +457,7 @@ module _ {W : Type 0} (d : AgentState W) (is : IsDesk d) (site : IsSite d.site.n
       log = came.1;
     }
     polled-became log (Err fault.NoMemory) at came = record {
-      can = pending-some d is site w waiting;
+      can = (pending-some d is site w waiting, lost-turn log came.0);
       log = came.1;
     }
     polled-became log (Err fault.Idle) at came = absurd came

@@ -449,7 +449,7 @@ module _ {W : Type 0} (d : AgentState W) (is : IsDesk d) (site : IsSite d.site.n
       log = look.1;
     }
     look-became log (Err fault.NoMemory) at look = record {
-      can = pending-some;
+      can = (pending-some, inr (takes-one look.0 log (Some w)));
       log = look.1;
     }
     look-became log (Err fault.Idle) at look = absurd look
@@ -513,6 +513,9 @@ module _ {W : Type 0} (d : AgentState W) (is : IsDesk d) (site : IsSite d.site.n
                 let counts = index-other n d.passes w.centre k q other in
                 omega (arith, turns, counts))
                 (cases_eq k w.centre);
+            elsewhere = λ k no.
+                index-other f d.passes w.centre k q
+                (λ here. no (record { row = waiting.row_is; is = pending-row; named = ap (slice_get d.site.names) here ∙ waiting.named }));
           }
 
       spent-later : q.turns ≡ 0 → (log : List LogRow) → log ≡ d.log

@@ -1,5 +1,5 @@
 -- What a call leaves of an agent's desk, and what is told of it.
-use Rattle.std.proofs.Common.{◌≡◌, ◌≢◌, ℕ, zero, suc, ◌+◌, ◌-◌, ◌<◌, ◌≤◌, ◌||◌, Bool, true, false, List, [], ◌∷◌, ◌++◌, Option, Some, None, AllPairs, Contains, length, map, get_or, refl, sym, ap, ◌∙◌, subst, arith, ⊎_elim}
+use Rattle.std.proofs.Common.{◌≡◌, ◌≢◌, ℕ, zero, suc, ◌+◌, ◌-◌, ◌<◌, ◌≤◌, ◌||◌, Bool, true, false, List, [], ◌∷◌, ◌++◌, Option, Some, None, AllPairs, Contains, length, map, get_or, refl, sym, ap, ◌∙◌, subst, arith, inl, inr, ⊎_elim}
 use Rattle.std.specs.List.{slice_get, slice_index}
 use Rattle.std.specs.Option.{is_none, is_some}
 use Rattle.std.specs.Prelude.{MatchResult}
@@ -218,6 +218,18 @@ keeps-same d s log same log-is free =
     (λ (none : is_none d.held ≡ true). record { names = refl; free = none; seen = λ k. omega arith; read = subst IsRead (sym log-is) })
     free
 
+-- a call that ran out of memory before its turn
+pub lost-before : {W : Type 0} (d s : AgentState W) (log : List LogRow) (centre : List ℕ) (ask : Ask) (why : Refusal) → why ≡ refusal.NoMemory → d ≡ s
+    → log ≡ d.log
+    → Refuses (desk_of s) centre ask why
+    (desk_of (record { site = d.site; agent = d.agent; passes = d.passes; log = log; pending = d.pending; held = d.held }))
+lost-before {W = W} d s log centre ask why is same log-is =
+    let now : AgentState W = record { site = d.site; agent = d.agent; passes = d.passes; log = log; pending = d.pending; held = d.held } in
+    let lost : Refuses (desk_of d) centre ask refusal.NoMemory (desk_of now) =
+    record { may = inl (record { turns = refl; seen = refl }); log = log-is; waits = refl } in
+    subst (λ w. Refuses (desk_of s) centre ask w (desk_of now)) (sym is)
+    (subst (λ x. Refuses (desk_of x) centre ask refusal.NoMemory (desk_of now)) same lost)
+
 -- a desk whose pass of one centre has gone on
 module _ {W : Type 0} (d : AgentState W) (place : ℕ) (p q : PassState Entry Origin) (at-p : slice_get d.passes place ≡ Some p) (log : List LogRow) (pending : Option WaitingAt) where
   abbrev gone : AgentState W
@@ -367,6 +379,19 @@ module _ {W : Type 0} (permits : W → ℕ → ℕ → Primitive → Option ℕ)
   refuses-turn refusal.NotGround turn = absurd turn
   refuses-turn (refusal.BadSpec bad) turn = absurd turn
   refuses-turn refusal.NoMemory turn = absurd turn
+
+  -- memory ran out in the call's turn
+  pub lost-turn : (log : List LogRow) (s : AgentState W) → log ≡ d.log → d ≡ s → pass.Sees t p q
+      → Refuses (desk_of s) centre ask refusal.NoMemory
+      (desk_of (record { site = d.site; agent = d.agent; passes = set d.passes place q; log = log; pending = d.pending; held = d.held }))
+  lost-turn log s log-is same sees =
+      let fell = ap (λ (x : PassState Entry Origin). x.turns) sees.after in
+      subst (λ x. Refuses (desk_of x) centre ask refusal.NoMemory (desk_of (record { site = d.site; agent = d.agent; passes = set d.passes place q; log = log; pending = d.pending; held = d.held }))) same
+      (record {
+        may = inr (ready, (op, sound), takes-gone d place p q at-p log d.pending centre allowed.named sees.finds.left fell);
+        log = log-is;
+        waits = waits-none (histories_of (set d.passes place q)) d.agent d.pending none-pending ∙ sym quiet;
+      })
 
   tells-turn : (became : LogResult) → IsTurn t p number op became q
       → MatchResult (told_of became) (λ how. Makes (desk_of d) centre ask how (desk_of (then became))) (λ why. Refuses (desk_of d) centre ask why (desk_of (then became)))

@@ -7,7 +7,7 @@ use Rattle.tc_desk.specs.declared.rows.LogRow.{LogRow}
 use Rattle.tc_desk.specs.declared.rows.LogResult.TheVariants.{Refused}
 use Rattle.tc_site.specs.Desks.{AgentState, IsSound}
 use Rattle.tc_site.specs.Turns.{IsTurn, waiting_of}
-use Rattle.tc_site.proofs.Told.{at-pass, decides, decides-refused, goes-after, goes-turn, keeps-gone, keeps-refused, keeps-same}
+use Rattle.tc_site.proofs.Told.{at-pass, decides, decides-refused, goes-after, goes-turn, keeps-gone, keeps-refused, keeps-same, lost-before, lost-turn}
 use Rattle.tc_site.proofs.Told.{pushed, read-row, read-turn, refuses, spends-gone, spends-refused, tells}
 use Rattle.tc_site.proofs.Turned.{desk-refused, desk-seen, desk-turned, idle-log, pass-free, pass-next}
 use Rattle.tc_site.proofs.desks.AgentDeskDesk.call.Goals as goal
@@ -87,6 +87,22 @@ returns-in_default-copy-clause-kept g c = keeps-same _ c.args.self.now c.reserve
 pub returns-in-NoMemory-clause-kept : goal.returns-in-NoMemory-clause-kept
 returns-in-NoMemory-clause-kept g c = keeps-same _ c.args.self.now c.reserve.new.self.items c.self.view_is c.reserve.ensures.items c.requires.free
 
+pub returns-then-is_err-clause-became : goal.returns-then-is_err-clause-became
+returns-then-is_err-clause-became g c =
+    lost-before _ c.args.self.now c.reserve.new.self.items c.args.centre.now c.args.ask _ refl c.self.view_is c.reserve.ensures.items
+
+pub returns-in_default-clause-became : goal.returns-in_default-clause-became
+returns-in_default-clause-became g c =
+    lost-before _ c.args.self.now c.reserve.new.self.items c.args.centre.now c.args.ask _ refl c.self.view_is c.reserve.ensures.items
+
+pub returns-in_default-copy-clause-became : goal.returns-in_default-copy-clause-became
+returns-in_default-copy-clause-became g c =
+    lost-before _ c.args.self.now c.reserve.new.self.items c.args.centre.now c.args.ask _ refl c.self.view_is c.reserve.ensures.items
+
+pub returns-in-NoMemory-clause-became : goal.returns-in-NoMemory-clause-became
+returns-in-NoMemory-clause-became g c =
+    lost-before _ c.args.self.now c.reserve.new.self.items c.args.centre.now c.args.ask _ c.in-NoMemory.is c.self.view_is c.reserve.ensures.items
+
 pub returns-in-Ok-turn_at : goal.returns-in-Ok-turn_at
 returns-in-Ok-turn_at g c =
     let place = c.in-Ok-judge.field-0.place in
@@ -138,6 +154,16 @@ returns-in-Err-turn_at-clause-turns g c =
     let at-p = at-pass c.self.invariant c.judge.ensures.site c.in-Ok-judge.field-0.place named c.index_mut-pass.ensures.value in
     spends-gone _ _ p q at-p c.reserve.new.self.items c.self.inside.pending c.args.self.now c.self.view_is
     (goes-after c.centre.result.now p q q.seen p.mine c.in-Err-turn_at.ensures.room.sees.after)
+
+pub returns-in-Err-turn_at-clause-became : goal.returns-in-Err-turn_at-clause-became
+returns-in-Err-turn_at-clause-became g c =
+    let place = c.in-Ok-judge.field-0.place in
+    let allowed = c.in-Ok-judge.ensures.allowed in
+    let p = c.index_mut-pass.result.now in
+    let at-p = at-pass c.self.invariant c.judge.ensures.site place allowed.0.named c.index_mut-pass.ensures.value in
+    lost-turn g.W.Warden.permits _ c.self.invariant c.is_some-waits.result c.is_some-waits.ensures c.args.centre.now c.args.ask place allowed.0
+    c.in-Ok-judge.field-0.op allowed.1 c.centre.result.now p c.turn_at.new.pass c.centre.ensures at-p c.turn_at.ensures.kept
+    c.reserve.new.self.items c.args.self.now c.reserve.ensures.items c.self.view_is c.in-Err-turn_at.ensures.room.sees
 
 pub returns-in_default-why : goal.returns-in_default-why
 returns-in_default-why g c =
