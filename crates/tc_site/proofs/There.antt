@@ -1,5 +1,5 @@
 -- What the turn of a call or of a poll came to, at the centre that it went to.
-use Rattle.std.proofs.Common.{◌≡◌, ℕ, ◌+◌, List, Bool, Option, Some, Ok, Err, Result, inl, inr, length, set, refl, sym, ap, ◌∙◌, subst}
+use Rattle.std.proofs.Common.{◌≡◌, ℕ, ◌+◌, List, Bool, Option, Some, Ok, Err, Result, inl, inr, length, refl, sym, ap, subst}
 use Rattle.std.specs.List.{slice_get}
 use Rattle.tc_desk.specs.Desks.{with_row}
 use Rattle.tc_desk.specs.Operands.{OpOf, Sound}
@@ -23,7 +23,7 @@ use Rattle.tc_site.specs.Desks.{AgentState}
 use Rattle.tc_site.specs.Judging.{IsRefusedFor}
 use Rattle.tc_site.specs.Polling.{IsPolled}
 use Rattle.tc_site.specs.There.{CallsThere, GoesTo, IsCallThere, IsPollThere, PollsThere}
-use Rattle.tc_site.specs.Turns.{IsTurn, IsTurnRefused, told_of}
+use Rattle.tc_site.specs.Turns.{IsTurn, told_of}
 use Rattle.tc_site.specs.declared.waiting.WaitingAt.{WaitingAt}
 use Rattle.tc_site.proofs.Becoming.{after}
 use Rattle.tc_site.proofs.Seeing.{HasPass}
