@@ -42,9 +42,10 @@ impl Part {
 
 // The logs of a text, which begin with the line of the first agent. Where none stands, the whole text.
 fn logs_of(text: &[u8]) -> &[u8] {
-    for at in 0..text.len() {
-        if text[at..].starts_with(b"\nagent ") {
-            return &text[at..];
+    for place in 0..text.len() {
+        let (_, behind) = text.split_at(place.min(text.len()));
+        if behind.starts_with(b"\nagent ") {
+            return behind;
         }
     }
     text
