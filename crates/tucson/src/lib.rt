@@ -1,12 +1,14 @@
 //! The top call: a configuration is read, its agents' scripts are run, and what came of it is written.
 //!
+//! `checked_runs` makes its calls by these lines:
+//!
 //! ```
-//! let mut source = SureSource::new(input);
+//! let mut source = SureSource::new(configuration.to_vec(alloc)?);
 //! let mut sink = SureSink::new(alloc);
-//! let ended = tucson(alloc, &words, &mut source, &mut sink);
+//! let status = tucson(rt, alloc, &words, &mut source, &mut sink, gate);
 //! ```
 //!
-//! `ended` is then `Status::Ended` or `Status::Blocked`, and `sink.taken()` the histories and the logs;
+//! `status` is then `Status::Ended` or `Status::Blocked`, and `sink.taken()` the histories and the logs;
 //! or it says why not.
 #![tactic(auto)]
 
