@@ -9,7 +9,7 @@
 //! ```
 //!
 //! `status` is then `Status::Ended` or `Status::Blocked`, and `sink.taken()` the histories and the logs;
-//! or it says why not.
+//! or it says why not. `run_main` does the same for a number of workers, without words.
 #![tactic(auto)]
 
 mod command;
@@ -20,6 +20,7 @@ mod top;
 mod writing;
 
 pub use command::{Command, command_of};
+pub use running::run_main;
 pub use status::Status;
 pub use tc_config::ConfigCause;
 pub use top::tucson;
