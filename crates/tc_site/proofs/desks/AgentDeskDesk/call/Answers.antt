@@ -100,6 +100,10 @@ returns-in_default-copy-clause-there g c =
 pub returns-in-NoMemory-clause-kept : goal.returns-in-NoMemory-clause-kept
 returns-in-NoMemory-clause-kept g c = keeps-same _ c.args.self.now c.reserve.new.self.items c.self.view_is c.reserve.ensures.items c.requires.free
 
+pub returns-in-NoMemory-clause-there : goal.returns-in-NoMemory-clause-there
+returns-in-NoMemory-clause-there g c =
+    none-there _ c.args.centre.now c.args.ask c.reserve.new.self.items c.args.self.now c.self.view_is c.in-Err.why c.in-NoMemory.is
+
 pub returns-then-is_err-clause-became : goal.returns-then-is_err-clause-became
 returns-then-is_err-clause-became g c =
     lost-before _ c.args.self.now c.reserve.new.self.items c.args.centre.now c.args.ask _ refl c.self.view_is c.reserve.ensures.items
@@ -115,10 +119,6 @@ returns-in_default-copy-clause-became g c =
 pub returns-in-NoMemory-clause-became : goal.returns-in-NoMemory-clause-became
 returns-in-NoMemory-clause-became g c =
     lost-before _ c.args.self.now c.reserve.new.self.items c.args.centre.now c.args.ask _ c.in-NoMemory.is c.self.view_is c.reserve.ensures.items
-
-pub returns-in-NoMemory-clause-there : goal.returns-in-NoMemory-clause-there
-returns-in-NoMemory-clause-there g c =
-    none-there _ c.args.centre.now c.args.ask c.reserve.new.self.items c.args.self.now c.self.view_is c.in-Err.why c.in-NoMemory.is
 
 pub returns-in-Ok-turn_at : goal.returns-in-Ok-turn_at
 returns-in-Ok-turn_at g c =
@@ -174,6 +174,13 @@ returns-in-Err-turn_at-clause-turns g c =
     spends-gone _ _ p q at-p c.reserve.new.self.items c.self.inside.pending c.args.self.now c.self.view_is
     (goes-after c.centre.result.now p q q.seen p.mine c.in-Err-turn_at.ensures.room.sees.after)
 
+pub returns-in-Err-turn_at-clause-there : goal.returns-in-Err-turn_at-clause-there
+returns-in-Err-turn_at-clause-there g c =
+    let named = c.in-Ok-judge.ensures.allowed.0.named in
+    let at-p = at-pass c.self.invariant c.judge.ensures.site c.in-Ok-judge.field-0.place named c.index_mut-pass.ensures.value in
+    room-there _ c.args.centre.now c.in-Ok-judge.field-0.place named c.centre.result.now _ c.turn_at.new.pass c.centre.ensures at-p
+    c.reserve.new.self.items c.self.inside.pending c.args.ask c.args.self.now c.self.view_is c.in-Err-turn_at.ensures.room
+
 pub returns-in-Err-turn_at-clause-became : goal.returns-in-Err-turn_at-clause-became
 returns-in-Err-turn_at-clause-became g c =
     let place = c.in-Ok-judge.field-0.place in
@@ -183,13 +190,6 @@ returns-in-Err-turn_at-clause-became g c =
     lost-turn g.W.Warden.permits _ c.self.invariant c.is_some-waits.result c.is_some-waits.ensures c.args.centre.now c.args.ask place allowed.0
     c.in-Ok-judge.field-0.op allowed.1 c.centre.result.now p c.turn_at.new.pass c.centre.ensures at-p c.turn_at.ensures.kept
     c.reserve.new.self.items c.args.self.now c.reserve.ensures.items c.self.view_is c.in-Err-turn_at.ensures.room.sees
-
-pub returns-in-Err-turn_at-clause-there : goal.returns-in-Err-turn_at-clause-there
-returns-in-Err-turn_at-clause-there g c =
-    let named = c.in-Ok-judge.ensures.allowed.0.named in
-    let at-p = at-pass c.self.invariant c.judge.ensures.site c.in-Ok-judge.field-0.place named c.index_mut-pass.ensures.value in
-    room-there _ c.args.centre.now c.in-Ok-judge.field-0.place named c.centre.result.now _ c.turn_at.new.pass c.centre.ensures at-p
-    c.reserve.new.self.items c.self.inside.pending c.args.ask c.args.self.now c.self.view_is c.in-Err-turn_at.ensures.room
 
 pub returns-in_default-why : goal.returns-in_default-why
 returns-in_default-why g c =
