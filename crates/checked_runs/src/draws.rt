@@ -1,6 +1,11 @@
 //! Configurations that are drawn.
+ghost use Rattle.std.specs.Prelude.{◌<◌};
+
 use crate::centres::{WORDS, Word};
 use crate::texts::{append_all, append_count};
+use rand::seq::IndexedRandom;
+use rand::{RngExt, SeedableRng};
+use rand_pcg::Pcg32;
 use std::alloc::Global;
 use tc_lists::NoMemory;
 use tc_print::print_quoted;
@@ -83,36 +88,20 @@ const TEXTS: [&[u8]; 8] = [
     b"'reaction(out(r),(X is 1 + 2,Y = X,out_r(p(Y)))).'",
 ];
 
-/// Numbers that follow from a seed, for configurations with reactions or without.
-#[derive(Clone, Copy)]
+/// What configurations with reactions, or without, are drawn by.
+#[derive(Drop)]
 pub struct Draws {
-    state: u64,
+    rng: Pcg32,
     reacts: bool,
 }
 
 impl Draws {
-    /// Numbers that follow from this seed.
+    /// Draws that follow from this seed.
     pub fn new(seed: u64, reacts: bool) -> Draws {
         Draws {
-            state: seed,
+            rng: Pcg32::seed_from_u64(seed),
             reacts,
         }
-    }
-
-    // A number below the count: 0 where that is 0.
-    fn below(&mut self, count: usize) -> usize {
-        self.state = self
-            .state
-            .wrapping_mul(6_364_136_223_846_793_005)
-            .wrapping_add(1_442_695_040_888_963_407);
-        let high = (self.state >> 33) as usize;
-        high.checked_rem(count).unwrap_or(0)
-    }
-
-    // One of these texts.
-    fn one<'t>(&mut self, texts: &[&'t [u8]]) -> &'t [u8] {
-        let place = self.below(texts.len());
-        texts.get(place).copied().unwrap_or(b"")
     }
 }
 
@@ -128,8 +117,8 @@ pub struct Drawn {
 /// The next configuration.
 pub fn next_drawn(alloc: Global, draws: &mut Draws) -> Result<Drawn, NoMemory> {
     let most_centres = if draws.reacts { 2 } else { 8 };
-    let centres = draws.below(most_centres).saturating_add(1);
-    let agents = draws.below(11).saturating_add(2);
+    let centres = draws.rng.random_range(1..=most_centres);
+    let agents = draws.rng.random_range(2..=12);
     let mut text = Vec::new(alloc);
     text.extend_from_slice(b"role(r).\nrole(s).\n")?;
     for centre in 0..centres {
@@ -151,10 +140,10 @@ pub fn next_drawn(alloc: Global, draws: &mut Draws) -> Result<Drawn, NoMemory> {
 // A centre with a small budget, and some reactions.
 fn draw_reactions(draws: &mut Draws, centre: usize, into: &mut Vec<u8>) -> Result<(), NoMemory> {
     append_count(b"centre(c", centre, b",", into)?;
-    append_count(b"", draws.below(12).saturating_add(2), b").\n", into)?;
-    for _ in 0..draws.below(12).saturating_add(6) {
+    append_count(b"", draws.rng.random_range(2..=13), b").\n", into)?;
+    for _ in 0..draws.rng.random_range(6..=17) {
         append_count(b"spec(c", centre, b",", into)?;
-        append_all(&[draws.one(&REACTIONS), b").\n"], into)?;
+        append_all(&[REACTIONS.choose(&mut draws.rng).unwrap(), b").\n"], into)?;
     }
     Ok(())
 }
@@ -166,14 +155,14 @@ fn draw_centre(draws: &mut Draws, centre: usize, into: &mut Vec<u8>) -> Result<(
     } else {
         append_count(b"centre(c", centre, b").\n", into)?;
     }
-    for _ in 0..draws.below(6) {
+    for _ in 0..draws.rng.random_range(0..6) {
         append_count(b"tuple(c", centre, b",", into)?;
-        into.extend_from_slice(draws.one(&TUPLES))?;
+        into.extend_from_slice(TUPLES.choose(&mut draws.rng).unwrap())?;
         into.extend_from_slice(b").\n")?;
     }
     for (_, word) in WORDS {
         append_grant(b"r", centre, word, into)?;
-        if draws.below(5) > 0 {
+        if draws.rng.random_ratio(4, 5) {
             append_grant(b"s", centre, word, into)?;
         }
     }
@@ -201,15 +190,17 @@ fn draw_agent(
     agent: usize,
     centres: usize,
     into: &mut Vec<u8>,
-) -> Result<usize, NoMemory> {
-    let role: &[u8] = if draws.below(4) == 0 {
+) -> Result<usize, NoMemory>
+    requires { 0 < centres }
+{
+    let role: &[u8] = if draws.rng.random_ratio(1, 4) {
         b",s).\n"
     } else {
         b",r).\n"
     };
     append_count(b"agent(a", agent, role, into)?;
     let first = draw_script(alloc, draws, agent, centres, into)?;
-    if draws.below(3) > 0 {
+    if draws.rng.random_ratio(2, 3) {
         return Ok(first);
     }
     let second = draw_script(alloc, draws, agent, centres, into)?;
@@ -223,14 +214,16 @@ fn draw_script(
     agent: usize,
     centres: usize,
     into: &mut Vec<u8>,
-) -> Result<usize, NoMemory> {
-    let count = draws.below(12);
+) -> Result<usize, NoMemory>
+    requires { 0 < centres }
+{
+    let count = draws.rng.random_range(0..12);
     append_count(b"script(a", agent, b",[", into)?;
     for item in 0..count {
         if item > 0 {
             into.extend_from_slice(b", ")?;
         }
-        let centre = draws.below(centres);
+        let centre = draws.rng.random_range(0..centres);
         append_count(b"c", centre, b" ? ", into)?;
         draw_operation(alloc, draws, into)?;
     }
@@ -240,14 +233,14 @@ fn draw_script(
 
 // An operation.
 fn draw_operation(alloc: Global, draws: &mut Draws, into: &mut Vec<u8>) -> Result<(), NoMemory> {
-    let kind = draws.below(ITEMS.len().saturating_add(1));
+    let kind = draws.rng.random_range(..=ITEMS.len());
     match ITEMS.get(kind) {
         Some((word, puts)) => {
             into.extend_from_slice(word)?;
             into.extend_from_slice(if *puts {
-                draws.one(&PUT)
+                PUT.choose(&mut draws.rng).unwrap()
             } else {
-                draws.one(&ASKED)
+                ASKED.choose(&mut draws.rng).unwrap()
             })?;
             into.extend_from_slice(b")")
         }
@@ -257,14 +250,14 @@ fn draw_operation(alloc: Global, draws: &mut Draws, into: &mut Vec<u8>) -> Resul
 
 // An operation on the clauses of a centre.
 fn draw_of_clauses(alloc: Global, draws: &mut Draws, into: &mut Vec<u8>) -> Result<(), NoMemory> {
-    if draws.below(2) == 0 {
+    if draws.rng.random_ratio(1, 2) {
         return into.extend_from_slice(Word::GetSpec.text());
     }
     into.extend_from_slice(b"set_spec(")?;
     if !draws.reacts {
         into.extend_from_slice(b"''")?;
-    } else if draws.below(3) == 0 {
-        into.extend_from_slice(draws.one(&TEXTS))?;
+    } else if draws.rng.random_ratio(1, 3) {
+        into.extend_from_slice(TEXTS.choose(&mut draws.rng).unwrap())?;
     } else {
         draw_clauses(alloc, draws, into)?;
     }
@@ -274,8 +267,11 @@ fn draw_of_clauses(alloc: Global, draws: &mut Draws, into: &mut Vec<u8>) -> Resu
 // A text of clauses.
 fn draw_clauses(alloc: Global, draws: &mut Draws, into: &mut Vec<u8>) -> Result<(), NoMemory> {
     let mut clauses = Vec::new(alloc);
-    for _ in 0..draws.below(9) {
-        append_all(&[draws.one(&REACTIONS), b". "], &mut clauses)?;
+    for _ in 0..draws.rng.random_range(0..9) {
+        append_all(
+            &[REACTIONS.choose(&mut draws.rng).unwrap(), b". "],
+            &mut clauses,
+        )?;
     }
     print_quoted(alloc, &clauses, into)
 }

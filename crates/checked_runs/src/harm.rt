@@ -120,12 +120,12 @@ pub fn report_damage<R: Threads + Wait + Sync>(
 ) -> Result<(), Fault> {
     report_by_hand(rt, alloc, SMALL, &DAMAGES, into)?;
     report_by_hand(rt, alloc, REACTIVE, &REACTIVE_DAMAGES, into)?;
-    report_all_damage(rt, alloc, b"damaged", Draws::new(7, false), into)?;
+    report_all_damage(rt, alloc, b"damaged", Draws::new(15, false), into)?;
     report_all_damage(
         rt,
         alloc,
         b"with reactions, damaged",
-        Draws::new(7, true),
+        Draws::new(15, true),
         into,
     )
 }

@@ -19,6 +19,9 @@
 //! | two agents and a gate | that agents of two workers go on side by side |
 //! | texts that are damaged | that the check tells each damage |
 //! | 1,000 agents at 64 centres | the same as the first, at size |
+//! | the table on standard input | that rows worked out by hand for one worker are right with several too |
+//!
+//! In that table a configuration stands behind each line `%% NAME`, and before the first a comment.
 #![tactic(auto)]
 
 mod agents;
@@ -40,6 +43,7 @@ mod numbers;
 mod parts;
 mod reactive;
 mod report;
+mod rows;
 mod running;
 mod texts;
 mod values;
@@ -47,17 +51,24 @@ mod worlds;
 
 use anyhow::anyhow;
 use harm::report_damage;
-use report::{report_crowd, report_drawn, report_fixed, report_gate};
-use tc_io::{StdSink, write_all};
+use report::{report_crowd, report_drawn, report_fixed, report_gate, report_rows};
+use tc_io::{StdSink, StdSource, read_all, write_all};
+
+/// The most bytes that a table may have.
+const MOST_BYTES: usize = 1 << 20;
 
 fn main(rt: HostRuntime) -> anyhow::Result<()> {
     let alloc = rt.alloc();
+    let table = read_all(alloc, &mut StdSource::new(rt.stdin()), MOST_BYTES).map_err(
+        |fault| anyhow!("no table was read: {fault:?}"),
+    )?;
     let mut told = Vec::new(alloc);
     report_drawn(&rt, alloc, &mut told)?;
     report_fixed(&rt, alloc, &mut told)?;
     report_gate(&rt, alloc, &mut told)?;
     report_damage(&rt, alloc, &mut told)?;
     report_crowd(&rt, alloc, &mut told)?;
+    report_rows(&rt, alloc, &table, &mut told)?;
     write_all(&mut StdSink::new(rt.stdout()), &told).map_err(|fault| anyhow!(
         "what was told was not written: {fault:?}"
     ))?;

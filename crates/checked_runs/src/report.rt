@@ -5,6 +5,7 @@ use crate::fixed::{crowd, lock, meeting, pairs, ring};
 use crate::gates::Held;
 use crate::lines::{append_line, append_verdict, append_workers};
 use crate::reactive::{barrier, counter, philosophers, replaced};
+use crate::rows::{Row, rows};
 use crate::running::run;
 use crate::texts::{append_all, append_count};
 use std::alloc::Global;
@@ -195,6 +196,37 @@ pub fn report_gate<R: Threads + Wait + Sync>(
             b", the turns ran out\n"
         };
         into.extend_from_slice(passed)?;
+    }
+    Ok(())
+}
+
+/// Runs the configurations of a table.
+pub fn report_rows<R: Threads + Wait + Sync>(
+    rt: &R,
+    alloc: Global,
+    table: &[u8],
+    into: &mut Vec<u8>,
+) -> Result<(), Fault> {
+    for row in rows(alloc, table)? {
+        report_row(rt, alloc, &row, into)?;
+    }
+    Ok(())
+}
+
+// Runs a configuration with each number of workers. What its status is may depend on the order of calls.
+fn report_row<R: Threads + Wait + Sync>(
+    rt: &R,
+    alloc: Global,
+    row: &Row<'_>,
+    into: &mut Vec<u8>,
+) -> Result<(), Fault> {
+    for workers in WORKERS {
+        let ran = run(rt, alloc, &row.configuration, workers, &NoGate)?;
+        append_all(&[row.name, b", "], into)?;
+        append_workers(workers, into)?;
+        append_all(&[b": status 0 or 3, "], into)?;
+        append_verdict(alloc, &row.configuration, &ran, into)?;
+        into.extend_from_slice(b"\n")?;
     }
     Ok(())
 }
