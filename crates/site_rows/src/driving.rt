@@ -6,13 +6,13 @@ ghost use Rattle.tc_site.specs.Desks.{desk_of};
 ghost use Rattle.tc_site.specs.Sites.{AreOfSite, KitState, roles_of};
 ghost use Rattle.tc_workers.specs.Crews.{AreAtDesks, CanDrive};
 
+use crate::logs::append_log;
 use anyhow::anyhow;
 use std::alloc::Global;
 use std::sync::Wait;
 use std::thread::Threads;
 use tc_config::{AgentConf, Config, centre_names, read_config};
-use tc_desk::{Desk, LogRow, NoGate, Warden};
-use tc_histtext::print_row;
+use tc_desk::{Desk, NoGate, Warden};
 use tc_lists::NoMemory;
 use tc_policy::Roles;
 use tc_sched::{Actor, Step, drive};
@@ -146,18 +146,10 @@ fn last_steps<'a, R: Wait>(
         let mut member = member;
         let step = member.step(rt, alloc, names, &NoGate)?;
         let (desk, _) = member.finish();
-        append_rows(alloc, desk.log(), &mut text)?;
+        append_log(alloc, desk.log(), &mut text)?;
         text.extend_from_slice(told(step))?;
     }
     Ok(text)
-}
-
-// Appends the rows of a log.
-fn append_rows(alloc: Global, log: &[LogRow], into: &mut Vec<u8>) -> Result<(), NoMemory> {
-    for row in log {
-        print_row(alloc, row, into)?;
-    }
-    Ok(())
 }
 
 // What a step says, as a line.

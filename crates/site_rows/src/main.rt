@@ -7,16 +7,20 @@
 
 mod driving;
 mod holding;
+mod logs;
+mod polling;
 
 use anyhow::anyhow;
 use driving::report_driving;
 use holding::report_holding;
+use polling::report_polling;
 use tc_io::{StdSink, write_all};
 
 fn main(rt: HostRuntime) -> anyhow::Result<()> {
     let alloc = rt.alloc();
     let mut told = Vec::new(alloc);
     report_holding(&rt, alloc, &mut told)?;
+    report_polling(&rt, alloc, &mut told)?;
     report_driving(&rt, alloc, 1, b"agents a and b, 1 worker: ", &mut told)?;
     report_driving(&rt, alloc, 2, b"agents a and b, 2 workers: ", &mut told)?;
     write_all(&mut StdSink::new(rt.stdout()), &told).map_err(|fault| anyhow!(
