@@ -10,11 +10,5 @@ pub enum BenchFault {
     #[error("a call was refused")]
     Refused,
     #[error("out of memory")]
-    NoMemory,
-}
-
-impl From<AllocError> for BenchFault {
-    fn from(_error: AllocError) -> BenchFault {
-        BenchFault::NoMemory
-    }
+    NoMemory(#[from] AllocError),
 }

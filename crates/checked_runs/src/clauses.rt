@@ -91,7 +91,7 @@ fn next_clause(alloc: Global, text: &[u8], from: usize) -> Result<Next, Fault> {
             Ok(clause) => Next::Clause(clause, behind),
             Err(why) => Next::Bad(why),
         }),
-        Err(ReadFault::NoMemory) => Err(Fault::NoMemory),
+        Err(ReadFault::NoMemory) => Err(Fault::NoMemory(NoMemory)),
         Err(ReadFault::Syntax(_)) => Ok(Next::Bad(b"syntax")),
         Err(_) => Ok(Next::Bad(b"size")),
     }

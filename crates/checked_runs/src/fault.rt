@@ -12,19 +12,7 @@ pub enum Fault {
     #[error("the configuration is beyond this check: {0}")]
     Beyond(&'static str),
     #[error("a clause was not read: {0}")]
-    Read(ReadFault),
+    Read(#[from] ReadFault),
     #[error("out of memory")]
-    NoMemory,
-}
-
-impl From<AllocError> for Fault {
-    fn from(_error: AllocError) -> Fault {
-        Fault::NoMemory
-    }
-}
-
-impl From<ReadFault> for Fault {
-    fn from(fault: ReadFault) -> Fault {
-        Fault::Read(fault)
-    }
+    NoMemory(#[from] AllocError),
 }

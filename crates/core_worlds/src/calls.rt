@@ -1,6 +1,7 @@
 //! Steps that agents take, as their terms have them.
 use crate::fault::WorldFault;
 use std::alloc::Global;
+use tc_lists::NoMemory;
 use tc_model::Op;
 use tc_spec::{SpecFault, read_spec};
 use tc_term::{Ground, Name, Pattern, Term};
@@ -86,7 +87,7 @@ fn set_spec(alloc: Global, text: &[u8]) -> Result<Act, WorldFault> {
     match read_spec(alloc, text) {
         Ok(clauses) => Ok(Act::Call(Op::SetSpec(clauses))),
         Err(SpecFault::Bad(_)) => Err(WorldFault::NoWorld("a clause is faulty")),
-        Err(SpecFault::NoMemory) => Err(WorldFault::NoMemory),
+        Err(SpecFault::NoMemory) => Err(WorldFault::NoMemory(NoMemory)),
     }
 }
 

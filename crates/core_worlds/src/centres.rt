@@ -42,7 +42,7 @@ fn clauses_of(alloc: Global, text: &[u8]) -> Result<Clauses, WorldFault> {
     match read_spec(alloc, text) {
         Ok(clauses) => Ok(clauses),
         Err(SpecFault::Bad(_)) => Err(WorldFault::NoWorld("a clause is faulty")),
-        Err(SpecFault::NoMemory) => Err(WorldFault::NoMemory),
+        Err(SpecFault::NoMemory) => Err(WorldFault::NoMemory(NoMemory)),
     }
 }
 

@@ -3,6 +3,9 @@ use crate::counts::Counts;
 use crate::fault::WorldFault;
 use crate::run::count_world;
 use crate::worlds::world_of;
+use rand::seq::IndexedRandom;
+use rand::{RngExt, SeedableRng};
+use rand_pcg::Pcg32;
 use std::alloc::Global;
 use tc_lists::{NoMemory, append_number};
 use tc_read::read_term;
@@ -74,36 +77,9 @@ const ASKS: [&[u8]; 6] = [b"in(", b"in(", b"rd(", b"rd(", b"inp(", b"rdp("];
 
 const AGENTS: [&[u8]; 3] = [b"a", b"b", b"e"];
 
-/// Numbers that follow from a seed.
-#[derive(Clone, Copy)]
-struct Draws {
-    state: u64,
-}
-
-impl Draws {
-    // A number below the count, which is not 0: else 0.
-    fn below(&mut self, count: usize) -> usize {
-        self.state = self
-            .state
-            .wrapping_mul(6_364_136_223_846_793_005)
-            .wrapping_add(1_442_695_040_888_963_407);
-        let high = (self.state >> 33) as usize;
-        high.checked_rem(count).unwrap_or(0)
-    }
-
-    // One of these texts.
-    fn one<'t>(&mut self, texts: &[&'t [u8]]) -> &'t [u8] {
-        let place = self.below(texts.len());
-        match texts.get(place) {
-            Some(text) => text,
-            None => b"",
-        }
-    }
-}
-
 /// Serves so many worlds that follow from a seed, and counts what was seen of them.
 pub fn draw_worlds(alloc: Global, count: u32, seed: u64) -> Result<Counts, WorldFault> {
-    let mut draws = Draws { state: seed };
+    let mut draws = Pcg32::seed_from_u64(seed);
     let mut counts = Counts::none();
     for _ in 0..count {
         let text = drawn(alloc, &mut draws)?;
@@ -124,10 +100,10 @@ fn count_text(alloc: Global, text: &[u8], counts: &mut Counts) -> Result<(), Wor
 }
 
 // The text of a world.
-fn drawn(alloc: Global, draws: &mut Draws) -> Result<Vec<u8>, NoMemory> {
+fn drawn(alloc: Global, draws: &mut Pcg32) -> Result<Vec<u8>, NoMemory> {
     let mut text = Vec::new(alloc);
     text.extend_from_slice(b"world(w,")?;
-    append_number((draws.below(8) as u64).saturating_add(1), &mut text)?;
+    append_number(draws.random_range(1..=8), &mut text)?;
     text.extend_from_slice(b",'")?;
     draw_clauses(draws, &mut text)?;
     text.extend_from_slice(b"',[")?;
@@ -139,44 +115,44 @@ fn drawn(alloc: Global, draws: &mut Draws) -> Result<Vec<u8>, NoMemory> {
 }
 
 // Some clauses, or none.
-fn draw_clauses(draws: &mut Draws, into: &mut Vec<u8>) -> Result<(), NoMemory> {
-    for _ in 0..draws.below(9) {
+fn draw_clauses(draws: &mut Pcg32, into: &mut Vec<u8>) -> Result<(), NoMemory> {
+    for _ in 0..draws.random_range(0..9) {
         draw_clause(draws, into)?;
     }
     Ok(())
 }
 
 // A clause.
-fn draw_clause(draws: &mut Draws, into: &mut Vec<u8>) -> Result<(), NoMemory> {
+fn draw_clause(draws: &mut Pcg32, into: &mut Vec<u8>) -> Result<(), NoMemory> {
     into.extend_from_slice(b"reaction(")?;
-    into.extend_from_slice(draws.one(&OPERATIONS))?;
+    into.extend_from_slice(OPERATIONS.choose(draws).unwrap())?;
     into.extend_from_slice(b"(")?;
-    into.extend_from_slice(draws.one(&HEADS))?;
+    into.extend_from_slice(HEADS.choose(draws).unwrap())?;
     into.extend_from_slice(b"),(")?;
-    into.extend_from_slice(draws.one(&GOALS))?;
-    for _ in 0..draws.below(3) {
+    into.extend_from_slice(GOALS.choose(draws).unwrap())?;
+    for _ in 0..draws.random_range(0..3) {
         into.extend_from_slice(b",")?;
-        into.extend_from_slice(draws.one(&GOALS))?;
+        into.extend_from_slice(GOALS.choose(draws).unwrap())?;
     }
     into.extend_from_slice(b")). ")
 }
 
 // Tuples, with commas between.
-fn draw_tuples(draws: &mut Draws, into: &mut Vec<u8>) -> Result<(), NoMemory> {
-    into.extend_from_slice(draws.one(&TUPLES))?;
-    for _ in 0..draws.below(4) {
+fn draw_tuples(draws: &mut Pcg32, into: &mut Vec<u8>) -> Result<(), NoMemory> {
+    into.extend_from_slice(TUPLES.choose(draws).unwrap())?;
+    for _ in 0..draws.random_range(0..4) {
         into.extend_from_slice(b",")?;
-        into.extend_from_slice(draws.one(&TUPLES))?;
+        into.extend_from_slice(TUPLES.choose(draws).unwrap())?;
     }
     Ok(())
 }
 
 // Steps, with commas between.
-fn draw_steps(draws: &mut Draws, into: &mut Vec<u8>) -> Result<(), NoMemory> {
+fn draw_steps(draws: &mut Pcg32, into: &mut Vec<u8>) -> Result<(), NoMemory> {
     into.extend_from_slice(b"a ? out(r)")?;
-    for _ in 0..draws.below(32) {
+    for _ in 0..draws.random_range(0..32) {
         into.extend_from_slice(b",")?;
-        into.extend_from_slice(draws.one(&AGENTS))?;
+        into.extend_from_slice(AGENTS.choose(draws).unwrap())?;
         into.extend_from_slice(b" ? ")?;
         draw_act(draws, into)?;
     }
@@ -184,11 +160,11 @@ fn draw_steps(draws: &mut Draws, into: &mut Vec<u8>) -> Result<(), NoMemory> {
 }
 
 // What an agent does.
-fn draw_act(draws: &mut Draws, into: &mut Vec<u8>) -> Result<(), NoMemory> {
-    match draws.below(16) {
+fn draw_act(draws: &mut Pcg32, into: &mut Vec<u8>) -> Result<(), NoMemory> {
+    match draws.random_range(0..16) {
         0 => {
             into.extend_from_slice(b"look(")?;
-            append_number((draws.below(8) as u64).saturating_add(1), into)?;
+            append_number(draws.random_range(1..=8), into)?;
         }
         1 => {
             into.extend_from_slice(b"set_spec('")?;
@@ -198,11 +174,11 @@ fn draw_act(draws: &mut Draws, into: &mut Vec<u8>) -> Result<(), NoMemory> {
         2 => return into.extend_from_slice(b"get_spec"),
         3..=9 => {
             into.extend_from_slice(b"out(")?;
-            into.extend_from_slice(draws.one(&TUPLES))?;
+            into.extend_from_slice(TUPLES.choose(draws).unwrap())?;
         }
         _ => {
-            into.extend_from_slice(draws.one(&ASKS))?;
-            into.extend_from_slice(draws.one(&TEMPLATES))?;
+            into.extend_from_slice(ASKS.choose(draws).unwrap())?;
+            into.extend_from_slice(TEMPLATES.choose(draws).unwrap())?;
         }
     }
     into.extend_from_slice(b")")

@@ -11,11 +11,5 @@ pub enum WorldFault {
     #[error("a world was not read: {0}")]
     Text(ReadFault),
     #[error("out of memory")]
-    NoMemory,
-}
-
-impl From<AllocError> for WorldFault {
-    fn from(_error: AllocError) -> WorldFault {
-        WorldFault::NoMemory
-    }
+    NoMemory(#[from] AllocError),
 }

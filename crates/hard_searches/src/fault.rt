@@ -10,11 +10,5 @@ pub enum Fault {
     #[error("no age is left")]
     NoAge,
     #[error("out of memory")]
-    NoMemory,
-}
-
-impl From<AllocError> for Fault {
-    fn from(_error: AllocError) -> Fault {
-        Fault::NoMemory
-    }
+    NoMemory(#[from] AllocError),
 }

@@ -1,14 +1,27 @@
 -- What agents leave that have made their moves at a shared centre.
-use Rattle.std.specs.Prelude.{◌≡◌, ℕ, ◌<◌, List, All, length, map, slice_index_or}
+use Rattle.std.specs.Prelude.{◌≡◌, ℕ, ◌+◌, ◌<◌, false, List, All, length, map, slice_index_or}
 use Rattle.tc_model.specs.Calls.{id_of}
 use Rattle.tc_model.specs.State.{Origin}
 use Rattle.tc_model.specs.declared.entries.Entry.{Entry}
+use Rattle.tc_shared.specs.Passes.{IsPassOf, Keeps}
 use Rattle.tc_turn.specs.Passes.{TurnstileState, PassState, EndedState}
 use Rattle.shared_rows.specs.declared.playing.Played.{Played}
 
 -- the agent's entries have numbers below this one
 abbrev pub NumbersBelow : ℕ → PassState Entry Origin → Type 0
 NumbersBelow number p = All (λ e. (id_of e).number < number) p.mine
+
+-- the pass is of the centre, holds no turn, and its agent's entries have numbers below this one
+pub record MayMove (t : TurnstileState Origin) (p : PassState Entry Origin) (number : ℕ) : Type 0 where
+  pub own : IsPassOf t p
+  pub free : p.holds ≡ false
+  pub next : NumbersBelow number p
+
+-- q is the pass p after a move of this number
+pub record Moves (t : TurnstileState Origin) (p : PassState Entry Origin) (number : ℕ)
+    (q : PassState Entry Origin) : Type 0 where
+  pub kept : Keeps t p q
+  pub next : NumbersBelow (number + 1) q
 
 -- the pass that has ended is this one of the centre
 pub record IsPlayed (t : TurnstileState Origin) (p : PassState Entry Origin) (r : Played) : Type 0 where

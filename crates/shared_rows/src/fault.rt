@@ -9,19 +9,7 @@ pub enum Fault {
     #[error("{0}")]
     Setup(&'static str),
     #[error("a term was not read: {0}")]
-    Read(ReadFault),
+    Read(#[from] ReadFault),
     #[error("out of memory")]
-    NoMemory,
-}
-
-impl From<AllocError> for Fault {
-    fn from(_error: AllocError) -> Fault {
-        Fault::NoMemory
-    }
-}
-
-impl From<ReadFault> for Fault {
-    fn from(fault: ReadFault) -> Fault {
-        Fault::Read(fault)
-    }
+    NoMemory(#[from] AllocError),
 }

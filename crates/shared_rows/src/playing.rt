@@ -1,8 +1,8 @@
 //! An agent's moves at a shared centre.
-ghost use Rattle.std.specs.Prelude.{◌≡◌, ◌<◌, ◌+◌, IfOk, false};
+ghost use Rattle.std.specs.Prelude.{◌≡◌, ◌+◌, false};
 ghost use Rattle.tc_model.specs.Run.{HasCall};
 ghost use Rattle.tc_shared.specs.Passes.{IsFreshPassOf, IsPassOf, Keeps, call_id};
-ghost use Rattle.shared_rows.specs.Plays.{IsPlayed, NumbersBelow};
+ghost use Rattle.shared_rows.specs.Plays.{IsPlayed, MayMove, Moves};
 
 use crate::fault::Fault;
 use crate::lists::append;
@@ -13,7 +13,7 @@ use std::alloc::Global;
 use std::sync::Wait;
 use std::thread::yield_now;
 use tc_centre::{Answer, Poll};
-use tc_model::Op;
+use tc_lists::NoMemory;
 use tc_shared::{CallFault, CentrePass, EndedPass, LookFault, SharedCentre, SharedPollFault};
 
 /// How often others may go on while a turn is held.
@@ -105,11 +105,8 @@ fn make<R: Wait>(
     number: u64,
     act: Act,
 ) -> Result<Told, Fault>
-    requires own { IsPassOf centre.now pass.old }
-    requires free { pass.old.holds ≡ false }
-    requires next { NumbersBelow number pass.old }
-    ensures kept { Keeps centre.now pass.old pass.new }
-    ensures next { NumbersBelow (number + 1) pass.new }
+    requires { MayMove centre.now pass.old number }
+    ensures { Moves centre.now pass.old number pass.new }
 {
     match act {
         Act::Call(request) => call(rt, alloc, centre, stage, pass, number, request),
@@ -136,42 +133,19 @@ fn call<R: Wait>(
     number: u64,
     request: Request,
 ) -> Result<Told, Fault>
-    requires own { IsPassOf centre.now pass.old }
-    requires free { pass.old.holds ≡ false }
-    requires next { NumbersBelow number pass.old }
-    ensures kept { Keeps centre.now pass.old pass.new }
-    ensures next { NumbersBelow (number + 1) pass.new }
+    requires { MayMove centre.now pass.old number }
+    ensures { Moves centre.now pass.old number pass.new }
 {
     let op = operation(alloc, request)?;
-    let answer = ask(rt, alloc, centre, pass, number, op);
+    let called = centre.call(rt, alloc, pass, number, op);
     stage.count();
-    match answer {
+    match called {
         Ok(Answer::Replied(reply)) => at_once(reply_text(alloc, &reply)?),
         Ok(Answer::Pending) => wait(rt, alloc, centre, pass, number),
         Err(CallFault::TurnsSpent) => at_once(b"no turn left".to_vec(alloc)?),
         Err(CallFault::Full { .. }) => at_once(b"full".to_vec(alloc)?),
-        Err(CallFault::NoMemory) => Err(Fault::NoMemory),
+        Err(CallFault::NoMemory) => Err(Fault::NoMemory(NoMemory)),
     }
-}
-
-// Asks the centre, in one turn.
-fn ask<R: Wait>(
-    rt: &R,
-    alloc: Global,
-    centre: &SharedCentre,
-    pass: &mut CentrePass,
-    number: u64,
-    op: Op,
-) -> Result<Answer, CallFault>
-    requires own { IsPassOf centre.now pass.old }
-    requires free { pass.old.holds ≡ false }
-    requires next { NumbersBelow number pass.old }
-    ensures kept { Keeps centre.now pass.old pass.new }
-    ensures next { NumbersBelow (number + 1) pass.new }
-    ensures called { IfOk result (λ _. HasCall (call_id pass.new number) pass.new.seen) }
-{
-    let answer = centre.call(rt, alloc, pass, number, op);
-    answer
 }
 
 // Waits for the reply to the call of this number.
@@ -182,12 +156,9 @@ fn wait<R: Wait>(
     pass: &mut CentrePass,
     number: u64,
 ) -> Result<Told, Fault>
-    requires own { IsPassOf centre.now pass.old }
-    requires free { pass.old.holds ≡ false }
+    requires may { MayMove centre.now pass.old (number + 1) }
     requires called { HasCall (call_id pass.old number) pass.old.seen }
-    requires next { NumbersBelow (number + 1) pass.old }
-    ensures kept { Keeps centre.now pass.old pass.new }
-    ensures next { NumbersBelow (number + 1) pass.new }
+    ensures { Moves centre.now pass.old number pass.new }
 {
     match centre.wait(rt, alloc, pass, number) {
         Ok(reply) => Ok(Told {
@@ -198,7 +169,7 @@ fn wait<R: Wait>(
             text: b"no turn left".to_vec(alloc)?,
             waited: true,
         }),
-        Err(LookFault::NoMemory) => Err(Fault::NoMemory),
+        Err(LookFault::NoMemory) => Err(Fault::NoMemory(NoMemory)),
     }
 }
 
@@ -212,11 +183,8 @@ fn poll<R: Wait>(
     number: u64,
     asked: u64,
 ) -> Result<Told, Fault>
-    requires own { IsPassOf centre.now pass.old }
-    requires free { pass.old.holds ≡ false }
-    requires next { NumbersBelow number pass.old }
-    ensures kept { Keeps centre.now pass.old pass.new }
-    ensures next { NumbersBelow (number + 1) pass.new }
+    requires { MayMove centre.now pass.old number }
+    ensures { Moves centre.now pass.old number pass.new }
 {
     let polled = centre.poll(rt, alloc, pass, number, asked);
     stage.count();
@@ -226,7 +194,7 @@ fn poll<R: Wait>(
         Err(SharedPollFault::TurnsSpent) => at_once(b"no turn left".to_vec(alloc)?),
         Err(SharedPollFault::Stranger) => at_once(b"no such call".to_vec(alloc)?),
         Err(SharedPollFault::Full { .. }) => at_once(b"full".to_vec(alloc)?),
-        Err(SharedPollFault::NoMemory) => Err(Fault::NoMemory),
+        Err(SharedPollFault::NoMemory) => Err(Fault::NoMemory(NoMemory)),
     }
 }
 

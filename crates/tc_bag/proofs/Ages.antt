@@ -2,7 +2,7 @@
 use Rattle.std.proofs.Common.{◌≡◌, ◌≢◌, ◌<◌, ◌==◌, ℕ, false, cond, Some, None, List, [], ◌∷◌, ◌++◌, All, refl, ap, ◌∙◌, arith}
 use Rattle.std.proofs.lemmas.Bool.{eq-eqb, ne_eqb}
 use Rattle.std.proofs.lemmas.List.Elements.{All-head, All-tail, All-weaker, All-cons}
-use Rattle.tc_bag.specs.Stock.{Row, Rises, tuple_at, without_age}
+use Rattle.tc_bag.specs.Stock.{Row, AgesRiseBelow, tuple_at, without_age}
 use Rattle.tc_lists.proofs.Elements.{All-append_right}
 
 -- the row has another age
@@ -48,22 +48,22 @@ tuple_at-none age (x ∷ xs) other =
     ∙ tuple_at-none age xs (All-tail (IsOther age) x xs other)
 
 -- the rows before a row are older
-pub Rises-front : (xs ys : List Row) (r : Row) (next : ℕ) → Rises (xs ++ r ∷ ys) next
+pub AgesRiseBelow-front : (xs ys : List Row) (r : Row) (next : ℕ) → AgesRiseBelow (xs ++ r ∷ ys) next
     → All (λ s. s.age < r.age) xs
-Rises-front [] ys r next rises = λ k d inside. absurd (omega (arith, inside))
-Rises-front (x ∷ xs) ys r next rises =
+AgesRiseBelow-front [] ys r next rises = λ k d inside. absurd (omega (arith, inside))
+AgesRiseBelow-front (x ∷ xs) ys r next rises =
     let above : x.age < r.age =
     All-head (λ s. x.age < s.age) r ys (All-append_right (λ s. x.age < s.age) xs (r ∷ ys) rises.1) in
-    All-cons (λ s. s.age < r.age) x xs above (Rises-front xs ys r next rises.2)
+    All-cons (λ s. s.age < r.age) x xs above (AgesRiseBelow-front xs ys r next rises.2)
 
 -- so they have other ages
-pub others_before : (xs ys : List Row) (r : Row) (next : ℕ) → Rises (xs ++ r ∷ ys) next
+pub others_before : (xs ys : List Row) (r : Row) (next : ℕ) → AgesRiseBelow (xs ++ r ∷ ys) next
     → All (IsOther r.age) xs
 others_before xs ys r next rises =
     All-weaker (λ s. s.age < r.age) (IsOther r.age) (λ s older same. absurd (omega (arith, older, same))) xs
-    (Rises-front xs ys r next rises)
+    (AgesRiseBelow-front xs ys r next rises)
 
 -- the age of each is below the number
-pub Rises-below : (rows : List Row) (next : ℕ) → Rises rows next → All (λ r. r.age < next) rows
-Rises-below [] next rises = λ k d inside. absurd (omega (arith, inside))
-Rises-below (r ∷ rs) next rises = All-cons (λ s. s.age < next) r rs rises.0 (Rises-below rs next rises.2)
+pub AgesRiseBelow-all : (rows : List Row) (next : ℕ) → AgesRiseBelow rows next → All (λ r. r.age < next) rows
+AgesRiseBelow-all [] next rises = λ k d inside. absurd (omega (arith, inside))
+AgesRiseBelow-all (r ∷ rs) next rises = All-cons (λ s. s.age < next) r rs rises.0 (AgesRiseBelow-all rs next rises.2)

@@ -1,5 +1,5 @@
 -- Rows in places, and the slots that they give.
-use Rattle.std.proofs.Common.{◌≡◌, ◌≢◌, ◌<◌, ◌≤◌, ◌-◌, ◌+◌, ◌==◌, ◌⊎◌, length, slice_get, length-append, nat_lt, is_some, inl, inr, not, ℕ, zero, suc, Bool, true, false, cond, IsTrue, IsSome, Option, Some, None, List, [], ◌∷◌, ◌++◌, get_or, set, take, drop, map, filter, filter_map, All, refl, ap, sym, subst, ◌∙◌, arith}
+use Rattle.std.proofs.Common.{◌≡◌, ◌≢◌, ◌<◌, ◌≤◌, ◌-◌, ◌+◌, length, slice_get, length-append, nat_lt, is_some, inl, inr, not, ℕ, zero, suc, Bool, true, false, cond, IsTrue, Option, Some, None, List, [], ◌∷◌, ◌++◌, get_or, set, take, drop, map, filter, All, refl, ap, sym, subst, ◌∙◌, arith}
 use Rattle.std.proofs.lemmas.Bool.{eq-eqb, true≢false}
 use Rattle.std.proofs.lemmas.Bool.Decides.{nat_tests}
 use Rattle.std.proofs.lemmas.List.{map-append, take-append-drop, append_assoc, get_or-take, get_or-drop, length-take-le, length-drop, take_all, length-map, length-set, take-set, drop-set-lt, get_or-set_same, set-get_or}
@@ -10,29 +10,16 @@ use Rattle.std.specs.Option.{option_map, IfSome}
 use Rattle.std.proofs.Math.Seq.{take-append_seam}
 use Rattle.tc_term.specs.Tree.{Tree}
 use Rattle.tc_bag.specs.declared.slots.Place.{Place}
-use Rattle.tc_bag.specs.Places.{slot_taken, slot_in, slots_of, slot_if, slot_at, AgesRise, EndsFilled, IsKept, IsFirstFilled}
-use Rattle.tc_bag.specs.Slots.{Slot, slot, InOrder, IsYoungest, is_not_of, with_taken}
+use Rattle.tc_bag.specs.Places.{slot_taken, slot_in, slots_of, slot_at, AgesRise, EndsFilled, AreRowPlaces}
+use Rattle.tc_bag.specs.Slots.{Slot, InOrder, IsYoungest, is_not_of, with_taken}
 use Rattle.tc_bag.proofs.ByAge.{filter-others, map-others, with_taken-other, slot_at-pass, slot_at-others, slot_at-none, slot_at-all}
 use Rattle.tc_lists.proofs.Elements.{All-append_left, All-append_right}
-use Rattle.tc_lists.proofs.Parts.{drop_read}
+use Rattle.tc_lists.proofs.Parts.{drop_read, nil_or_push, split_read}
 use Rattle.tc_bag.proofs.Searching.{less_or}
-
--- a list is empty or has a last element
-pub ends : {X : Type 0} (xs : List X) → (xs ≡ []) ⊎ ((before : List X) × (top : X) × (xs ≡ before ++ top ∷ []))
-ends [] = inl refl
-ends (x ∷ xs) =
-    elim (ends xs) [
-      | inl none ↦ inr ([], x, ap (λ ys. x ∷ ys) none)
-      | inr (before, top, split) ↦ inr (x ∷ before, top, ap (λ ys. x ∷ ys) split)
-    ]
 
 pub slice_get-seam : {X : Type 0} (xs ys : List X) (x : X) → slice_get (xs ++ x ∷ ys) (length xs) ≡ Some x
 slice_get-seam [] ys x = refl
 slice_get-seam (z ∷ zs) ys x = slice_get-seam zs ys x
-
--- a list about one of its places
-pub cut_at : {X : Type 0} (xs : List X) (i : ℕ) (x : X) → i < length xs → x ≡ get_or xs i x → xs ≡ take i xs ++ x ∷ drop (i + 1) xs
-cut_at xs i x inside read = sym (take-append-drop i xs) ∙ ap (λ rest. take i xs ++ rest) (drop_read xs i x inside read)
 
 pub set_cut : {X : Type 0} (xs : List X) (i : ℕ) (y : X) → i < length xs → set xs i y ≡ take i xs ++ y ∷ drop (i + 1) xs
 set_cut xs i y inside =
@@ -338,7 +325,7 @@ IsPlaceOf age ps i = (i < length ps) × HoldsAt (λ p. p.age ≡ age) ps i
 
 module _ (age i : ℕ) (ps : List Place) (p : Place) (rise : AgesRise ps) (at : IsPlaceOf age ps i) (read : p ≡ get_or ps i p) where
   placed : ps ≡ take i ps ++ p ∷ drop (i + 1) ps
-  placed = cut_at ps i p at.0 read
+  placed = split_read ps i p at.0 read
 
   rise_placed : AgesRise (take i ps ++ p ∷ drop (i + 1) ps)
   rise_placed = subst AgesRise placed rise
@@ -362,7 +349,7 @@ module _ (age i : ℕ) (ps : List Place) (p : Place) (rise : AgesRise ps) (at : 
       ∙ ap (λ qs. map (with_taken p.age n) (slots_of qs)) (sym placed)
       ∙ ap (λ a. map (with_taken a n) (slots_of ps)) same_age
 
-  pub kept-set_taken : (n filled : ℕ) → IsKept ps filled → IsKept (set ps i (record { age = p.age; taken = n; tuple = p.tuple })) filled
+  pub kept-set_taken : (n filled : ℕ) → AreRowPlaces ps filled → AreRowPlaces (set ps i (record { age = p.age; taken = n; tuple = p.tuple })) filled
   kept-set_taken n filled kept =
       let q : Place = record { age = p.age; taken = n; tuple = p.tuple } in
       let is : set ps i q ≡ take i ps ++ q ∷ drop (i + 1) ps = set_cut ps i q at.0 in
@@ -462,7 +449,7 @@ last_seam xs x =
 -- a list by its last place
 pub by_last : {X : Type 0} (xs : List X) (x : X) → slice_get xs (length xs - 1) ≡ Some x → (before : List X) × (xs ≡ before ++ x ∷ [])
 by_last xs x read =
-    elim (ends xs) [
+    elim (nil_or_push xs) [
       | inl none ↦
           let nothing : None ≡ Some x = subst (λ ys. slice_get ys (length ys - 1) ≡ Some x) none read in
           absurd (cc)
@@ -474,7 +461,7 @@ by_last xs x read =
 
 pub no_last : {X : Type 0} (xs : List X) → slice_get xs (length xs - 1) ≡ None → xs ≡ []
 no_last xs read =
-    elim (ends xs) [
+    elim (nil_or_push xs) [
       | inl none ↦ none
       | inr (before, top, split) ↦
           let some : Some top ≡ None = sym (last_seam before top) ∙ ap (λ ys. slice_get ys (length ys - 1)) (sym split) ∙ read in
@@ -512,7 +499,7 @@ top_below age before top filled below =
 -- what is older than all rows is so of all places
 pub places_below : (age : ℕ) (ps : List Place) → AgesRise ps → EndsFilled ps → All (λ s. s.age < age) (slots_of ps) → All (λ p. p.age < age) ps
 places_below age ps rise filled below =
-    elim (ends ps) [
+    elim (nil_or_push ps) [
       | inl none ↦ subst (All (λ p. p.age < age)) (sym none) (All-nil (λ p. p.age < age))
       | inr (before, top, split) ↦
           let here : top.age < age =
@@ -529,8 +516,8 @@ pub slots-push : (ps : List Place) (p : Place) (t : Tree) → p.tuple ≡ Some t
 slots-push ps p t some =
     slots-append ps (p ∷ []) ∙ ap (λ o. slots_of ps ++ cons_option (option_map (slot_taken p.age p.taken) o) []) some
 
-pub kept-push : (ps : List Place) (filled : ℕ) (p : Place) (t : Tree) → IsKept ps filled → p.tuple ≡ Some t
-    → All (λ s. s.age < p.age) (slots_of ps) → IsKept (ps ++ p ∷ []) (filled + 1)
+pub kept-push : (ps : List Place) (filled : ℕ) (p : Place) (t : Tree) → AreRowPlaces ps filled → p.tuple ≡ Some t
+    → All (λ s. s.age < p.age) (slots_of ps) → AreRowPlaces (ps ++ p ∷ []) (filled + 1)
 kept-push ps filled p t kept some below = record {
   rise = rise-push ps p kept.rise (places_below p.age ps kept.rise kept.ends below);
   ends = ends-push ps p (ap is_some some);

@@ -1,8 +1,8 @@
 -- Finding the first row.
-use Rattle.std.proofs.Common.{◌≡◌, ◌<◌, ◌≤◌, ◌==◌, ◌⊎◌, ◌+◌, inl, inr, nat_lt, slice_get, max, IsTrue, ℕ, Bool, true, cond, Option, Some, None, List, [], ◌∷◌, get_or, All, refl, ap, sym, subst, ◌∙◌, arith}
+use Rattle.std.proofs.Common.{◌≡◌, ◌<◌, ◌≤◌, ◌==◌, ◌⊎◌, ◌+◌, inl, inr, nat_lt, max, IsTrue, ℕ, Bool, true, cond, Option, Some, None, List, [], ◌∷◌, get_or, All, refl, ap, sym, subst, ◌∙◌, arith}
 use Rattle.std.proofs.lemmas.Bool.{cases_Bool, eqb-true, eq-eqb, ne_eqb}
 use Rattle.std.proofs.lemmas.List.Elements.{All-head, All-tail, All-cons, All-nil}
-use Rattle.std.specs.Option.{IfSome, IfNone, IsSome}
+use Rattle.std.specs.Option.{IfSome, IfNone}
 use Rattle.std.proofs.lemmas.Bool.Decides.{nat_tests}
 use Rattle.tc_lists.specs.Firsts.{IsFirst}
 use Rattle.tc_term.specs.Tree.{Tree, Variable, Atomic, Number, Compound}

@@ -8,7 +8,7 @@ use Rattle.tc_term.specs.Tree.{Tree, IsTuple}
 use Rattle.tc_lists.specs.Firsts.{NoneOf, IsFirst}
 use Rattle.tc_bag.specs.declared.key.Key.{Key}
 use Rattle.tc_bag.specs.declared.slots.Mark.{Mark}
-use Rattle.tc_bag.specs.Stock.{Row, row, IsCandidateLike, Saved, Rises, tuple_at, with_tuple, saved_of, marked, without_age}
+use Rattle.tc_bag.specs.Stock.{Row, row, IsCandidateLike, Saved, AgesRiseBelow, tuple_at, with_tuple, saved_of, marked, without_age}
 use Rattle.tc_bag.specs.Slots.{Slot, slot, row_of, is_there, is_older, was_there, rows_now, rows_then, saved_at, stock_of, InOrder, IsLogged, IsThereLike, StartsEmpty, IsSound, is_not_of, taken_at, revived, tuple_there}
 use Rattle.tc_bag.proofs.Ages.{IsOther, without_age-none, tuple_at-none}
 use Rattle.tc_lists.specs.Marks.{IsBack, IsGivenUp, Climbs}
@@ -180,16 +180,16 @@ undone_then age top next taken count few lower fewer = grind (arith, nat_tests)
 
 module _ (slots : List Slot) (next : ℕ) (log : List ℕ) (room : ℕ) (marks : List Mark) (sound : IsSound slots next log room marks) where
   -- the ages rise
-  pub sound-rises : Rises (rows_now slots) next
+  pub sound-rises : AgesRiseBelow (rows_now slots) next
   sound-rises = rises slots sound.order sound.below
     where
-      rises : (ss : List Slot) → InOrder ss → All (λ s. s.age < next) ss → Rises (map row_of (filter is_there ss)) next
+      rises : (ss : List Slot) → InOrder ss → All (λ s. s.age < next) ss → AgesRiseBelow (map row_of (filter is_there ss)) next
       rises [] order below = tt
       rises (s ∷ ss) order below =
           let rest = rises ss order.1 (All-tail (λ t. t.age < next) s ss below) in
           let above : All (λ r. s.age < r.age) (map row_of (filter is_there ss)) =
           All-map (λ r. s.age < r.age) row_of (filter is_there ss) (All-filter is_there (λ t. s.age < t.age) ss order.0) in
-          elim (is_there s) as (λ b. Rises (map row_of (cond b (s ∷ filter is_there ss) (filter is_there ss))) next) [
+          elim (is_there s) as (λ b. AgesRiseBelow (map row_of (cond b (s ∷ filter is_there ss) (filter is_there ss))) next) [
             | true ↦ (All-head (λ t. t.age < next) s ss below, above, rest)
             | false ↦ rest
           ]

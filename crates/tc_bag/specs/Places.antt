@@ -44,7 +44,7 @@ EndsFilled [] = Unit {0}
 EndsFilled (p ∷ ps) = (ps ≡ [] → IsTrue (is_some p.tuple)) × EndsFilled ps
 
 -- what a list of places keeps: ages rise, the last place is no gap, and the rows are counted
-pub record IsKept (places : List Place) (filled : ℕ) : Type 0 where
+pub record AreRowPlaces (places : List Place) (filled : ℕ) : Type 0 where
   pub rise : AgesRise places
   pub ends : EndsFilled places
   pub count : filled ≡ length (slots_of places)

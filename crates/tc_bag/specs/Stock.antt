@@ -32,9 +32,9 @@ abbrev pub tuples_of : List Row → List Tree
 tuples_of rows = map (λ r. r.tuple) rows
 
 -- the ages rise, and are below the number
-abbrev pub Rises : List Row → ℕ → Type 0
-Rises [] next = Unit {0}
-Rises (r ∷ rs) next = (r.age < next) × All (λ s. r.age < s.age) rs × Rises rs next
+abbrev pub AgesRiseBelow : List Row → ℕ → Type 0
+AgesRiseBelow [] next = Unit {0}
+AgesRiseBelow (r ∷ rs) next = (r.age < next) × All (λ s. r.age < s.age) rs × AgesRiseBelow rs next
 
 -- no row below this age is there that wasn't
 abbrev pub AddsNone : ℕ → List Row → List Row → Type 0

@@ -53,7 +53,7 @@ impl Bag {
     ghost use Rattle.tc_term.specs.TreeView.{tree_of};
     ghost use Rattle.tc_bag.specs.Keys.{key_of};
     ghost use Rattle.tc_bag.specs.Lent.{lent_key};
-    ghost use Rattle.tc_bag.specs.Stock.{row, tuples_of, Rises, IsCandidate, IsCandidateLike};
+    ghost use Rattle.tc_bag.specs.Stock.{row, tuples_of, AgesRiseBelow, IsCandidate, IsCandidateLike};
     ghost use Rattle.tc_bag.specs.Stock.{tuple_at, without_age, with_tuple, saved_of, marked};
 
     /// No tuple and no mark. The first tuple that is put has the age 0.
@@ -77,7 +77,7 @@ impl Bag {
         ensures none { IfNone result (NoneOf (IsCandidate key.now from) self.now.now) }
 
         // What a search needs that goes on from the age found.
-        ensures rises { Rises self.now.now self.now.next }
+        ensures rises { AgesRiseBelow self.now.now self.now.next }
         ensures limit { self.now.next < 2 ^ 64 }
         ensures tuples { All (λ r. IsTuple r.tuple) self.now.now }
     {
@@ -102,7 +102,7 @@ impl Bag {
             self.now.now) }
 
         // What a search needs that goes on from the age found.
-        ensures rises { Rises self.now.now self.now.next }
+        ensures rises { AgesRiseBelow self.now.now self.now.next }
         ensures limit { self.now.next < 2 ^ 64 }
         ensures tuples { All (λ r. IsTuple r.tuple) self.now.now }
     {
@@ -125,7 +125,7 @@ impl Bag {
             self.now.now) }
 
         // What a search needs that goes on from the age found.
-        ensures rises { Rises self.now.now self.now.next }
+        ensures rises { AgesRiseBelow self.now.now self.now.next }
         ensures limit { self.now.next < 2 ^ 64 }
         ensures tuples { All (λ r. IsTuple r.tuple) self.now.now }
     {
@@ -140,7 +140,7 @@ impl Bag {
         ensures none { IfNone result (NoneOf (IsCandidateLike
             (lent_key key.entry) (option_map (λ term. tree_of term.now) first.entry) from)
             self.now.now) }
-        ensures rises { Rises self.now.now self.now.next }
+        ensures rises { AgesRiseBelow self.now.now self.now.next }
         ensures limit { self.now.next < 2 ^ 64 }
         ensures tuples { All (λ r. IsTuple r.tuple) self.now.now }
     {

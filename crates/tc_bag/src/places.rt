@@ -26,7 +26,7 @@ impl Model for Places {
     ghost use Rattle.std.specs.Coded.{codes};
     ghost use Rattle.tc_term.specs.TreeCode.{coded_tree};
     ghost use Rattle.tc_bag.specs.Slots.{Slot};
-    ghost use Rattle.tc_bag.specs.Places.{slots_of, IsKept};
+    ghost use Rattle.tc_bag.specs.Places.{slots_of, AreRowPlaces};
 
     ghost Value = { List Slot };
 
@@ -34,7 +34,7 @@ impl Model for Places {
 
     ghost view = { λ p. slots_of p.places.items };
 
-    ghost invariant = { λ p. IsKept p.places.items p.filled };
+    ghost invariant = { λ p. AreRowPlaces p.places.items p.filled };
 }
 
 impl Places {

@@ -2,10 +2,9 @@
 use Rattle.std.proofs.Common.{◌≡◌, ℕ, ◌+◌, ◌≤◌, ◌<◌, List, [], ◌∷◌, ◌++◌, take, length, get_or, Some, refl, sym, ap, subst, ◌∙◌, arith}
 use Rattle.std.specs.List.{slice_get}
 use Rattle.std.proofs.lemmas.List.{take_more}
-use Rattle.tc_term.proofs.Instances.{raised-zero}
 use Rattle.tc_term.specs.Tree.{Tree}
 use Rattle.tc_term.specs.Variables.{raised, var_bound}
-use Rattle.tc_term.specs.Equations.{Equations, Solvable, with_pair}
+use Rattle.tc_term.specs.Equations.{Equations, Solvable}
 use Rattle.tc_bag.specs.Stock.{Stock, tuples_of}
 use Rattle.tc_model.specs.Choices.{Choice, TheFirst}
 use Rattle.tc_model.specs.Events.{Occurrence, Setting}
@@ -32,25 +31,6 @@ leads_done scene gs g m k n leads done =
 first_goal : (gs : List Goal) → 1 ≤ length gs → (g : Goal) × (slice_get gs 0 ≡ Some g)
 first_goal [] some = absurd (omega (arith, some))
 first_goal (g ∷ gs) some = (g, refl)
-
--- a store without equations, as wide as head and event ask for
-pub fresh : (r : Rule) (e : Occurrence) (s : Equations) (k n : ℕ) (u : Tree) → s ≡ record { vars = k + n; pairs = [] }
-    → k ≡ r.vars → n ≡ var_bound u → u ≡ e.term → s ≡ record { vars = r.vars + var_bound e.term; pairs = [] }
-fresh r e s k n u es ek en eu =
-    let none : ℕ → Equations = λ w. record { vars = w; pairs = [] } in
-    let wide : k + n ≡ r.vars + var_bound e.term = omega (arith, ek, en, ap var_bound eu) in
-    es ∙ ap none wide
-
--- the store holds the equation with which a body begins
-pub begun : (r : Rule) (e : Occurrence) (s q : Equations) (head u : Tree) (n : ℕ) → s ≡ record { vars = n; pairs = [] } → head ≡ r.head → u ≡ e.term
-    → q ≡ with_pair s (raised 0 head) (raised r.vars u)
-    → q ≡ record { vars = n; pairs = (r.head, raised r.vars e.term) ∷ [] }
-begun r e s q head u n es eh eu eq =
-    let none : Equations = record { vars = n; pairs = [] } in
-    eq
-    ∙ (ap (λ (p : Equations). with_pair p (raised 0 head) (raised r.vars u)) es
-    ∙ (ap (λ (a : Tree). with_pair none a (raised r.vars u)) (raised-zero head ∙ eh)
-    ∙ ap (λ (v : Tree). with_pair none r.head (raised r.vars v)) eu))
 
 module _ (r : Rule) (e : Occurrence) (setting : Setting) where
   pub begun_moment : (q : Equations) (n : ℕ) (b : Stock) (fs : List Effect) → fs ≡ []

@@ -1,6 +1,5 @@
 //! The goals of a body, one after another.
-ghost use Rattle.std.specs.Prelude.{◌≡◌, ◌≤◌, ◌+◌, false, IsTrue, IfOk, OnOk, OnErr, IfSome, IfNone};
-ghost use Rattle.tc_term.specs.Equations.{Solvable};
+ghost use Rattle.std.specs.Prelude.{◌≡◌, ◌≤◌, ◌+◌, IfOk, OnErr, IfSome, IfNone};
 ghost use Rattle.tc_model.specs.Bodies.{IsBody, IsFired, IsFailed};
 ghost use Rattle.tc_model.specs.Choices.{TheFirst};
 ghost use Rattle.tc_model.specs.Tuples.{after_effects};
@@ -8,7 +7,6 @@ ghost use Rattle.tc_model.specs.Cascades.{pick_of, clause_of};
 ghost use Rattle.tc_model.specs.Triggers.{raises};
 ghost use Rattle.tc_bag.specs.Stock.{tuples_of, AddsNone};
 ghost use Rattle.tc_body.specs.Left.{IsLeft};
-ghost use Rattle.tc_body.specs.Met.{met};
 
 use crate::events::events_of;
 use crate::goal::step;
@@ -16,7 +14,7 @@ use std::alloc::Global;
 use tc_bag::Bag;
 use tc_lists::{NoMemory, Seq};
 use tc_model::{Context, Effect, Event, Item, Reaction};
-use tc_unify::{Part, Store};
+use tc_unify::Store;
 
 /// Runs the body of a reaction over the tuples of the bag: each goal takes the oldest tuple that
 /// matches. A body that fails leaves the bag as it was, and so does want of memory.
@@ -139,7 +137,7 @@ pub fn run_goals(
 {
     let mut effects = Vec::new(alloc);
     let goals = r.goals();
-    if !meet(store, r, e)? {
+    if !store.meet(r.head(), r.vars(), e.term())? {
         return Ok((Some(1), effects));
     }
     for (i, goal) in goals.iter().enumerate() {
@@ -148,28 +146,4 @@ pub fn run_goals(
         }
     }
     Ok((None, effects))
-}
-
-/// Whether a reaction's head and an event's term can be made equal, their variables kept apart.
-///
-/// The store is made anew; where they can, it holds that equation, and else none. What it holds
-/// before does not count.
-pub fn meet(store: &mut Store, r: &Reaction, e: &Event) -> Result<bool, NoMemory>
-    ensures met { IfOk result (λ y. IsTrue y → store.new ≡ met r.now e.now) }
-    ensures apart { IfOk result (λ y. y ≡ false
-        → Solvable (met r.now e.now).vars (met r.now e.now).pairs → ⊥) }
-    ensures solvable { OnOk result (Solvable store.new.vars store.new.pairs) }
-{
-    let term = e.term();
-    store.renew(r.vars() + term.vars())?;
-    let left = Part {
-        term: r.head(),
-        shift: 0,
-    };
-    let right = Part {
-        term: term.term(),
-        shift: r.vars(),
-    };
-    let met = store.add(left, right)?;
-    Ok(met)
 }

@@ -12,6 +12,6 @@ mod body;
 mod events;
 mod goal;
 
-pub use body::{execute, execute_in, meet, run_goals};
+pub use body::{execute, execute_in, run_goals};
 pub use goal::step;
 pub use tc_lists::NoMemory;

@@ -1,22 +1,21 @@
--- Batches that wait: the first member, those behind it, and one more batch.
-use Rattle.std.proofs.Common.{◌≡◌, ℕ, suc, ◌+◌, ◌-◌, ◌≤◌, ◌<◌, List, [], ◌∷◌, ◌++◌, All, length, map, take, drop, get_or, refl, sym, ap, subst, ◌∙◌, arith, length-append, length-drop, append_assoc, append-nil, drop-cons}
+-- Batches of triggered reactions: the first member, those behind it, and one more batch.
+use Rattle.std.proofs.Common.{◌≡◌, ℕ, ◌+◌, ◌-◌, ◌≤◌, ◌<◌, List, [], ◌∷◌, ◌++◌, All, length, map, drop, get_or, refl, sym, ap, subst, ◌∙◌, arith, length-append, length-drop, append-nil}
 use Rattle.std.specs.List.{flat_map}
 use Rattle.std.proofs.Math.Seq.{drop-nil, drop-append_seam}
 use Rattle.std.proofs.lemmas.List.{length-map, drop-drop, drop-append-le, drop-map}
 use Rattle.std.proofs.lemmas.List.Elements.{All-head, All-tail, All-push}
 use Rattle.std.proofs.lemmas.Grind.{flat_map-append}
 use Rattle.tc_lists.proofs.Parts.{drop_read}
-use Rattle.tc_model.specs.Triggers.{Member, members}
 use Rattle.tc_cascade.specs.declared.queue.Batch.{Batch}
-use Rattle.tc_cascade.specs.Batches.{members_of, waiting_in, IsQueue, HasSome, IsInFirst}
+use Rattle.tc_cascade.specs.Batches.{members_of, triggered_in, IsQueue, HasSome, IsInFirst}
 
 length_members : (b : Batch) → length (members_of b) ≡ length b.numbers.items
 length_members b = length-map b.numbers.items (λ (n : ℕ). record { clause = n; event = b.event })
 
 -- no batch, and a first one
-pub none_waits : (bs : List Batch) (place : ℕ) → length bs ≡ 0 → waiting_in bs place ≡ []
-none_waits [] place none = drop-nil place
-none_waits (b ∷ bs) place none = absurd (omega (arith, none))
+pub none_triggered : (bs : List Batch) (place : ℕ) → length bs ≡ 0 → triggered_in bs place ≡ []
+none_triggered [] place none = drop-nil place
+none_triggered (b ∷ bs) place none = absurd (omega (arith, none))
 
 -- the place is one of the first batch
 pub in_first : (bs : List Batch) (b : Batch) (place len : ℕ) → 0 < length bs → b ≡ get_or bs 0 b → IsQueue bs place len
@@ -25,32 +24,32 @@ in_first [] b place len some is q = absurd (omega (arith, some))
 in_first (a ∷ bs) b place len some is q = subst (λ (c : Batch). place < length c.numbers.items) (sym is) q.inside
 
 drop_place : (b : Batch) (bs : List Batch) (place : ℕ) → place ≤ length b.numbers.items
-    → waiting_in (b ∷ bs) place ≡ drop place (members_of b) ++ flat_map members_of bs
+    → triggered_in (b ∷ bs) place ≡ drop place (members_of b) ++ flat_map members_of bs
 drop_place b bs place inside =
     drop-append-le place (members_of b) (flat_map members_of bs) (let l = length_members b in omega (arith, l, inside))
 
--- the first that waits, and those behind it
-pub first_waits : (bs : List Batch) (b : Batch) (place len n : ℕ) → 0 < length bs → b ≡ get_or bs 0 b → IsQueue bs place len
+-- the first that is left, and those behind it
+pub first_triggered : (bs : List Batch) (b : Batch) (place len n : ℕ) → 0 < length bs → b ≡ get_or bs 0 b → IsQueue bs place len
     → n ≡ get_or b.numbers.items place n
-    → waiting_in bs place ≡ record { clause = n; event = b.event } ∷ waiting_in bs (place + 1)
-first_waits [] b place len n some is q at = absurd (omega (arith, some))
-first_waits (a ∷ bs) b place len n some is q at =
+    → triggered_in bs place ≡ record { clause = n; event = b.event } ∷ triggered_in bs (place + 1)
+first_triggered [] b place len n some is q at = absurd (omega (arith, some))
+first_triggered (a ∷ bs) b place len n some is q at =
     let inside : place < length b.numbers.items = in_first (a ∷ bs) b place len some is q in
     let here : drop place (members_of b) ≡ record { clause = n; event = b.event } ∷ drop (place + 1) (members_of b) =
     drop-map (λ (k : ℕ). record { clause = k; event = b.event }) place b.numbers.items
     ∙ (ap (map (λ (k : ℕ). record { clause = k; event = b.event })) (drop_read b.numbers.items place n inside at)
     ∙ ap (λ ms. record { clause = n; event = b.event } ∷ ms) (sym (drop-map (λ (k : ℕ). record { clause = k; event = b.event }) (place + 1) b.numbers.items))) in
-    subst (λ (c : Batch). waiting_in (c ∷ bs) place ≡ record { clause = n; event = b.event } ∷ waiting_in (c ∷ bs) (place + 1)) is
+    subst (λ (c : Batch). triggered_in (c ∷ bs) place ≡ record { clause = n; event = b.event } ∷ triggered_in (c ∷ bs) (place + 1)) is
     (drop_place b bs place (omega (arith, inside))
     ∙ (ap (λ ms. ms ++ flat_map members_of bs) here
     ∙ ap (λ ms. record { clause = n; event = b.event } ∷ ms) (sym (drop_place b bs (place + 1) (omega (arith, inside))))))
 
 -- one behind another, and behind the last of the first batch
-pub next_waits : (bs : List Batch) (place : ℕ) → drop 1 (waiting_in bs place) ≡ waiting_in bs (place + 1)
-next_waits bs place = drop-drop 1 place (flat_map members_of bs)
+pub next_triggered : (bs : List Batch) (place : ℕ) → drop 1 (triggered_in bs place) ≡ triggered_in bs (place + 1)
+next_triggered bs place = drop-drop 1 place (flat_map members_of bs)
 
 pub batch_done : (bs : List Batch) (b : Batch) (place : ℕ) → 0 < length bs → b ≡ get_or bs 0 b → place ≡ length b.numbers.items
-    → waiting_in bs place ≡ waiting_in (drop 1 bs) 0
+    → triggered_in bs place ≡ triggered_in (drop 1 bs) 0
 batch_done [] b place some is end = absurd (omega (arith, some))
 batch_done (a ∷ bs) b place some is end =
     ap (λ k. drop k (members_of a ++ flat_map members_of bs))
@@ -65,8 +64,8 @@ queue_next (a ∷ bs) b place len some is q more = record {
   some = q.some;
   inside = subst (λ (c : Batch). place + 1 < length c.numbers.items) is more;
   count =
-      let l = ap length (next_waits (a ∷ bs) place) in
-      let d = length-drop 1 (waiting_in (a ∷ bs) place) in
+      let l = ap length (next_triggered (a ∷ bs) place) in
+      let d = length-drop 1 (triggered_in (a ∷ bs) place) in
       let c = q.count in
       omega (arith, l, d, c);
 }
@@ -84,17 +83,17 @@ queue_done (a ∷ bs) b place len some is q end =
       some = rest;
       inside = at_start bs rest;
       count =
-          let l = ap length (next_waits (a ∷ bs) place ∙ batch_done (a ∷ bs) b (place + 1) some is end) in
-          let d = length-drop 1 (waiting_in (a ∷ bs) place) in
+          let l = ap length (next_triggered (a ∷ bs) place ∙ batch_done (a ∷ bs) b (place + 1) some is end) in
+          let d = length-drop 1 (triggered_in (a ∷ bs) place) in
           let c = q.count in
           omega (arith, l, d, c);
     }
 
--- what waits is not empty
-pub some_wait : (bs : List Batch) (b : Batch) (place len : ℕ) → 0 < length bs → b ≡ get_or bs 0 b → IsQueue bs place len
+-- something is left
+pub some_triggered : (bs : List Batch) (b : Batch) (place len : ℕ) → 0 < length bs → b ≡ get_or bs 0 b → IsQueue bs place len
     → 0 < len
-some_wait [] b place len some is q = absurd (omega (arith, some))
-some_wait (a ∷ bs) b place len some is q =
+some_triggered [] b place len some is q = absurd (omega (arith, some))
+some_triggered (a ∷ bs) b place len some is q =
     let inside = q.inside in
     let w = ap length (drop_place a bs place (omega (arith, inside))) in
     let l = length-append (drop place (members_of a)) (flat_map members_of bs) in
@@ -112,9 +111,9 @@ within_all (a ∷ bs) place len q =
     let m = length_members a in
     omega (arith, i, l, m)
 
-pub more_wait : (bs : List Batch) (b : Batch) (place len : ℕ) → IsQueue bs place len
-    → waiting_in (bs ++ b ∷ []) place ≡ waiting_in bs place ++ members_of b
-more_wait bs b place len q =
+pub more_triggered : (bs : List Batch) (b : Batch) (place len : ℕ) → IsQueue bs place len
+    → triggered_in (bs ++ b ∷ []) place ≡ triggered_in bs place ++ members_of b
+more_triggered bs b place len q =
     ap (drop place) (flat_map-append members_of bs (b ∷ []) ∙ ap (λ ms. flat_map members_of bs ++ ms) (append-nil (members_of b)))
     ∙ drop-append-le place (flat_map members_of bs) (members_of b) (within_all bs place len q)
 
@@ -128,8 +127,8 @@ queue_more bs b place len q some = record {
   some = All-push HasSome bs b q.some some;
   inside = in_front bs b place some q.inside;
   count =
-      let l = ap length (more_wait bs b place len q) in
-      let a = length-append (waiting_in bs place) (members_of b) in
+      let l = ap length (more_triggered bs b place len q) in
+      let a = length-append (triggered_in bs place) (members_of b) in
       let m = length_members b in
       let c = q.count in
       omega (arith, l, a, m, c);

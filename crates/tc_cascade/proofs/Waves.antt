@@ -1,16 +1,14 @@
 -- A cascade that goes on by one item.
-use Rattle.std.proofs.Common.{◌≡◌, ◌≢◌, ℕ, zero, suc, ◌+◌, ◌-◌, ◌≤◌, ◌<◌, List, [], ◌∷◌, ◌++◌, length, map, take, drop, All, Contains, Some, refl, sym, ap, subst, ◌∙◌, arith, append_assoc, append-nil}
-use Rattle.std.proofs.Math.Seq.{take-nil}
+use Rattle.std.proofs.Common.{◌≡◌, ℕ, zero, suc, ◌+◌, ◌-◌, ◌≤◌, ◌<◌, List, [], ◌∷◌, ◌++◌, length, take, All, refl, sym, ap, subst, ◌∙◌, arith}
 use Rattle.std.proofs.lemmas.List.Elements.{All-append, All-head, All-tail}
 use Rattle.std.specs.List.{slice_get}
-use Rattle.tc_term.specs.Tree.{Tree}
 use Rattle.tc_model.specs.Choices.{Choice, TheFirst}
 use Rattle.tc_model.specs.Events.{Occurrence, Setting}
 use Rattle.tc_model.specs.Reactions.{Rule}
-use Rattle.tc_model.specs.Triggers.{Member, IsClause, AreTriggered, Triggers, raises, members}
+use Rattle.tc_model.specs.Triggers.{Member, IsClause, Triggers, raises}
 use Rattle.tc_model.specs.Tuples.{after_item, after_items}
 use Rattle.tc_model.specs.Bodies.{IsBody}
-use Rattle.tc_model.specs.Cascades.{Wave, IsTried, Cascades, Begins, IsWhole, IsOver, pick_of, clause_of, without}
+use Rattle.tc_model.specs.Cascades.{Wave, IsTried, Cascades, IsWhole, pick_of, clause_of, without}
 use Rattle.tc_model.specs.declared.items.Item.{Item}
 use Rattle.tc_model.specs.declared.items.Item.TheVariants.{Fired, Failed}
 use Rattle.tc_bag.specs.Stock.{Stock, tuples_of}
@@ -50,10 +48,10 @@ module _ (clauses : List Rule) (setting : Setting) where
       (leads.0, leads.1, cascades_push c is i leads.0 v n leads.2 tried)
 
   -- what the event triggers, before anything is tried
-  pub at_first : (e : Occurrence) (stock : Stock) (items : List Item) (waiting kept : List Member) (budget room : ℕ)
-      → room ≡ budget + 1 → items ≡ [] → waiting ≡ [] → Adds clauses (e ∷ []) (budget + 1) waiting kept
+  pub at_first : (e : Occurrence) (stock : Stock) (items : List Item) (before kept : List Member) (budget room : ℕ)
+      → room ≡ budget + 1 → items ≡ [] → before ≡ [] → Adds clauses (e ∷ []) (budget + 1) before kept
       → IsAt clauses setting e stock stock items kept room
-  at_first e stock items waiting kept budget room er no_items none adds = record {
+  at_first e stock items before kept budget room er no_items none adds = record {
     wave = record { tuples = tuples_of stock.now; triggered = adds.more };
     begins = record {
       first = adds.more;
@@ -64,11 +62,11 @@ module _ (clauses : List Rule) (setting : Setting) where
     };
     tuples = refl;
     stand = triggered_stand clauses (e ∷ []) adds.more adds.triggers;
-    front = adds.added ∙ ap (λ ms. ms ++ take (budget + 1 - length waiting) adds.more) none
+    front = adds.added ∙ ap (λ ms. ms ++ take (budget + 1 - length before) adds.more) none
         ∙ ap (λ k. take k adds.more) (let l = ap length none in omega (arith, l, er));
   }
 
-  -- the clause of the first that waits stands in the list
+  -- the clause of the first that is left stands in the list
   pub at_stands : (e : Occurrence) (old now : Stock) (items : List Item) (kept rest : List Member) (m : Member) (room : ℕ)
       → 0 < room → IsAt clauses setting e old now items kept room → kept ≡ m ∷ rest → Stands clauses m.clause
   at_stands e old now items kept rest m room some at is =
@@ -76,7 +74,7 @@ module _ (clauses : List Rule) (setting : Setting) where
       All-head (λ (n : Member). Stands clauses n.clause) m split.0
       (subst (All (λ (n : Member). Stands clauses n.clause)) split.1 at.stand)
 
-  -- the first that waits is tried, and what it triggers stands behind the others
+  -- the first that is left is tried, and what it triggers stands behind the others
   pub at_next : (e : Occurrence) (old now new : Stock) (items more_items : List Item) (m : Member)
       (kept rest passed more : List Member) (room more_room : ℕ) (r : Rule) (item : Item) (events : List Occurrence)
       → room ≡ more_room + 1 → IsAt clauses setting e old now items kept room → kept ≡ m ∷ rest → passed ≡ rest
@@ -129,7 +127,7 @@ module _ (clauses : List Rule) (setting : Setting) where
             ∙ take_grow more_room split.0 adds.more);
       }
 
-  -- nothing waits: the cascade is whole, and the tuples are those after its items
+  -- nothing is left: the cascade is whole, and the tuples are those after its items
   pub at_whole : (e : Occurrence) (old new : Stock) (items result : List Item) (kept : List Member) (room budget : ℕ)
       → IsAt clauses setting e old new items kept room → kept ≡ [] → 0 < room → length items ≤ budget → result ≡ items
       → IsWhole TheFirst clauses setting budget e (tuples_of old.now) result

@@ -9,7 +9,8 @@ use Rattle.tc_model.specs.declared.items.Item.{Item}
 use Rattle.tc_bag.specs.Stock.{Stock, tuples_of}
 use Rattle.tc_cascade.specs.Adding.{Stands}
 
--- a cascade has come to these items; of what still waits so many are kept as there is room for
+-- a cascade has come to these items; of the triggered reactions that are left so many are kept
+-- as there is room for
 pub record IsAt (clauses : List Rule) (setting : Setting) (e : Occurrence) (old new : Stock)
     (items : List Item) (kept : List Member) (room : ℕ) : Type 0 where
   pub wave : Wave

@@ -18,13 +18,13 @@ use tc_unify::Store;
 /// The items of a cascade, in the order in which they were tried. Reactions that failed count.
 #[derive(Drop)]
 pub enum Cascade {
-    /// Nothing waits any more.
+    /// No triggered reaction is left.
     Whole(Seq<Item>),
-    /// The budget is spent, and a triggered reaction still waits.
+    /// The budget is spent, and a triggered reaction is left.
     Over(Seq<Item>),
 }
 
-/// Runs all that an event triggers, the oldest first, until nothing waits or so many reactions were
+/// Runs all that an event triggers, the oldest first, until none is left or so many reactions were
 /// tried as the budget allows.
 ///
 /// After `Whole` the tuples are those that the items leave. After `Over` and after want of memory
@@ -89,23 +89,23 @@ pub fn run_in(
     ensures rises { bag.old.next ≤ bag.new.next }
     ensures old { AddsNone bag.old.next bag.old.now bag.new.now }
 {
-    let mut waiting = Queue::new(alloc);
+    let mut triggered = Queue::new(alloc);
     add(
         alloc,
         store,
         spec,
         e.copy(alloc)?,
         budget as usize + 1,
-        &mut waiting,
+        &mut triggered,
     )?;
     let mut items = Vec::new(alloc);
     for k in 0..budget {
-        let Some((clause, event)) = waiting.first() else {
+        let Some((clause, event)) = triggered.first() else {
             return Ok(Cascade::Whole(Seq::new(items)));
         };
         let reaction = clause_at(spec.clauses(), clause);
         let (item, events) = execute_in(alloc, store, reaction, 1, clause, event, context, bag)?;
-        waiting.pass();
+        triggered.pass();
         items.push(item)?;
         add_all(
             alloc,
@@ -113,10 +113,10 @@ pub fn run_in(
             spec,
             events,
             (budget - k) as usize,
-            &mut waiting,
+            &mut triggered,
         )?;
     }
-    if waiting.is_empty() {
+    if triggered.is_empty() {
         Ok(Cascade::Whole(Seq::new(items)))
     } else {
         Ok(Cascade::Over(Seq::new(items)))
@@ -131,19 +131,19 @@ fn clause_at(clauses: &Clauses, number: u32) -> &Reaction
     &clauses.items()[number as usize - 1]
 }
 
-// Adds what the event triggers.
+// Adds what the event triggers, as far as there is room.
 fn add(
     alloc: Global,
     store: &mut Store,
     spec: &Spec,
     event: Event,
     room: usize,
-    waiting: &mut Queue,
+    triggered: &mut Queue,
 ) -> Result<(), NoMemory>
-    ensures { OnOk result (Adds spec.now (event ∷ []) room waiting.old waiting.new) }
+    ensures { OnOk result (Adds spec.now (event ∷ []) room triggered.old triggered.new) }
 {
     let numbers = spec.triggered(alloc, store, &event)?;
-    waiting.add(event, numbers, room)?;
+    triggered.add(event, numbers, room)?;
     Ok(())
 }
 
@@ -154,12 +154,12 @@ fn add_all(
     spec: &Spec,
     events: Vec<Event>,
     room: usize,
-    waiting: &mut Queue,
+    triggered: &mut Queue,
 ) -> Result<(), NoMemory>
-    ensures { OnOk result (Adds spec.now events.items room waiting.old waiting.new) }
+    ensures { OnOk result (Adds spec.now events.items room triggered.old triggered.new) }
 {
     for event in events {
-        add(alloc, store, spec, event, room, waiting)?;
+        add(alloc, store, spec, event, room, triggered)?;
     }
     Ok(())
 }

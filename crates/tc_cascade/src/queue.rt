@@ -1,4 +1,4 @@
-//! The triggered reactions that wait, in batches that share their event.
+//! The triggered reactions that are left, in batches that share their event.
 ghost use Rattle.std.specs.Prelude.{◌≡◌, ◌-◌, ◌==◌, ◌++◌, ◌∷◌, [], length, take, drop, IfSome, IfNone, OnOk};
 ghost use Rattle.tc_model.specs.Triggers.{members};
 
@@ -15,8 +15,8 @@ pub struct Batch {
     numbers: Vec<u32>,
 }
 
-/// Those that wait, the oldest first. They are given away from the first batch, of which so many
-/// numbers as `place` says are gone.
+/// The triggered reactions that are left, the oldest first. They are given away from the first
+/// batch, of which so many numbers as `place` says are gone.
 #[derive(Drop)]
 pub struct Queue {
     batches: VecDeque<Batch>,
@@ -34,15 +34,15 @@ impl Model for Queue {
 
     ghost coded = { Prim.hlevel (codes, coded_tree) };
 
-    ghost use Rattle.tc_cascade.specs.Batches.{waiting_in, IsQueue};
+    ghost use Rattle.tc_cascade.specs.Batches.{triggered_in, IsQueue};
 
-    ghost view = { λ q. waiting_in q.batches.items q.place };
+    ghost view = { λ q. triggered_in q.batches.items q.place };
 
     ghost invariant = { λ q. IsQueue q.batches.items q.place q.len };
 }
 
 impl Queue {
-    /// Nothing waits.
+    /// No triggered reaction.
     pub fn new(alloc: Global) -> Queue
         ensures { result ≡ [] }
     {
@@ -53,14 +53,14 @@ impl Queue {
         }
     }
 
-    /// Whether nothing waits.
+    /// Whether none is left.
     pub fn is_empty(&self) -> bool
         ensures { result ≡ (length self.now == 0) }
     {
         self.len == 0
     }
 
-    /// The first of those that wait: the number of its clause, and the event that triggered it.
+    /// The first that is left: the number of its clause, and the event that triggered it.
     pub fn first(&self) -> Option<(u32, &Event)>
         ensures some { IfSome result
             (λ m. self.now ≡ record { clause = m.0; event = m.1.now } ∷ drop 1 self.now) }
@@ -86,7 +86,7 @@ impl Queue {
         }
     }
 
-    /// Adds the clauses of these numbers, triggered by the event, while fewer wait than there is
+    /// Adds the clauses of these numbers, triggered by the event, while fewer are left than there is
     /// room for.
     pub fn add(&mut self, event: Event, numbers: Vec<u32>, room: usize) -> Result<(), NoMemory>
         ensures { OnOk result

@@ -5,7 +5,7 @@ use Rattle.tc_model.specs.Run.{IsFirstRun, HasCall, earlier}
 use Rattle.tc_model.specs.State.{IsQuiescent}
 use Rattle.tc_model.specs.declared.calls.CallId.{CallId}
 use Rattle.tc_model.specs.declared.calls.Op.{Op}
-use Rattle.tc_model.specs.declared.calls.Op.TheVariants.{SetSpec, GetSpec}
+use Rattle.tc_model.specs.declared.calls.Op.TheVariants.{Out, In, Rd, Inp, Rdp, SetSpec, GetSpec}
 use Rattle.tc_model.specs.declared.items.Item.{Item}
 use Rattle.tc_model.specs.declared.outcomes.Outcome.{Outcome}
 use Rattle.tc_model.specs.declared.outcomes.Reply.{Reply}
@@ -23,9 +23,13 @@ use Rattle.tc_centre.specs.declared.answers.PollFault.TheVariants as fault
 
 -- the operation is on tuples, not on clauses
 abbrev pub IsOnTuples : Op → Type 0
+IsOnTuples (Out tuple) = Unit {0}
+IsOnTuples (In template) = Unit {0}
+IsOnTuples (Rd template) = Unit {0}
+IsOnTuples (Inp template) = Unit {0}
+IsOnTuples (Rdp template) = Unit {0}
 IsOnTuples (SetSpec clauses) = ⊥
 IsOnTuples GetSpec = ⊥
-IsOnTuples op = Unit {0}
 
 -- the entry answers a request
 abbrev pub IsGave : Entry → Type 0

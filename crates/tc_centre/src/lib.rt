@@ -3,6 +3,14 @@
 //! Its history is always a run, in which every choice is the first, and no request that waits could
 //! be answered. A call that is refused leaves all as it was. Nothing here knows of threads, of roles
 //! or of text.
+//!
+//! ```
+//! let mut core = Core::new(alloc, name, agents, budget, clauses, tuples)?;
+//! match core.turn(alloc, CallId { agent: 0, number: 1 }, op)? {
+//!     Answer::Replied(reply) => { .. }
+//!     Answer::Pending => { .. } // once a later turn has answered it, `look` tells the reply
+//! }
+//! ```
 #![tactic(auto)]
 
 mod answers;

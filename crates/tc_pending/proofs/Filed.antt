@@ -12,9 +12,10 @@ use Rattle.tc_pending.specs.Changes.{earlier, rewound, earlier_serials, rewound_
 use Rattle.tc_pending.specs.Codes.{codes_of}
 use Rattle.tc_pending.specs.Filed.{Has, HasFirst, IsFiled, KeepsAll}
 use Rattle.tc_pending.specs.Rising.{IsAbove}
-use Rattle.tc_pending.proofs.Log.{rewound-append, unnoted, not_none}
+use Rattle.tc_pending.proofs.Log.{rewound-append, unnoted}
+use Rattle.tc_lists.proofs.Bools.{length-none_false}
 use Rattle.tc_pending.proofs.Coded.{length-codes}
-use Rattle.tc_pending.proofs.Rising.{Rises-push, Rises-remove}
+use Rattle.tc_pending.proofs.Rising.{NumbersRise-push, NumbersRise-remove}
 
 Has-same : (index : Index) (c d s t : ℕ) → d ≡ c → t ≡ s → Has index c s → Has index d t
 Has-same index c d s t code serial has =
@@ -36,7 +37,7 @@ module _ (index : Index) (below : ℕ) (codes serials : List ℕ) (filed : IsFil
   pub IsFiled-push : (c s : ℕ) → IsAbove serials s → below ≤ s → IsFiled index below (codes ++ c ∷ []) (serials ++ s ∷ [])
   IsFiled-push c s above least = record {
     each = omega (arith, filed.each, length-append codes (c ∷ []), length-append serials (s ∷ []));
-    rises = Rises-push serials s filed.rises above;
+    rises = NumbersRise-push serials s filed.rises above;
     has = λ k inside low. ⊎_elim
         (λ (among : k < length serials).
         let same : get_or (serials ++ s ∷ []) k 0 ≡ get_or serials k 0 = get_or_append_left serials (s ∷ []) 0 k among in
@@ -55,7 +56,7 @@ module _ (index : Index) (below : ℕ) (codes serials : List ℕ) (filed : IsFil
       let also : place < length codes = omega (arith, there, filed.each) in
       record {
         each = omega (arith, filed.each, count, length-remove codes place also);
-        rises = Rises-remove serials place there filed.rises;
+        rises = NumbersRise-remove serials place there filed.rises;
         has = λ k inside low. ⊎_elim
             (λ (before : k < place).
             let same = get_or-remove_below serials place 0 k before there in
@@ -160,7 +161,7 @@ module _ (index : Index) (below : ℕ) (requests : List Request) (serials : List
   AreFiled-noted new more noted [] c empty log told is back before now =
       AreFiled-only index below new more noted (unnoted changes noted c empty log.oldest told is) now
   AreFiled-noted new more noted (m ∷ ms) c empty log told is back before now =
-      pushed new more noted c (is ∙ ap (λ b. if not b then changes ++ c ∷ [] else changes) (told ∙ not_none m ms)) back before now
+      pushed new more noted c (is ∙ ap (λ b. if not b then changes ++ c ∷ [] else changes) (told ∙ length-none_false m ms)) back before now
 
   -- the changes behind the first so many, taken back
   pub AreFiled-undone : (new : List Request) (more : List ℕ) (left : List Change) (top : ℕ) → top ≤ length changes
@@ -195,6 +196,6 @@ module _ (index : Index) (below : ℕ) (requests : List Request) (serials : List
   AreFiled-filed new bound [] is_marked log told marked now =
       AreFiled-only new bound requests serials changes (nil_from_length changes log.oldest) now
   AreFiled-filed new bound (m ∷ ms) is_marked log told marked now =
-      let same = marked (told ∙ ap not (not_none m ms)) in
+      let same = marked (told ∙ ap not (length-none_false m ms)) in
       subst (λ ix. AreFiled ix bound requests serials changes) (sym same.0)
       (subst (λ b. AreFiled index b requests serials changes) (sym same.1) filed)

@@ -7,6 +7,7 @@ use Rattle.std.proofs.lemmas.List.Edits.{length-insert}
 use Rattle.std.proofs.lemmas.List.Elements.{All-head, All-tail}
 use Rattle.tc_lists.specs.Marks.{Climbs}
 use Rattle.tc_lists.proofs.Marks.{Climbs-below, Climbs-more, Climbs-push, Climbs-pop}
+use Rattle.tc_lists.proofs.Bools.{length-none_false}
 use Rattle.tc_model.specs.declared.calls.Request.{Request}
 use Rattle.tc_pending.specs.declared.changes.Change.{Change}
 use Rattle.tc_pending.specs.declared.changes.Change.TheVariants.{Added, Removed}
@@ -132,14 +133,7 @@ pub length-noted : (changes noted : List Change) (c : Change) (empty : Bool)
 length-noted changes noted c true is = omega (arith, ap length is)
 length-noted changes noted c false is = omega (arith, ap length is, length-append changes (c ∷ []))
 
--- the test for no mark, at a mark, and what it says where it fails
-pub not_none : (m : ℕ) (ms : List ℕ) → (length (m ∷ ms) == 0) ≡ false
-not_none m ms = ne_eqb (length (m ∷ ms)) 0 (λ none. absurd (omega (arith, none)))
-
-pub some_from_test : (n : ℕ) (none : Bool) → none ≡ (n == 0) → none ≡ false → 0 < n
-some_from_test zero none is not = absurd (cc)
-some_from_test (suc n) none is not = omega arith
-
+-- the test for no mark, and what it says where it holds
 pub none_from_test : (n : ℕ) (none : Bool) → none ≡ (n == 0) → none ≡ true → n ≡ 0
 none_from_test zero none is holds = refl
 none_from_test (suc n) none is holds =
@@ -153,7 +147,7 @@ pub IsLog-noted : (requests new : List Request) (changes noted : List Change) (m
 IsLog-noted requests new changes noted [] c empty log told is fits back =
     subst (λ cs. IsLog new cs []) (sym (unnoted changes noted c empty log.oldest told is)) (IsLog-none new)
 IsLog-noted requests new changes noted (m ∷ ms) c empty log told is fits back =
-    let grown : noted ≡ changes ++ c ∷ [] = is ∙ ap (λ b. if not b then changes ++ c ∷ [] else changes) (told ∙ not_none m ms) in
+    let grown : noted ≡ changes ++ c ∷ [] = is ∙ ap (λ b. if not b then changes ++ c ∷ [] else changes) (told ∙ length-none_false m ms) in
     let longer : length changes ≤ length noted = omega (arith, ap length grown, length-append changes (c ∷ [])) in
     record {
       fit = subst (λ cs. AllFit cs new) (sym grown)
@@ -166,7 +160,7 @@ pub none-noted : (requests : List Request) (changes noted : List Change) (marks 
     → IsLog requests changes marks → empty ≡ (length marks == 0) → empty ≡ true
     → noted ≡ (if not empty then changes ++ c ∷ [] else changes) → noted ≡ []
 none-noted requests changes noted [] c empty log told none is = unnoted changes noted c empty log.oldest told is
-none-noted requests changes noted (m ∷ ms) c empty log told none is = absurd (true≢false (sym none ∙ told ∙ not_none m ms))
+none-noted requests changes noted (m ∷ ms) c empty log told none is = absurd (true≢false (sym none ∙ told ∙ length-none_false m ms))
 
 pub saved-logged : (requests new : List Request) (changes noted : List Change) (marks : List ℕ) (c : Change) (empty : Bool)
     → IsLog requests changes marks → empty ≡ (length marks == 0)
@@ -174,7 +168,7 @@ pub saved-logged : (requests new : List Request) (changes noted : List Change) (
     → saved_at marks noted new ≡ saved_at marks changes requests
 saved-logged requests new changes noted [] c empty log told is back = refl
 saved-logged requests new changes noted (m ∷ ms) c empty log told is back =
-    let grown : noted ≡ changes ++ c ∷ [] = is ∙ ap (λ b. if not b then changes ++ c ∷ [] else changes) (told ∙ not_none m ms) in
+    let grown : noted ≡ changes ++ c ∷ [] = is ∙ ap (λ b. if not b then changes ++ c ∷ [] else changes) (told ∙ length-none_false m ms) in
     ap (λ cs. saved_at (m ∷ ms) cs new) grown
     ∙ saved-noted (m ∷ ms) changes c requests new (Climbs-below (m ∷ ms) (length changes) log.climbs) back
 

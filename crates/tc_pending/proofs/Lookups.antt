@@ -10,20 +10,20 @@ use Rattle.tc_pending.specs.declared.index.Index.{Index}
 use Rattle.tc_pending.specs.Answers.{AsksFor, IsOldestAsking}
 use Rattle.tc_pending.specs.Codes.{top_code, code_of, codes_of}
 use Rattle.tc_pending.specs.Filed.{Has, HasFirst, HasNone, IsAsking, NoneAsks}
-use Rattle.tc_pending.specs.Rising.{Rises, IsAt}
+use Rattle.tc_pending.specs.Rising.{NumbersRise, IsAt}
 use Rattle.tc_pending.proofs.Coded.{code, code-match}
-use Rattle.tc_pending.proofs.Rising.{Rises-le}
+use Rattle.tc_pending.proofs.Rising.{NumbersRise-le}
 
 -- from a place on, none of the first requests of a code has a serial number below this one
 abbrev pub IsPast : List ℕ → List ℕ → ℕ → ℕ → ℕ → ℕ → Type 0
 IsPast codes serials count code at from =
     (k : ℕ) → at ≤ k → k < count → get_or serials k 0 < from → get_or codes k 0 ≡ code → ⊥
 
-module _ (index : Index) (codes serials : List ℕ) (each : length serials ≡ length codes) (rises : Rises serials) (count : ℕ)
+module _ (index : Index) (codes serials : List ℕ) (each : length serials ≡ length codes) (rises : NumbersRise serials) (count : ℕ)
     (within : count ≤ length serials) (has : HasFirst index codes serials count) (code at : ℕ) where
   pub past_first : IsPast codes serials count code at (get_or serials at 0)
   past_first k up inside less same =
-      absurd (omega (arith, less, Rises-le serials at k rises up (omega (arith, inside, within))))
+      absurd (omega (arith, less, NumbersRise-le serials at k rises up (omega (arith, inside, within))))
 
   pub past_next : (from serial : ℕ) → IsPast codes serials count code at from
       → ((s : ℕ) → from ≤ s → s < serial → Has index code s → ⊥) → IsPast codes serials count code at serial

@@ -8,7 +8,7 @@ use Rattle.tc_term.specs.Tree.{Tree}
 use Rattle.tc_term.specs.Variables.{var_bound}
 use Rattle.tc_bag.specs.declared.key.Key.TheVariants.{Any}
 use Rattle.tc_bag.specs.Keys.{Agrees}
-use Rattle.tc_bag.specs.Stock.{Row, Rises, IsCandidate, tuples_of}
+use Rattle.tc_bag.specs.Stock.{Row, AgesRiseBelow, IsCandidate, tuples_of}
 use Rattle.tc_search.specs.Found.{IsFound}
 use Rattle.tc_search.proofs.Passing.{IsPassed, IsKey, passed_more, passed_all, found_row}
 use Rattle.tc_model.specs.State.{IsMatch, IsAnswerable}
@@ -41,7 +41,7 @@ module _ (rows : List Row) (requests : List Request) (count from : ℕ)
   passed : (q : Request) → Contains (take count requests) q → IsPassed (IsMatch q.template) from rows
   passed q stands k d inside older has = known q (get_or rows k d) stands (Contains-get_or rows k d inside) older has
 
-  module _ (next : ℕ) (row : Row) (rises : Rises rows next) (first : IsFirst (IsCandidate Any from) rows row) where
+  module _ (next : ℕ) (row : Row) (rises : AgesRiseBelow rows next) (first : IsFirst (IsCandidate Any from) rows row) where
     pub known-more : (fewer : ℕ) → fewer ≤ count → NoneOf (AsksFor row.tuple) (take fewer requests)
         → IsKnown (record { requests = fewer; age = row.age + 1 }) rows requests
     known-more fewer less none q r stands there younger match =
@@ -72,7 +72,7 @@ module _ (rows : List Row) (requests : List Request) (count from : ℕ)
 
 module _ (rows : List Row) (requests : List Request) (most : ℕ) (next : Option (ℕ × ℕ)) (count from : ℕ)
     (far : IsSoFar rows requests most next count from) where
-  module _ (top : ℕ) (row : Row) (rises : Rises rows top) (first : IsFirst (IsCandidate Any from) rows row) where
+  module _ (top : ℕ) (row : Row) (rises : AgesRiseBelow rows top) (first : IsFirst (IsCandidate Any from) rows row) where
     pub far-found : (place : ℕ) → place < count → IsOldestAsking row.tuple requests place
         → IsSoFar rows requests most (Some (place, row.age)) place (row.age + 1)
     far-found place inside oldest = record {

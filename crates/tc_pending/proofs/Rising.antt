@@ -9,10 +9,10 @@ use Rattle.std.proofs.lemmas.Bool.{cases_lt}
 use Rattle.std.proofs.lemmas.List.{get_or_append_left, get_or_push}
 use Rattle.std.proofs.lemmas.List.Sorted.{searched}
 use Rattle.std.proofs.lemmas.List.Edits.{length-remove, get_or-remove_below, get_or-remove_above}
-use Rattle.tc_pending.specs.Rising.{Rises, IsAbove, IsAt}
+use Rattle.tc_pending.specs.Rising.{NumbersRise, IsAbove, IsAt}
 
-pub Rises-push : (ns : List ℕ) (n : ℕ) → Rises ns → IsAbove ns n → Rises (ns ++ n ∷ [])
-Rises-push ns n rises above i j before inside =
+pub NumbersRise-push : (ns : List ℕ) (n : ℕ) → NumbersRise ns → IsAbove ns n → NumbersRise (ns ++ n ∷ [])
+NumbersRise-push ns n rises above i j before inside =
     let count = length-append ns (n ∷ []) in
     let low : i < length ns = omega (arith, before, inside, count) in
     let first : get_or (ns ++ n ∷ []) i 0 ≡ get_or ns i 0 = get_or_append_left ns (n ∷ []) 0 i low in
@@ -24,8 +24,8 @@ Rises-push ns n rises above i j before inside =
     omega (arith, first, last, above i 0 low))
     (cases_lt j (length ns))
 
-pub Rises-remove : (ns : List ℕ) (place : ℕ) → place < length ns → Rises ns → Rises (remove ns place)
-Rises-remove ns place there rises i j before inside =
+pub NumbersRise-remove : (ns : List ℕ) (place : ℕ) → place < length ns → NumbersRise ns → NumbersRise (remove ns place)
+NumbersRise-remove ns place there rises i j before inside =
     let count = length-remove ns place there in
     ⊎_elim
     (λ (low : j < place).
@@ -45,8 +45,8 @@ Rises-remove ns place there rises i j before inside =
     (cases_lt j place)
 
 -- none before stands for as much
-pub Rises-le : (ns : List ℕ) (i j : ℕ) → Rises ns → i ≤ j → j < length ns → get_or ns i 0 ≤ get_or ns j 0
-Rises-le ns i j rises up inside =
+pub NumbersRise-le : (ns : List ℕ) (i j : ℕ) → NumbersRise ns → i ≤ j → j < length ns → get_or ns i 0 ≤ get_or ns j 0
+NumbersRise-le ns i j rises up inside =
     ⊎_elim (λ (before : i < j). omega (arith, rises i j before inside))
     (λ (same : j ≤ i). let is : i ≡ j = omega (arith, same, up) in rw is (omega arith)) (cases_lt i j)
 
@@ -56,12 +56,12 @@ pub record IsGap (ns : List ℕ) (n place : ℕ) : Type 0 where
   pub below : (k : ℕ) → k < place → get_or ns k 0 < n
   pub above : (k : ℕ) → place ≤ k → k < length ns → n ≤ get_or ns k 0
 
-module _ (ns : List ℕ) (n : ℕ) (rises : Rises ns) where
+module _ (ns : List ℕ) (n : ℕ) (rises : NumbersRise ns) where
   -- what a search finds
   searched_in : (r : Result ℕ ℕ) → IsBinarySearchResult (λ y. nat_cmp y n) ns r
       → MatchResult r (IsAt ns n)
       (λ i. (i ≤ length ns) × ((k : ℕ) → k < i → get_or ns k 0 < n) × ((k : ℕ) → i ≤ k → k < length ns → n < get_or ns k 0))
-  searched_in r is = searched ns n r is (λ i j up inside. Rises-le ns i j rises up inside)
+  searched_in r is = searched ns n r is (λ i j up inside. NumbersRise-le ns i j rises up inside)
 
   pub gap_at : (i : ℕ) → IsBinarySearchResult (λ y. nat_cmp y n) ns (Ok i) → IsGap ns n i
   gap_at i is =
@@ -69,7 +69,7 @@ module _ (ns : List ℕ) (n : ℕ) (rises : Rises ns) where
       record {
         inside = omega (arith, at.0);
         below = λ k before. omega (arith, at.1, rises k i before at.0);
-        above = λ k up there. omega (arith, at.1, Rises-le ns i k rises up there);
+        above = λ k up there. omega (arith, at.1, NumbersRise-le ns i k rises up there);
       }
 
   pub gap_between : (i : ℕ) → IsBinarySearchResult (λ y. nat_cmp y n) ns (Err i) → IsGap ns n i

@@ -8,7 +8,7 @@ use Rattle.tc_model.specs.declared.calls.Request.{Request}
 use Rattle.tc_pending.specs.declared.index.Index.{Index}
 use Rattle.tc_pending.specs.Answers.{AsksFor}
 use Rattle.tc_pending.specs.Codes.{code_of}
-use Rattle.tc_pending.specs.Rising.{Rises}
+use Rattle.tc_pending.specs.Rising.{NumbersRise}
 
 -- the index has the pair of a code and a serial number, and that such a code was entered
 abbrev pub Has : Index → ℕ → ℕ → Type 0
@@ -24,7 +24,7 @@ HasFirst index codes serials count =
 -- the serial numbers beside these codes rise, and the index has those that are below `filed`
 pub record IsFiled (index : Index) (filed : ℕ) (codes serials : List ℕ) : Type 0 where
   pub each : length serials ≡ length codes
-  pub rises : Rises serials
+  pub rises : NumbersRise serials
   pub has : (k : ℕ) → k < length serials → slice_index_or serials k 0 < filed
       → Has index (slice_index_or codes k 0) (slice_index_or serials k 0)
 

@@ -2,8 +2,8 @@
 use Rattle.std.specs.Prelude.{ℕ, ◌≡◌, ◌<◌, List, length, slice_index_or, All}
 
 -- the numbers rise
-abbrev pub Rises : List ℕ → Type 0
-Rises numbers =
+abbrev pub NumbersRise : List ℕ → Type 0
+NumbersRise numbers =
     (i j : ℕ) → i < j → j < length numbers → slice_index_or numbers i 0 < slice_index_or numbers j 0
 
 -- the number is above the others

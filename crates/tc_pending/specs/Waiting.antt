@@ -9,5 +9,5 @@ pub record Waiting : Type 0 where
   pub saved : List (List Request)
 
 -- with one more mark
-abbrev pub marked : Waiting → Waiting
-marked w = record w { saved = with_mark w.saved w.now }
+abbrev pub marked_requests : Waiting → Waiting
+marked_requests w = record w { saved = with_mark w.saved w.now }

@@ -4,7 +4,7 @@ ghost use Rattle.tc_lists.specs.Firsts.{NoneOf};
 ghost use Rattle.tc_term.specs.Tree.{IsTuple};
 ghost use Rattle.tc_pending.specs.Answers.{AsksFor, IsOldestAsking};
 ghost use Rattle.tc_pending.specs.Codes.{top_code, code_of, codes_of};
-ghost use Rattle.tc_pending.specs.Rising.{Rises};
+ghost use Rattle.tc_pending.specs.Rising.{NumbersRise};
 ghost use Rattle.tc_pending.specs.Filed.{IsFiled, HasFirst, HasNone, IsAsking, NoneAsks};
 
 use crate::codes::{code_of, top_code};
@@ -41,7 +41,7 @@ pub(crate) fn oldest_asking(waiters: &Waiters, count: usize, tuple: &Ground) -> 
 fn looked_up(waiters: &Waiters, count: usize, top: u64, whole: u64, tuple: &Ground) -> usize
     requires codes { waiters.now.codes.now ≡ codes_of waiters.now.requests.now }
     requires each { length waiters.now.serials.now ≡ length waiters.now.codes.now }
-    requires rises { Rises waiters.now.serials.now }
+    requires rises { NumbersRise waiters.now.serials.now }
     requires has { HasFirst waiters.now.index.now waiters.now.codes.now waiters.now.serials.now
         count }
     requires inside { count ≤ length waiters.now.requests.now }
@@ -111,7 +111,7 @@ fn asks(request: &Request, code: u64, top: u64, whole: u64, tuple: &Ground) -> b
 fn asking_by(waiters: &Waiters, code: u64, count: usize, tuple: &Ground) -> usize
     requires codes { waiters.now.codes.now ≡ codes_of waiters.now.requests.now }
     requires each { length waiters.now.serials.now ≡ length waiters.now.codes.now }
-    requires rises { Rises waiters.now.serials.now }
+    requires rises { NumbersRise waiters.now.serials.now }
     requires has { HasFirst waiters.now.index.now waiters.now.codes.now waiters.now.serials.now
         count }
     requires inside { count ≤ length waiters.now.requests.now }
@@ -149,7 +149,7 @@ fn next_by(
     count: usize,
 ) -> Option<usize>
     requires each { length serials.now ≡ length codes.now }
-    requires rises { Rises serials.now }
+    requires rises { NumbersRise serials.now }
     requires has { HasFirst index.now codes.now serials.now count }
     requires inside { count ≤ length serials.now }
     ensures inside { IfSome result (λ place. (at ≤ place) × (place < count)) }

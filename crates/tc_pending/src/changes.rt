@@ -3,7 +3,7 @@ ghost use Rattle.std.specs.Prelude.{◌≡◌, ◌+◌, ◌<◌, ◌≤◌, ◌+
 ghost use Rattle.std.specs.Prelude.{if◌then◌else◌, OnOk, vec_len, vec_capacity};
 ghost use Rattle.tc_pending.specs.Changes.{earlier, rewound, earlier_serials, rewound_serials, Fits, AllFit};
 ghost use Rattle.tc_pending.specs.Codes.{codes_of};
-ghost use Rattle.tc_pending.specs.Rising.{Rises};
+ghost use Rattle.tc_pending.specs.Rising.{NumbersRise};
 ghost use Rattle.tc_pending.specs.Filed.{KeepsAll};
 
 use crate::codes::code_of;
@@ -147,7 +147,7 @@ pub(crate) fn forget_removed(
     serials: &[u64],
     filed: u64,
 )
-    requires { Rises serials.now }
+    requires { NumbersRise serials.now }
     ensures kept { KeepsAll index.old index.new serials.now }
     ensures none { changes.new.items ≡ [] }
     ensures log { vec_capacity changes.new ≡ vec_capacity changes.old }
@@ -159,7 +159,7 @@ pub(crate) fn forget_removed(
 
 // The index loses a request that was removed, where it had it.
 fn forget(index: &mut Index, change: Change, serials: &[u64], filed: u64)
-    requires { Rises serials.now }
+    requires { NumbersRise serials.now }
     ensures { KeepsAll index.old index.new serials.now }
 {
     match change {

@@ -1,7 +1,7 @@
 //! Serial numbers of requests by the codes of their templates.
 ghost use Rattle.std.specs.Prelude.{ℕ, ◌≡◌, ◌<◌, ◌≤◌, true, IsTrue, length};
 ghost use Rattle.std.specs.Prelude.{slice_index_or, OnOk, IfSome, IfNone};
-ghost use Rattle.tc_pending.specs.Rising.{Rises};
+ghost use Rattle.tc_pending.specs.Rising.{NumbersRise};
 ghost use Rattle.tc_pending.specs.Filed.{Has, IsFiled, KeepsAll};
 
 use crate::numbers::{count_below, number_behind, place_of};
@@ -55,7 +55,7 @@ impl Index {
 
     /// Removes a pair, unless its serial number is one of these.
     pub(crate) fn leave(&mut self, serials: &[u64], code: u64, serial: u64)
-        requires { Rises serials.now }
+        requires { NumbersRise serials.now }
         ensures { KeepsAll self.old self.new serials.now }
     {
         if place_of(serials, serial).is_none() {

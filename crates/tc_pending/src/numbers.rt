@@ -1,13 +1,13 @@
 //! Lists of numbers that stand beside the requests.
 ghost use Rattle.std.specs.Prelude.{ℕ, ◌≡◌, ◌<◌, ◌≤◌, [], ◌∷◌, ◌++◌, length, slice_index_or};
 ghost use Rattle.std.specs.Prelude.{insert, IfOk, IfSome, IfNone, vec_len, vec_capacity};
-ghost use Rattle.tc_pending.specs.Rising.{Rises, IsAbove, IsAt};
+ghost use Rattle.tc_pending.specs.Rising.{NumbersRise, IsAbove, IsAt};
 
 use tc_lists::NoMemory;
 
 /// A number above the others, and of at least `least`. Only behind 2^64 - 1 there is none.
 pub(crate) fn number_behind(numbers: &[u64], least: u64) -> Result<u64, NoMemory>
-    requires { Rises numbers.now }
+    requires { NumbersRise numbers.now }
     ensures above { IfOk result (IsAbove numbers.now) }
     ensures least { IfOk result (λ number. least ≤ number) }
 {
@@ -22,7 +22,7 @@ pub(crate) fn number_behind(numbers: &[u64], least: u64) -> Result<u64, NoMemory
 
 /// How many numbers are below this one, of numbers that rise.
 pub(crate) fn count_below(numbers: &[u64], number: u64) -> usize
-    requires { Rises numbers.now }
+    requires { NumbersRise numbers.now }
     ensures inside { result ≤ length numbers.now }
     ensures below { (k : ℕ) → k < result → slice_index_or numbers.now k 0 < number }
     ensures above { (k : ℕ) → result ≤ k → k < length numbers.now
@@ -36,7 +36,7 @@ pub(crate) fn count_below(numbers: &[u64], number: u64) -> usize
 
 /// The place of a number among numbers that rise.
 pub(crate) fn place_of(numbers: &[u64], number: u64) -> Option<usize>
-    requires { Rises numbers.now }
+    requires { NumbersRise numbers.now }
     ensures found { IfSome result (IsAt numbers.now number) }
     ensures none { IfNone result ((k : ℕ) → IsAt numbers.now number k → ⊥) }
 {

@@ -57,7 +57,7 @@ impl Pending {
     ghost use Rattle.tc_bag.specs.Stock.{tuples_of};
     ghost use Rattle.tc_model.specs.State.{IsAnswerable};
     ghost use Rattle.tc_lists.specs.Marks.{IsBack, IsGivenUp};
-    ghost use Rattle.tc_pending.specs.Waiting.{marked};
+    ghost use Rattle.tc_pending.specs.Waiting.{marked_requests};
     ghost use Rattle.tc_pending.specs.Answers.{IsNextAnswer, IsKnown};
 
     /// No request and no mark.
@@ -165,7 +165,7 @@ impl Pending {
     /// Sets a mark. It takes memory for a number, and where it is the only one, for the index of some
     /// requests that are new since the last.
     pub fn mark(&mut self) -> Result<(), NoMemory>
-        ensures marked { OnOk result (self.new ≡ marked self.old) }
+        ensures marked { OnOk result (self.new ≡ marked_requests self.old) }
         ensures same { OnErr result (self.new ≡ self.old) }
     {
         let is_marked = !self.marks.is_empty();

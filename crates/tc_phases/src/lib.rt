@@ -3,6 +3,14 @@
 //!
 //! The reactions run within a budget. Where they go over it, and where memory ends, the tuples are
 //! as they were before the operation. Nothing here knows of requests that wait, nor of histories.
+//!
+//! ```
+//! let (found, cascade) = search(alloc, &mut store, &regime, true, &template, &mut bag)?;
+//! match cascade {
+//!     Cascade::Whole(items) => { .. } // what was found is taken, and the reactions to that have run
+//!     Cascade::Over(items) => { .. }  // the bag is as before
+//! }
+//! ```
 #![tactic(auto)]
 
 mod phases;

@@ -1,13 +1,12 @@
 //! Names as text: plain where they have the form of a name token, else quoted.
 ghost use Rattle.std.specs.Prelude.{◌≡◌, ◌++◌, OnErr, OnOk};
-ghost use Rattle.std.specs.List.{flat_map, list_all};
-ghost use Rattle.tc_term.specs.Bytes.{is_word};
-ghost use Rattle.tc_term.specs.Text.{atom_text, is_name, name_text, quoted, quoted_byte};
+ghost use Rattle.std.specs.List.{flat_map};
+ghost use Rattle.tc_term.specs.Text.{atom_text, name_text, quoted, quoted_byte};
 ghost use mathlib.Core.List.{IsPrefix};
 
 use std::alloc::Global;
 use tc_lists::{NoMemory, cut_back};
-use tc_term::Name;
+use tc_term::{Name, is_name};
 
 /// Appends a name as an atom is printed, so the name of the empty list is plain.
 pub fn print_name(_alloc: Global, n: &Name, into: &mut Vec<u8>) -> Result<(), NoMemory>
@@ -42,7 +41,7 @@ pub(crate) fn append_name(name: &[u8], into: &mut Vec<u8>) -> Result<(), NoMemor
     ensures appended { OnOk result (into.new.items ≡ into.old.items ++ name_text name.now) }
     ensures same { OnErr result (into.new.items ≡ into.old.items) }
 {
-    if is_plain(name) {
+    if is_name(name) {
         into.extend_from_slice(name)
     } else {
         append_quoted(name, into)
@@ -56,29 +55,6 @@ fn append_quoted(bytes: &[u8], into: &mut Vec<u8>) -> Result<(), NoMemory>
     let before = into.len();
     let written = write_quoted(bytes, into);
     cut_back(written, before, into)
-}
-
-// Whether a name has the form of a name token.
-fn is_plain(name: &[u8]) -> bool
-    ensures { result ≡ is_name name.now }
-{
-    match name {
-        [first, rest @ ..] => first.is_ascii_lowercase() && are_word(rest),
-        [] => false,
-    }
-}
-
-fn are_word(bytes: &[u8]) -> bool
-    ensures { result ≡ list_all is_word bytes.now }
-{
-    bytes.iter().all(|b| is_word(*b))
-}
-
-// Whether a byte may stand in a name token, behind its first.
-fn is_word(byte: u8) -> bool
-    ensures { result ≡ is_word byte }
-{
-    byte.is_ascii_alphanumeric() || byte == b'_'
 }
 
 fn write_quoted(bytes: &[u8], into: &mut Vec<u8>) -> Result<(), NoMemory>

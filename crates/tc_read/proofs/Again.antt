@@ -14,6 +14,7 @@ use Rattle.tc_lists.specs.Decimals.{StartsWithNoDigit, integer_at, number_at}
 use Rattle.tc_term.specs.Text.{Alone, Behind, applied, is_name, is_nil, name_text, quoted, text_in, texts_of}
 use Rattle.tc_term.specs.Tree.{Tree, Variable, Atomic, Number, Compound, Trees, Last, More, nodes, nodes_of_all}
 use Rattle.tc_read.proofs.QuotedFront.{quoted_at-there}
+use Rattle.tc_read.proofs.Lexemes.{lower_is_word, no_word_no_digit}
 use Rattle.tc_read.proofs.Spent.{numbered-few, paid-some, spent_all-takes, then_in-some}
 use Rattle.tc_read.proofs.Taken.{plain_text, quoted_text}
 use Rattle.tc_read.proofs.Texts.{text_in-Variable, text_in-Number, text_in-nil, text_in-Atomic, text_in-cell, text_in-Compound, texts_of-Last, texts_of-More, text_in-barred}
@@ -38,12 +39,9 @@ Stops-word : (rest : List ℕ) → EndsTerm rest → NoWord rest
 Stops-word [] stops = tt
 Stops-word (b ∷ s) stops = stops.0
 
-no_digit : (b : ℕ) → is_word b ≡ false → is_ascii_digit b ≡ false
-no_digit b e = grind (arith, nat_tests)
-
 pub Stops-digit : (rest : List ℕ) → EndsTerm rest → StartsWithNoDigit rest
 Stops-digit [] stops = tt
-Stops-digit (b ∷ s) stops = no_digit b stops.0
+Stops-digit (b ∷ s) stops = no_word_no_digit b stops.0
 
 Stops-close : (s : List ℕ) → EndsTerm (41 ∷ s)
 Stops-close s = (refl, λ e. omega (arith, e))
@@ -150,15 +148,12 @@ name_at-plain limit [] rest plain enough apart = absurd (cc)
 name_at-plain limit (b ∷ s) rest plain enough apart =
     let both = and_parts (is_ascii_lowercase b) (list_all is_word s) plain in
     let long : prefix_len is_word ((b ∷ s) ++ rest) ≡ length (b ∷ s) =
-    ap (λ p. cond p (1 + prefix_len is_word (s ++ rest)) 0) (lower_word b both.0) ∙ ap (λ n. 1 + n) (all_words s rest both.1 apart) ∙ omega arith in
+    ap (λ p. cond p (1 + prefix_len is_word (s ++ rest)) 0) (lower_is_word b both.0) ∙ ap (λ n. 1 + n) (all_words s rest both.1 apart) ∙ omega arith in
     let from = b ∷ (s ++ rest) in
     ap (λ p. if p then unplain (quoted_at (s ++ rest)) else (if is_name_start b && nat_lt 0 limit then Some (word_at limit from) else None)) (lower_no_quote b both.0)
     ∙ ap (λ p. if p && nat_lt 0 limit then Some (word_at limit from) else None) both.0
     ∙ ap (λ p. if true && p then Some (word_at limit from) else None) (lt-ltb 0 limit (omega (arith, enough)))
     ∙ word_at-again limit (b ∷ s) rest enough long
-  where
-    lower_word : (b : ℕ) → is_ascii_lowercase b ≡ true → is_word b ≡ true
-    lower_word b e = grind (arith, nat_tests)
 
 pub name_at-quoted : (limit : ℕ) (name rest : List ℕ) → is_name name ≡ false → name_at limit (quoted name ++ rest) ≡ Some (name, rest)
 name_at-quoted limit name rest other =

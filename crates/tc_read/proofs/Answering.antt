@@ -3,7 +3,7 @@ use Rattle.std.specs.List.{range_with_len}
 use Rattle.tc_term.specs.Variables.{variables}
 use Rattle.tc_term.specs.Layouts.{At, Stop, ClauseEnd, Scan, at_clause_end, token}
 use Rattle.tc_term.specs.Grammar.{IsTerm}
-use Rattle.tc_term.specs.Faults.{Reading, numbered, all_known, first_wide, Answer, Syntax, WideInt, TooBig, first_place, place_behind, When, Judged, Parsed, Ended, Stopped, IsRead}
+use Rattle.tc_term.specs.Faults.{Reading, numbered, all_known, first_wide, Answer, Syntax, WideInt, TooBig, first_place, place_behind, When, Judged, Parsed, Ended, Stopped, ReadsAs}
 use Rattle.tc_term.specs.declared.template.Pattern.{Pattern}
 use Rattle.tc_read.specs.Kept.{Kept, kept, kept_of}
 use Rattle.tc_read.specs.Items.{kept_item}
@@ -67,7 +67,7 @@ module _ (s : Scanner) (size end behind : ℕ) (ts : List At) (stop : Stop) (g :
       let j = judged behind x.0 x.2 (λ few. subst (λ m. variables (x.0).term ≡ range_with_len 0 m) (sym same) (variables_read ts x.0 (omega (arith, same, few)) x.1)) in
       answer_of (Judged (place_by s.first end) behind n x.0) (Ended size ts stop) (λ a h. parsed_ended a e (inr (x.0, x.1, subst (λ m. Judged (place_by s.first end) behind m x.0 a) same h))) behind result j
 
-pub to_read : (clauses : Bool) (size : ℕ) (s : List ℕ) (ts : List At) (stop : Stop) → Scan clauses size s ts stop → first_wide ts ≡ None → (a : Answer) → Stopped clauses size ts stop a → IsRead clauses size s a
+pub to_read : (clauses : Bool) (size : ℕ) (s : List ℕ) (ts : List At) (stop : Stop) → Scan clauses size s ts stop → first_wide ts ≡ None → (a : Answer) → Stopped clauses size ts stop a → ReadsAs clauses size s a
 to_read clauses size s ts stop scan narrow a h = (ts, stop, scan, subst (λ o. MatchOption o (Stopped clauses size ts stop a) (λ place. a ≡ WideInt place)) (sym narrow) h)
 
 -- the end token of a clause lies in the text

@@ -3,7 +3,6 @@ use Rattle.std.proofs.Common.{◌≡◌, ◌∙◌, ◌≤◌, ◌+◌, ◌-◌,
 use Rattle.tc_term.specs.Bytes.{is_word, is_name_start}
 use Rattle.tc_term.specs.Tree.{HasIntegers}
 use Rattle.std.proofs.lemmas.Fmt.{decimal_digit}
-use Rattle.std.proofs.lemmas.Bool.Decides.{nat_tests}
 use Rattle.std.proofs.lemmas.Bool.{cond_both, false_from_ne_true}
 use Rattle.std.proofs.lemmas.Slice.Eq.{bytes_eq-Decides}
 use Rattle.std.specs.Char.{is_ascii_lowercase}
@@ -20,6 +19,7 @@ use Rattle.tc_term.specs.Variables.{IsPattern, renumbered}
 use Rattle.tc_term.proofs.Numbered.{renumbered-pattern}
 use Rattle.tc_read.proofs.Again.{Ends-stops, again, atom-again, lower_no_quote, name_at-quoted, node-integer, node-named, reads-alone-again, variable-again}
 use Rattle.tc_read.proofs.Words.{is_name-word_at}
+use Rattle.tc_read.proofs.Lexemes.{lower_is_word}
 use Rattle.tc_read.proofs.Spent.{first-variable, pattern-spent, some-paid, spent-pattern}
 use Rattle.tc_read.proofs.Taken.{IsTook, IsTookAll, arguments-took, head-took, name_at-took, plain_text, quoted_text, reads-took}
 use Rattle.tc_read.proofs.Texts.{text_in-Atomic, text_in-Number, text_in-nil}
@@ -149,10 +149,7 @@ plain-AtName (b ∷ s) more plain enough =
     }
   where
     words : (b : ℕ) (s : List ℕ) → is_ascii_lowercase b ≡ true → list_all is_word s ≡ true → list_all is_word (b ∷ s) ≡ true
-    words b s lower all = ap (λ p. p && list_all is_word s) (lower_text b lower) ∙ all
-      where
-        lower_text : (b : ℕ) → is_ascii_lowercase b ≡ true → is_word b ≡ true
-        lower_text b e = grind (arith, nat_tests)
+    words b s lower all = ap (λ p. p && list_all is_word s) (lower_is_word b lower) ∙ all
 
 text-AtName : (name more : List ℕ) → is_nil name ≡ false → length name ≤ 65535 → AtName (name_text name ++ more) more
 text-AtName name more some enough = by (is_name name) refl

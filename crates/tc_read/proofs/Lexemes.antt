@@ -4,7 +4,7 @@ use Rattle.std.specs.Char.{is_ascii_digit}
 use Rattle.std.specs.List.{AllByRecursion, prefix_len}
 use Rattle.std.proofs.lemmas.Bool.Decides.{nat_tests}
 use Rattle.std.proofs.lemmas.List.Folds.{length-prefix_len}
-use Rattle.tc_term.specs.Tokens.{Sign, EqColonEq, EqBackEq, EqLess, GreaterEq, BackEq, SlashSlash, Equal, Less, Greater, Plus, Minus, Star, Ask, sign_bytes, Mark, Open, Close, OpenList, CloseList, Comma, Bar, mark_byte, Lexeme, Word, Variable, Number, Quoted, Symbol, Punctuation, decimal_from, Spells, Longest, BeginsNone}
+use Rattle.tc_term.specs.Tokens.{Sign, EqColonEq, EqBackEq, EqLess, GreaterEq, BackEq, SlashSlash, Equal, Less, Greater, Plus, Minus, Star, Ask, sign_bytes, Mark, Open, Close, OpenList, CloseList, Comma, Bar, mark_byte, Lexeme, Word, Variable, Number, Quoted, Symbol, Punctuation, decimal_from, SpellsToken, Longest, BeginsNone}
 use Rattle.tc_read.specs.Lexing.{is_mark, equal_sign, greater_sign, sign_at, Begins}
 use Rattle.tc_lists.proofs.Parts.{cons_head, cons_tail}
 use Rattle.tc_lists.proofs.Runs.{length-le-prefix_len, take-prefix_len_passes}
@@ -14,8 +14,11 @@ use Rattle.tc_lists.proofs.Runs.{length-le-prefix_len, take-prefix_len_passes}
 digit_is_word : (b : ℕ) → is_ascii_digit b ≡ true → is_word b ≡ true
 digit_is_word b h = grind (arith, nat_tests)
 
-lower_is_word : (b : ℕ) → is_name_start b ≡ true → is_word b ≡ true
+pub lower_is_word : (b : ℕ) → is_name_start b ≡ true → is_word b ≡ true
 lower_is_word b h = grind (arith, nat_tests)
+
+pub no_word_no_digit : (b : ℕ) → is_word b ≡ false → is_ascii_digit b ≡ false
+no_word_no_digit b h = grind (arith, nat_tests)
 
 start_is_word : (b : ℕ) → is_variable_start b ≡ true → is_word b ≡ true
 start_is_word b h = grind (arith, nat_tests)
@@ -58,7 +61,7 @@ mark_no_word Comma b s e = word_at b 44 (cons_head e) refl
 mark_no_word Bar b s e = word_at b 124 (cons_head e) refl
 
 -- behind a word's byte a token goes on with word bytes
-goes_on_word : (b : ℕ) (s : List ℕ) (l : Lexeme) → is_word b ≡ true → Spells (b ∷ s) l → AllByRecursion (λ c. is_word c ≡ true) s
+goes_on_word : (b : ℕ) (s : List ℕ) (l : Lexeme) → is_word b ≡ true → SpellsToken (b ∷ s) l → AllByRecursion (λ c. is_word c ≡ true) s
 goes_on_word b s (Word w) h k = k.1.1
 goes_on_word b s (Variable w) h k = k.1.1
 goes_on_word b s (Number n) h k = digits_are_words s k.1.1
@@ -66,7 +69,7 @@ goes_on_word b s (Quoted m) h k = absurd (word_at b 39 k.0 refl h)
 goes_on_word b s (Symbol t) h k = absurd (sign_no_word t b s k h)
 goes_on_word b s (Punctuation t) h k = absurd (mark_no_word t b s k h)
 
-goes_on_digit : (b : ℕ) (s : List ℕ) (l : Lexeme) → is_ascii_digit b ≡ true → Spells (b ∷ s) l → AllByRecursion (λ c. is_ascii_digit c ≡ true) s
+goes_on_digit : (b : ℕ) (s : List ℕ) (l : Lexeme) → is_ascii_digit b ≡ true → SpellsToken (b ∷ s) l → AllByRecursion (λ c. is_ascii_digit c ≡ true) s
 goes_on_digit b s (Word w) h k = absurd (digit_not_lower b h k.1.0)
 goes_on_digit b s (Variable w) h k = absurd (digit_not_start b h k.1.0)
 goes_on_digit b s (Number n) h k = k.1.1
@@ -76,16 +79,16 @@ goes_on_digit b s (Punctuation t) h k = absurd (mark_no_word t b s k (digit_is_w
 
 -- The longest word, variable and number.
 
-module _ (p : ℕ → Bool) (b : ℕ) (t : List ℕ) (goes : (s : List ℕ) (l : Lexeme) → Spells (b ∷ s) l → AllByRecursion (λ c. p c ≡ true) s) where
-  run_bound : (s rest : List ℕ) (l : Lexeme) → b ∷ t ≡ s ++ rest → Spells s l → length s ≤ 1 + prefix_len p t
+module _ (p : ℕ → Bool) (b : ℕ) (t : List ℕ) (goes : (s : List ℕ) (l : Lexeme) → SpellsToken (b ∷ s) l → AllByRecursion (λ c. p c ≡ true) s) where
+  run_bound : (s rest : List ℕ) (l : Lexeme) → b ∷ t ≡ s ++ rest → SpellsToken s l → length s ≤ 1 + prefix_len p t
   run_bound [] rest l e k = omega arith
   run_bound (c ∷ s) rest l e k =
       let here : c ≡ b = sym (cons_head e) in
       let there : s ++ rest ≡ t = sym (cons_tail e) in
-      let passes : AllByRecursion (λ c. p c ≡ true) s = goes s l (subst (λ x. Spells (x ∷ s) l) here k) in
+      let passes : AllByRecursion (λ c. p c ≡ true) s = goes s l (subst (λ x. SpellsToken (x ∷ s) l) here k) in
       omega (arith, length-le-prefix_len p s rest passes, ap (prefix_len p) there)
 
-  by_run : (l : Lexeme) → Spells (b ∷ take (prefix_len p t) t) l → Longest (b ∷ t) (b ∷ take (prefix_len p t) t) l (drop (prefix_len p t) t)
+  by_run : (l : Lexeme) → SpellsToken (b ∷ take (prefix_len p t) t) l → Longest (b ∷ t) (b ∷ take (prefix_len p t) t) l (drop (prefix_len p t) t)
   by_run l k = record {
     split = ap (λ s. b ∷ s) (sym (take-append-drop (prefix_len p t) t));
     spelled = k;
@@ -127,7 +130,7 @@ sign_no_mark Ask b s e = mark_at b 63 (cons_head e) refl
 word_no_mark : (b : ℕ) → is_word b ≡ true → is_mark b ≡ true → ⊥
 word_no_mark b h k = grind (arith, nat_tests)
 
-mark_alone : (b : ℕ) (s : List ℕ) (l : Lexeme) → is_mark b ≡ true → Spells (b ∷ s) l → length s ≡ 0
+mark_alone : (b : ℕ) (s : List ℕ) (l : Lexeme) → is_mark b ≡ true → SpellsToken (b ∷ s) l → length s ≡ 0
 mark_alone b s (Word w) h k = absurd (word_no_mark b (lower_is_word b k.1.0) h)
 mark_alone b s (Variable w) h k = absurd (word_no_mark b (start_is_word b k.1.0) h)
 mark_alone b s (Number n) h k = absurd (word_no_mark b (digit_is_word b k.1.0) h)
@@ -138,9 +141,9 @@ mark_alone b s (Punctuation t) h k = ap length (cons_tail k)
 pub begins_mark : (mark : Mark) (t : List ℕ) → is_mark (mark_byte mark) ≡ true → Begins (mark_byte mark ∷ t) (Punctuation mark) t
 begins_mark mark t h = (mark_byte mark ∷ [], record { split = refl; spelled = refl; longest = λ s rest l e k. bound s rest l e k })
   where
-    bound : (s rest : List ℕ) (l : Lexeme) → mark_byte mark ∷ t ≡ s ++ rest → Spells s l → length s ≤ 1
+    bound : (s rest : List ℕ) (l : Lexeme) → mark_byte mark ∷ t ≡ s ++ rest → SpellsToken s l → length s ≤ 1
     bound [] rest l e k = omega arith
-    bound (c ∷ s) rest l e k = omega (arith, mark_alone (mark_byte mark) s l h (subst (λ x. Spells (x ∷ s) l) (sym (cons_head e)) k))
+    bound (c ∷ s) rest l e k = omega (arith, mark_alone (mark_byte mark) s l h (subst (λ x. SpellsToken (x ∷ s) l) (sym (cons_head e)) k))
 
 -- Symbols.
 
@@ -156,7 +159,7 @@ mark_is Comma b s e = ap is_mark (cons_head e)
 mark_is Bar b s e = ap is_mark (cons_head e)
 
 -- a token behind another first byte is a symbol
-only_sign : (b : ℕ) (s : List ℕ) (l : Lexeme) → is_word b ≡ false → (b ≡ 39 → ⊥) → is_mark b ≡ false → Spells (b ∷ s) l → (t : Sign) × (b ∷ s ≡ sign_bytes t)
+only_sign : (b : ℕ) (s : List ℕ) (l : Lexeme) → is_word b ≡ false → (b ≡ 39 → ⊥) → is_mark b ≡ false → SpellsToken (b ∷ s) l → (t : Sign) × (b ∷ s ≡ sign_bytes t)
 only_sign b s (Word w) f q m k = absurd ((word_no_sign b f).0 k.1.0)
 only_sign b s (Variable w) f q m k = absurd ((word_no_sign b f).1 k.1.0)
 only_sign b s (Number n) f q m k = absurd ((word_no_sign b f).2 k.1.0)
@@ -199,9 +202,9 @@ found Minus r = (Minus, refl, omega arith)
 found Star r = (Star, refl, omega arith)
 found Ask r = (Ask, refl, omega arith)
 
-spelled_sign : (b : ℕ) (text s rest : List ℕ) (l : Lexeme) → is_word b ≡ false → (b ≡ 39 → ⊥) → is_mark b ≡ false → b ∷ text ≡ s ++ rest → Spells s l → (length s ≡ 0) ⊎ ((u : Sign) × (s ≡ sign_bytes u))
+spelled_sign : (b : ℕ) (text s rest : List ℕ) (l : Lexeme) → is_word b ≡ false → (b ≡ 39 → ⊥) → is_mark b ≡ false → b ∷ text ≡ s ++ rest → SpellsToken s l → (length s ≡ 0) ⊎ ((u : Sign) × (s ≡ sign_bytes u))
 spelled_sign b text [] rest l f q m e k = inl refl
-spelled_sign b text (c ∷ s) rest l f q m e k = let o = only_sign b s l f q m (subst (λ x. Spells (x ∷ s) l) (sym (cons_head e)) k) in inr (o.0, ap (λ x. x ∷ s) (sym (cons_head e)) ∙ o.1)
+spelled_sign b text (c ∷ s) rest l f q m e k = let o = only_sign b s l f q m (subst (λ x. SpellsToken (x ∷ s) l) (sym (cons_head e)) k) in inr (o.0, ap (λ x. x ∷ s) (sym (cons_head e)) ∙ o.1)
 
 pub begins_sign : (b : ℕ) (text rest : List ℕ) (t : Sign) → is_word b ≡ false → (b ≡ 39 → ⊥) → is_mark b ≡ false → sign_at b text ≡ Some t → b ∷ text ≡ sign_bytes t ++ rest → Begins (b ∷ text) (Symbol t) rest
 begins_sign b text rest t f q m at e = (sign_bytes t, record { split = e; spelled = refl; longest = λ s r l d k. bound s r d (spelled_sign b text s r l f q m d k) })
@@ -214,7 +217,7 @@ begins_sign b text rest t f q m at e = (sign_bytes t, record { split = e; spelle
         let it : x.0 ≡ t = cc in
         omega (arith, x.2, ap length u.1, ap (λ y. length (sign_bytes y)) it)
 
-pub empty_spells : (l : Lexeme) → Spells [] l → ⊥
+pub empty_spells : (l : Lexeme) → SpellsToken [] l → ⊥
 empty_spells (Word w) k = k.1
 empty_spells (Variable w) k = k.1
 empty_spells (Number n) k = k.1
@@ -222,7 +225,7 @@ empty_spells (Quoted m) k = k
 empty_spells (Symbol t) k = let e = ap length k in omega (arith, sign_long t)
 empty_spells (Punctuation t) k = cc
 
-pub nothing_of : (s : List ℕ) (l : Lexeme) → Spells s l → length s ≡ 0 → ⊥
+pub nothing_of : (s : List ℕ) (l : Lexeme) → SpellsToken s l → length s ≡ 0 → ⊥
 nothing_of [] l k z = empty_spells l k
 nothing_of (b ∷ s) l k z = omega arith
 

@@ -3,7 +3,7 @@ use Rattle.tc_term.specs.Bytes.{is_variable_start, is_name_start}
 use Rattle.std.specs.Char.{is_ascii_digit}
 use Rattle.std.proofs.lemmas.Bool.Decides.{nat_tests}
 use Rattle.std.proofs.lemmas.List.{length-append}
-use Rattle.tc_term.specs.Tokens.{Sign, EqColonEq, EqBackEq, EqLess, GreaterEq, BackEq, SlashSlash, Equal, Less, Greater, Plus, Minus, Star, Ask, sign_bytes, Mark, Open, Close, OpenList, CloseList, Comma, Bar, mark_byte, Lexeme, Word, Variable, Number, Quoted, Symbol, Punctuation, Inside, Spells, Longest, BeginsNone}
+use Rattle.tc_term.specs.Tokens.{Sign, EqColonEq, EqBackEq, EqLess, GreaterEq, BackEq, SlashSlash, Equal, Less, Greater, Plus, Minus, Star, Ask, sign_bytes, Mark, Open, Close, OpenList, CloseList, Comma, Bar, mark_byte, Lexeme, Word, Variable, Number, Quoted, Symbol, Punctuation, Inside, SpellsToken, Longest, BeginsNone}
 use Rattle.tc_read.specs.Lexing.{is_mark}
 use Rattle.tc_read.specs.Views.{unquoted}
 use Rattle.tc_read.proofs.Lexemes.{empty_spells, sign_of, none_sign}
@@ -61,7 +61,7 @@ mark_kind CloseList b s e = kind_at b 93 5 (cons_head e) refl
 mark_kind Comma b s e = kind_at b 44 5 (cons_head e) refl
 mark_kind Bar b s e = kind_at b 124 5 (cons_head e) refl
 
-kind_spelled : (b : ℕ) (s : List ℕ) (l : Lexeme) → Spells (b ∷ s) l → kind b ≡ kind_of l
+kind_spelled : (b : ℕ) (s : List ℕ) (l : Lexeme) → SpellsToken (b ∷ s) l → kind b ≡ kind_of l
 unfolding kind
 kind_spelled b s (Word w) k = ap (λ t. if t then 1 else (if is_variable_start b then 2 else (if is_ascii_digit b then 3 else (if b == 39 then 4 else (if is_mark b then 5 else 6))))) k.1.0
 kind_spelled b s (Variable w) k =
@@ -115,7 +115,7 @@ symbol_same t u e = let same : Some t ≡ Some u = sym (sign_back t) ∙ ap sign
 mark_same : (t u : Mark) → mark_byte t ≡ mark_byte u → t ≡ u
 mark_same t u e = let same : Some t ≡ Some u = sym (mark_back t) ∙ ap mark_of e ∙ mark_back u in cc
 
-same_kind : (b : ℕ) (s : List ℕ) (l k : Lexeme) → Spells (b ∷ s) l → Spells (b ∷ s) k → kind_of l ≡ kind_of k → l ≡ k
+same_kind : (b : ℕ) (s : List ℕ) (l k : Lexeme) → SpellsToken (b ∷ s) l → SpellsToken (b ∷ s) k → kind_of l ≡ kind_of k → l ≡ k
 same_kind b s (Word w) (Word v) x y e = ap Word (sym x.0 ∙ y.0)
 same_kind b s (Variable w) (Variable v) x y e = ap Variable (sym x.0 ∙ y.0)
 same_kind b s (Number m) (Number n) x y e = ap Number (x.0 ∙ sym y.0)
@@ -124,7 +124,7 @@ same_kind b s (Symbol t) (Symbol u) x y e = ap Symbol (symbol_same t u (sym x �
 same_kind b s (Punctuation t) (Punctuation u) x y e = ap Punctuation (mark_same t u (cons_head (sym x ∙ y)))
 same_kind b s l k x y e = absurd (omega arith)
 
-pub lexeme_same : (s : List ℕ) (l k : Lexeme) → Spells s l → Spells s k → l ≡ k
+pub lexeme_same : (s : List ℕ) (l k : Lexeme) → SpellsToken s l → SpellsToken s k → l ≡ k
 lexeme_same [] l k x y = absurd (empty_spells l x)
 lexeme_same (b ∷ s) l k x y = same_kind b s l k x y (sym (kind_spelled b s l x) ∙ kind_spelled b s k y)
 
@@ -132,7 +132,7 @@ pub longest_same : (text s t x y : List ℕ) (l k : Lexeme) → Longest text s l
 longest_same text s t x y l k f g =
     let n : length s ≡ length t = omega (arith, f.longest t y k g.split g.spelled, g.longest s x l f.split f.spelled) in
     let r = append_parts s t x y (sym f.split ∙ g.split) n in
-    (lexeme_same t l k (subst (λ z. Spells z l) r.0 f.spelled) g.spelled, r.1)
+    (lexeme_same t l k (subst (λ z. SpellsToken z l) r.0 f.spelled) g.spelled, r.1)
 
 -- the end token begins no other one
 pub dot_begins_none : (after : List ℕ) → BeginsNone (46 ∷ after)

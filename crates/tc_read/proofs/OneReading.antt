@@ -2,7 +2,7 @@ use Rattle.std.proofs.Common.{◌≡◌, ℕ, suc, ◌-◌, ◌==◌, ◌⊎◌,
 use Rattle.tc_term.specs.Tree.{Fits}
 use Rattle.tc_term.specs.Tokens.{Lexeme, Longest, BeginsNone}
 use Rattle.tc_term.specs.Layouts.{ToLineEnd, at_end, at_line_feed, in_line, ToBlockEnd, at_block_end, in_block, Piece, blank, line, block, Layout, no_layout, layout, IsBehindEnd, At, Stop, TextEnd, ClauseEnd, NoToken, Scan, at_text_end, at_clause_end, at_no_token, token}
-use Rattle.tc_term.specs.Faults.{Reading, reading, numbered, all_known, first_wide, most_open, Answer, WideInt, TooMany, TooBig, Found, first_place, place_behind, When, Judged, Parsed, Ended, Unended, Stopped, Answers, IsRead}
+use Rattle.tc_term.specs.Faults.{Reading, reading, numbered, all_known, first_wide, most_open, Answer, WideInt, TooMany, TooBig, Found, first_place, place_behind, When, Judged, Parsed, Ended, Unended, Stopped, AnswersTokens, ReadsAs}
 use Rattle.tc_read.proofs.Lexemes.{none_empty}
 use Rattle.tc_read.proofs.OneLexeme.{longest_same, dot_begins_none}
 use Rattle.tc_read.proofs.Unique.{one_term}
@@ -127,10 +127,10 @@ stopped_same clauses size ts (ClauseEnd place) a b x y = ended_same size ts (Cla
 stopped_same true size ts TextEnd a b x y = unended_same size ts a b x y
 stopped_same false size ts TextEnd a b x y = ended_same size ts TextEnd a b x y
 
-answers_same : (clauses : Bool) (size : ℕ) (ts : List At) (stop : Stop) (a b : Answer) → Answers clauses size ts stop a → Answers clauses size ts stop b → a ≡ b
+answers_same : (clauses : Bool) (size : ℕ) (ts : List At) (stop : Stop) (a b : Answer) → AnswersTokens clauses size ts stop a → AnswersTokens clauses size ts stop b → a ≡ b
 answers_same clauses size ts stop a b x y = match_same (first_wide ts) (Stopped clauses size ts stop) (λ c. ⊥) WideInt a b (stopped_same clauses size ts stop) x y
 
-pub one_reading : (clauses : Bool) (size : ℕ) (s : List ℕ) (a b : Answer) → IsRead clauses size s a → IsRead clauses size s b → a ≡ b
+pub one_reading : (clauses : Bool) (size : ℕ) (s : List ℕ) (a b : Answer) → ReadsAs clauses size s a → ReadsAs clauses size s b → a ≡ b
 one_reading clauses size s a b x y =
     let same = scan_same y.2 x.2 in
-    answers_same clauses size x.0 x.1 a b x.3 (subst (λ ts. Answers clauses size ts x.1 b) same.tokens (subst (λ stop. Answers clauses size y.0 stop b) same.stops y.3))
+    answers_same clauses size x.0 x.1 a b x.3 (subst (λ ts. AnswersTokens clauses size ts x.1 b) same.tokens (subst (λ stop. AnswersTokens clauses size y.0 stop b) same.stops y.3))

@@ -3,7 +3,7 @@ use Rattle.tc_term.specs.Bytes.{is_variable_start, is_name_start}
 use Rattle.std.specs.Char.{is_ascii_digit}
 use Rattle.std.specs.Prelude.{is_some}
 use Rattle.std.proofs.lemmas.List.{append_assoc, length-append, take_at, drop_at}
-use Rattle.tc_term.specs.Tokens.{Lexeme, Word, Variable, Number, Quoted, Symbol, Punctuation, Sign, EqColonEq, EqBackEq, EqLess, GreaterEq, BackEq, SlashSlash, Equal, Less, Greater, Plus, Minus, Star, Ask, sign_bytes, Mark, Open, Close, OpenList, CloseList, Comma, Bar, mark_byte, escape, Inside, closed, doubled, escaped, plain, Spells, BeginsNone}
+use Rattle.tc_term.specs.Tokens.{Lexeme, Word, Variable, Number, Quoted, Symbol, Punctuation, Sign, EqColonEq, EqBackEq, EqLess, GreaterEq, BackEq, SlashSlash, Equal, Less, Greater, Plus, Minus, Star, Ask, sign_bytes, Mark, Open, Close, OpenList, CloseList, Comma, Bar, mark_byte, escape, Inside, closed, doubled, escaped, plain, SpellsToken, BeginsNone}
 use Rattle.tc_read.specs.Lexing.{further, or_one, quoted_end, at_quote, at_backslash, Begins}
 use Rattle.tc_read.specs.Views.{unquoted, unquoted_from, meant}
 use Rattle.tc_read.proofs.Lexemes.{empty_spells}
@@ -181,7 +181,7 @@ quote_no_mark CloseList b s e = unequal b 93 39 (cons_head e) refl
 quote_no_mark Comma b s e = unequal b 44 39 (cons_head e) refl
 quote_no_mark Bar b s e = unequal b 124 39 (cons_head e) refl
 
-goes_on_quote : (b : ℕ) (s : List ℕ) (l : Lexeme) → b ≡ 39 → Spells (b ∷ s) l → (m : List ℕ) × Inside s m
+goes_on_quote : (b : ℕ) (s : List ℕ) (l : Lexeme) → b ≡ 39 → SpellsToken (b ∷ s) l → (m : List ℕ) × Inside s m
 goes_on_quote b s (Word w) h k = let f = quote_lower b h in let g = k.1.0 in cc
 goes_on_quote b s (Variable w) h k = let f = quote_start b h in let g = k.1.0 in cc
 goes_on_quote b s (Number n) h k = let f = quote_digit b h in let g = k.1.0 in cc
@@ -205,7 +205,7 @@ begins_quoted t n at =
       },
     )
   where
-    bound : (f : List ℕ) → length f ≡ n → (s r : List ℕ) (l : Lexeme) → 39 ∷ t ≡ s ++ r → Spells s l → length s ≤ length (39 ∷ f)
+    bound : (f : List ℕ) → length f ≡ n → (s r : List ℕ) (l : Lexeme) → 39 ∷ t ≡ s ++ r → SpellsToken s l → length s ≤ length (39 ∷ f)
     bound f size [] r l e k = omega arith
     bound f size (c ∷ s) r l e k = let x = goes_on_quote c s l (sym (cons_head e)) k in omega (arith, within_end t s r x.0 n (cons_tail e) x.1 at)
 

@@ -3,7 +3,7 @@ use Rattle.std.proofs.Common.{◌≡◌, ◌∙◌, ◌⊎◌, ◌≤◌, ◌+�
 use Rattle.std.proofs.Math.Seq.{drop-append_seam}
 use Rattle.std.proofs.lemmas.Bool.Decides.{nat_tests}
 use Rattle.tc_term.proofs.Numbered.{renumbered-pattern}
-use Rattle.tc_term.specs.Faults.{Ended, Found, TooBig, TooMany, WideInt, IsRead, Judged, Parsed, Stopped, When, all_known, first_place, most_open, place_behind}
+use Rattle.tc_term.specs.Faults.{Ended, Found, TooBig, TooMany, WideInt, ReadsAs, Judged, Parsed, Stopped, When, all_known, first_place, most_open, place_behind}
 use Rattle.tc_term.specs.Grammar.{operand}
 use Rattle.tc_term.specs.Layouts.{IsBehindEnd, Scan, Stop, TextEnd, ClauseEnd, at_clause_end, at_text_end, no_layout}
 use Rattle.tc_term.specs.Text.{Alone, canonical, text_in, text_of}
@@ -60,7 +60,7 @@ spelt-read clauses size stop rest follows scan t readable =
     readable_names : (t : Tree) → IsReadable t → has_read_names t ≡ true
     readable_names t r = r.names
 
-pub term-read : (t : Tree) → IsReadable t → IsRead false (length (canonical t)) (canonical t) (Found t (length (canonical t)))
+pub term-read : (t : Tree) → IsReadable t → ReadsAs false (length (canonical t)) (canonical t) (Found t (length (canonical t)))
 term-read t readable =
     let size = length (canonical t) in
     let (left, few, spelt) = spelt-read false size TextEnd [] tt (at_text_end (no_layout no_piece_empty)) t readable in
@@ -73,7 +73,7 @@ term-read t readable =
     )
 
 clause-read : (before after : List ℕ) (t : Tree) → IsReadable t → IsBehindEnd after →
-    IsRead true (length (before ++ canonical t ++ 46 ∷ after)) (drop (length before) (before ++ canonical t ++ 46 ∷ after))
+    ReadsAs true (length (before ++ canonical t ++ 46 ∷ after)) (drop (length before) (before ++ canonical t ++ 46 ∷ after))
     (Found t (length before + length (canonical t) + 1))
 clause-read before after t readable end =
     let text = before ++ canonical t ++ 46 ∷ after in
@@ -87,7 +87,7 @@ clause-read before after t readable end =
     ∙ ap (drop (length before)) (sym (append_assoc before (canonical t) (46 ∷ after))) in
     let place : size - suc (length after) + 1 ≡ length before + length (canonical t) + 1 =
     omega (arith, length-append (before ++ canonical t) (46 ∷ after), length-append before (canonical t)) in
-    subst (λ k. IsRead true size (drop (length before) text) (Found t k)) place (
+    subst (λ k. ReadsAs true size (drop (length before) text) (Found t k)) place (
       spelt.tokens,
       stop,
       subst (λ x. Scan true size x spelt.tokens stop) rest spelt.scan,
@@ -96,8 +96,8 @@ clause-read before after t readable end =
     )
 
 pub clause-read-back : (before after : List ℕ) (t : Tree) → IsReadable t → IsBehindEnd after →
-    IsRead true (length (before ++ canonical t ++ codes "." ++ after)) (drop (length before) (before ++ canonical t ++ codes "." ++ after))
+    ReadsAs true (length (before ++ canonical t ++ codes "." ++ after)) (drop (length before) (before ++ canonical t ++ codes "." ++ after))
     (Found t (length before + length (canonical t) + 1))
 clause-read-back before after t readable end =
-    subst (λ text. IsRead true (length text) (drop (length before) text) (Found t (length before + length (canonical t) + 1)))
+    subst (λ text. ReadsAs true (length text) (drop (length before) text) (Found t (length before + length (canonical t) + 1)))
     (sym (append_assoc (before ++ canonical t) (codes ".") after)) (clause-read before after t readable end)

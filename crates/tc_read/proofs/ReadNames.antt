@@ -4,7 +4,7 @@ use Rattle.std.specs.Prelude.{codes, bytes_eq}
 use Rattle.std.specs.List.{list_all, AllByRecursion}
 use Rattle.std.proofs.lemmas.Bool.Decides.{nat_tests}
 use Rattle.tc_term.specs.Tree.{Tree, Fits}
-use Rattle.tc_term.specs.Tokens.{Sign, EqColonEq, EqBackEq, EqLess, GreaterEq, BackEq, SlashSlash, Equal, Less, Greater, Plus, Minus, Star, Ask, sign_bytes, Lexeme, Word, Variable, Number, Quoted, Symbol, Punctuation, Mark, Inside, closed, doubled, escaped, plain, escape, Spells, Longest}
+use Rattle.tc_term.specs.Tokens.{Sign, EqColonEq, EqBackEq, EqLess, GreaterEq, BackEq, SlashSlash, Equal, Less, Greater, Plus, Minus, Star, Ask, sign_bytes, Lexeme, Word, Variable, Number, Quoted, Symbol, Punctuation, Mark, Inside, closed, doubled, escaped, plain, escape, SpellsToken, Longest}
 use Rattle.tc_term.specs.Tokens as spelled
 use Rattle.tc_term.specs.Layouts.{At, Stop, TextEnd, ClauseEnd, NoToken, Scan, at_text_end, at_clause_end, at_no_token, token}
 use Rattle.tc_term.specs.Grammar.{Token, Operator, infix_of, operator_of, functor_of, xfx, yfx, Derives, operand, prefix, infix_term, Operand, variable, integer, negative, atom, compound, no_items, items, group, Arguments, last_argument, more_arguments, Items, last_item, list_tail, more_items, IsTerm}
@@ -189,7 +189,7 @@ mark_named g spelled.CloseList = tt
 mark_named g spelled.Comma = tt
 mark_named g spelled.Bar = tt
 
-lexeme_named : (known : List (List ℕ)) (g : Bool) (place : ℕ) (s : List ℕ) (l : Lexeme) → Spells s l → IsNamed (token_of known g place l)
+lexeme_named : (known : List (List ℕ)) (g : Bool) (place : ℕ) (s : List ℕ) (l : Lexeme) → SpellsToken s l → IsNamed (token_of known g place l)
 lexeme_named known g place s (Word w) k = subst IsName k.0 (word_named s k.1)
 lexeme_named known g place s (Variable w) k = tt
 lexeme_named known g place s (Number n) k = tt
@@ -237,5 +237,5 @@ named_answers : (clauses : Bool) (size : ℕ) (s : List ℕ) (ts : List At) (sto
 named_answers clauses size s ts stop t e (Some place) k h = cc
 named_answers clauses size s ts stop t e None k h = named_stopped clauses size s ts stop t e k h
 
-pub names_found : (clauses : Bool) (size : ℕ) (s : List ℕ) (t : Tree) (e : ℕ) → faults.IsRead clauses size s (Found t e) → has_read_names t ≡ true
+pub names_found : (clauses : Bool) (size : ℕ) (s : List ℕ) (t : Tree) (e : ℕ) → faults.ReadsAs clauses size s (Found t e) → has_read_names t ≡ true
 names_found clauses size s t e h = named_answers clauses size s h.0 h.1 t e (first_wide h.0) h.2 h.3

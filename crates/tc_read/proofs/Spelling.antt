@@ -24,7 +24,7 @@ use Rattle.tc_term.specs.Tokens.{Lexeme, Word, Number, Quoted, Symbol, Punctuati
 use Rattle.tc_term.specs.Tokens as spelled
 use Rattle.tc_term.specs.Variables.{place_in}
 use Rattle.tc_read.proofs.Again.{NoWord, all_words}
-use Rattle.tc_read.proofs.Lexemes.{begins_number, begins_variable, begins_word}
+use Rattle.tc_read.proofs.Lexemes.{begins_number, begins_variable, begins_word, no_word_no_digit}
 use Rattle.tc_read.proofs.Quotes.{begins_quoted}
 use Rattle.tc_read.proofs.QuotedBytes.{Form, escaped, plain, form}
 use Rattle.tc_lists.proofs.Ranges.{range_with_len_more}
@@ -55,13 +55,10 @@ are_digits n small k inside = digit_at (decimal n) k (decimal_is_IsNumeral n sma
 digit_word : (b : ℕ) → IsInRange 48 57 b → (is_word b ≡ true) × (is_ascii_digit b ≡ true)
 digit_word b h = (grind (arith, nat_tests), grind (arith, nat_tests))
 
-word_no_digit : (b : ℕ) → is_word b ≡ false → is_ascii_digit b ≡ false
-word_no_digit b h = grind (arith, nat_tests)
-
 digits_words : (ds rest : List ℕ) → AreDigits ds → NoWord rest → (prefix_len is_word (ds ++ rest) ≡ length ds) × (prefix_len is_ascii_digit (ds ++ rest) ≡ length ds)
 unfolding AreDigits
 digits_words [] [] are none = (refl, refl)
-digits_words [] (b ∷ s) are none = (ap (λ p. cond p (1 + prefix_len is_word s) 0) none, ap (λ p. cond p (1 + prefix_len is_ascii_digit s) 0) (word_no_digit b none))
+digits_words [] (b ∷ s) are none = (ap (λ p. cond p (1 + prefix_len is_word s) 0) none, ap (λ p. cond p (1 + prefix_len is_ascii_digit s) 0) (no_word_no_digit b none))
 digits_words (d ∷ ds) rest are none =
     let first = digit_word d (are 0 (omega arith)) in
     let more = digits_words ds rest (λ k inside. are (suc k) (omega (arith, inside))) none in (

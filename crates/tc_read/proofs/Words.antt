@@ -1,32 +1,11 @@
 -- Names in the form of a name token.
-use Rattle.std.proofs.Common.{◌≡◌, ◌≤◌, ◌<◌, min, nat_lt, ℕ, zero, suc, Bool, true, false, nat_eq, ◌+◌, ◌&&◌, cond, List, [], ◌∷◌, length, take, refl, sym, ap, ◌∙◌, arith}
+use Rattle.std.proofs.Common.{◌≡◌, ◌≤◌, ◌<◌, min, nat_lt, ℕ, zero, suc, Bool, true, false, ◌+◌, ◌&&◌, cond, List, [], ◌∷◌, take, refl, ap, ◌∙◌, arith}
 use Rattle.std.proofs.lemmas.Bool.Decides.{nat_tests}
 use Rattle.std.specs.List.{prefix_len, list_all}
 use Rattle.tc_term.specs.Bytes.{is_name_start, is_word}
 use Rattle.tc_term.specs.Text.{is_name}
 use Rattle.tc_read.specs.Front.{word_at}
-
-one_more : (m n : ℕ) → nat_eq (1 + m) (suc n) ≡ nat_eq m n
-one_more m n = grind (arith, nat_tests)
-
--- all bytes pass where as many pass from the first on
-words-all : (s : List ℕ) → nat_eq (prefix_len is_word s) (length s) ≡ list_all is_word s
-words-all [] = refl
-words-all (b ∷ s) = by (is_word b) refl (words-all s)
-  where
-    by : (p : Bool) → is_word b ≡ p → nat_eq (prefix_len is_word s) (length s) ≡ list_all is_word s
-        → nat_eq (cond (is_word b) (1 + prefix_len is_word s) 0) (length (b ∷ s)) ≡ (is_word b && list_all is_word s)
-    by true e more = ap (λ q. nat_eq (cond q (1 + prefix_len is_word s) 0) (suc (length s))) e
-        ∙ one_more (prefix_len is_word s) (length s) ∙ more ∙ sym (ap (λ q. q && list_all is_word s) e)
-    by false e more = ap (λ q. nat_eq (cond q (1 + prefix_len is_word s) 0) (suc (length s))) e
-        ∙ none (length s) ∙ sym (ap (λ q. q && list_all is_word s) e)
-      where
-        none : (n : ℕ) → nat_eq 0 (suc n) ≡ false
-        none n = grind (arith, nat_tests)
-
--- a first letter and word bytes
-pub is_name-words : (b : ℕ) (s : List ℕ) → is_name_start b ≡ true → is_name (b ∷ s) ≡ nat_eq (prefix_len is_word s) (length s)
-is_name-words b s e = ap (λ q. q && list_all is_word s) e ∙ sym (words-all s)
+use Rattle.tc_read.proofs.Lexemes.{lower_is_word}
 
 words-take : (k : ℕ) (s : List ℕ) → k ≤ prefix_len is_word s → list_all is_word (take k s) ≡ true
 words-take zero s h = refl
@@ -37,13 +16,10 @@ words-take (suc k) (b ∷ s) h = by (is_word b) refl (words-take k s)
     by true e more = ap (λ q. q && list_all is_word (take k s)) e ∙ more (omega (arith, h, ap (λ q. cond q (1 + prefix_len is_word s) 0) e))
     by false e more = absurd (omega (arith, h, ap (λ q. cond q (1 + prefix_len is_word s) 0) e))
 
-start_word : (b : ℕ) → is_name_start b ≡ true → is_word b ≡ true
-start_word b e = grind (arith, nat_tests)
-
 -- a first letter and the word bytes behind it, so far as they are taken, are a name
 pub is_name-word_at : (limit b : ℕ) (s : List ℕ) → is_name_start b ≡ true → nat_lt 0 limit ≡ true → is_name (word_at limit (b ∷ s)).0 ≡ true
 is_name-word_at limit b s start some =
-    let long : prefix_len is_word (b ∷ s) ≡ 1 + prefix_len is_word s = ap (λ q. cond q (1 + prefix_len is_word s) 0) (start_word b start) in
+    let long : prefix_len is_word (b ∷ s) ≡ 1 + prefix_len is_word s = ap (λ q. cond q (1 + prefix_len is_word s) 0) (lower_is_word b start) in
     let limit_some : 0 < limit = positive limit some in
     by (min limit (prefix_len is_word (b ∷ s))) (omega (arith, long, limit_some)) (omega (arith, long, limit_some))
   where

@@ -5,7 +5,7 @@ ghost use Rattle.tc_term.specs.Layouts.{IsBehindEnd};
 ghost use Rattle.tc_term.specs.Text.{canonical};
 ghost use Rattle.tc_term.specs.Tree.{Tree};
 ghost use Rattle.tc_term.specs.Variables.{IsPattern};
-ghost use Rattle.tc_term.specs.Faults.{Answer, Found, IsRead};
+ghost use Rattle.tc_term.specs.Faults.{Answer, Found, ReadsAs};
 ghost use Rattle.tc_read.specs.Canonical.{EndsTerm, IsCanonicalAt};
 ghost use Rattle.tc_read.specs.Canonical.{IsLongestCanonicalAt};
 ghost use Rattle.tc_term.specs.NameBytes.{has_read_names};
@@ -13,14 +13,14 @@ ghost use Rattle.tc_term.specs.Readable.{IsReadable};
 
 /// A text has one reading at most: so what reads it is the only answer, whichever way it was found.
 pub fn reading_is_unique()
-    ensures { (clauses : Bool) (size : ℕ) (s : List ℕ) (a b : Answer) → IsRead clauses size s a
-        → IsRead clauses size s b → a ≡ b }
+    ensures { (clauses : Bool) (size : ℕ) (s : List ℕ) (a b : Answer) → ReadsAs clauses size s a
+        → ReadsAs clauses size s b → a ≡ b }
 {}
 
 /// A name that is read holds no byte below 32 but line feeds and tabs.
 pub fn read_names_hold_no_control_bytes()
     ensures { (clauses : Bool) (size : ℕ) (s : List ℕ) (term : Tree) (behind : ℕ)
-        → IsRead clauses size s (Found term behind) → IsTrue (has_read_names term) }
+        → ReadsAs clauses size s (Found term behind) → IsTrue (has_read_names term) }
 {}
 
 /// At most one template has its canonical text from one place to another, and only one has the
@@ -45,13 +45,13 @@ pub fn canonical_text_reads_back()
 /// brackets open, in which no name holds a byte below 32 but line feeds and tabs.
 pub fn printed_term_is_read_back()
     ensures { (t : Tree) → IsReadable t
-        → IsRead false (length (canonical t)) (canonical t) (Found t (length (canonical t))) }
+        → ReadsAs false (length (canonical t)) (canonical t) (Found t (length (canonical t))) }
 {}
 
 /// So it is as a clause, with an end token behind it.
 pub fn printed_clause_is_read_back()
     ensures { (before after : List ℕ) (t : Tree) → IsReadable t → IsBehindEnd after
-        → IsRead true (length (before ++ canonical t ++ codes "." ++ after))
+        → ReadsAs true (length (before ++ canonical t ++ codes "." ++ after))
         (drop (length before) (before ++ canonical t ++ codes "." ++ after))
         (Found t (length before + length (canonical t) + 1)) }
 {}

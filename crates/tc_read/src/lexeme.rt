@@ -3,7 +3,7 @@ ghost use Rattle.std.specs.Prelude.{◌≡◌, ◌<◌, ◌≤◌, ◌&&◌, ◌
 ghost use Rattle.std.specs.Prelude.{MatchOption, None, Some, length, take, drop, true};
 ghost use Rattle.std.specs.List.{prefix_len};
 ghost use Rattle.std.specs.Char.{is_ascii_digit};
-ghost use Rattle.tc_term.specs.Bytes.{is_variable_start, is_word};
+ghost use Rattle.tc_term.specs.Bytes.{is_word};
 ghost use Rattle.tc_term.specs.Tokens.{BeginsNone, escape, mark_byte, sign_bytes};
 ghost use Rattle.tc_read.specs.Lexemes.{lexeme_view, mark_view};
 ghost use Rattle.tc_read.specs.Lexing.{Begins, after_one, back_sign, equal_sign, greater_sign};
@@ -12,6 +12,7 @@ ghost use Rattle.tc_read.specs.Views.{sign_view};
 
 use crate::layout::next_byte;
 use crate::tokens::Sign;
+use tc_term::is_word;
 
 /// Punctuation.
 #[derive(Clone, Copy)]
@@ -33,19 +34,6 @@ pub enum Lexeme<'a> {
     Quoted(&'a [u8]),
     Symbol(Sign),
     Punctuation(Mark),
-}
-
-/// Whether a variable may begin with the byte.
-pub fn is_variable_start(byte: u8) -> bool
-    ensures { result ≡ is_variable_start byte }
-{
-    byte.is_ascii_uppercase() || byte == b'_'
-}
-
-fn is_word(byte: u8) -> bool
-    ensures { result ≡ is_word byte }
-{
-    byte.is_ascii_alphanumeric() || byte == b'_'
 }
 
 /// The punctuation mark that the byte is.

@@ -8,8 +8,9 @@ ghost use Rattle.tc_read.specs.Lexemes.{lexeme_view};
 ghost use Rattle.tc_read.specs.Lexing.{Begins};
 
 use crate::layout::next_byte;
-use crate::lexeme::{Lexeme, digits_length, is_variable_start, punctuation, symbol, word_length};
+use crate::lexeme::{Lexeme, digits_length, punctuation, symbol, word_length};
 use crate::quoted::quoted_length;
+use tc_term::is_variable_start;
 
 /// The longest token at the front, and what stands behind it.
 pub fn longest(text: &[u8]) -> Option<(Lexeme<'_>, &[u8])>

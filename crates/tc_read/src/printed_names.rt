@@ -1,6 +1,5 @@
 //! Names in canonical text: plain words, and quoted ones that cannot be written plainly.
 ghost use Rattle.std.specs.Prelude.{◌≡◌, ◌∷◌, IfOk, List, ℕ};
-ghost use Rattle.tc_term.specs.Text.{is_name};
 ghost use Rattle.tc_read.specs.Front.{name_at, quoted_at, unplain};
 ghost use Rattle.tc_read.specs.Seen.{name_seen};
 
@@ -10,20 +9,10 @@ use crate::quote::read_quoted;
 use crate::read::rest_from;
 use std::alloc::Global;
 use tc_lists::NoMemory;
-use tc_term::Name;
+use tc_term::{Name, is_name};
 
 /// A name, if one stands there, and what stands behind it.
 pub type ReadName<'a> = Result<Option<(Name, &'a [u8])>, NoMemory>;
-
-/// Whether the bytes have the form of a name token.
-fn is_name(name: &[u8]) -> bool
-    ensures { result ≡ is_name name.now }
-{
-    match next_byte(name) {
-        None => false,
-        Some((first, rest)) => first.is_ascii_lowercase() && word_length(rest) == rest.len(),
-    }
-}
 
 /// The name whose quoted text stands at the front, unless it can be written plainly.
 fn quoted_name<'a>(alloc: Global, bytes: &'a [u8]) -> ReadName<'a>

@@ -2,7 +2,8 @@
 ghost use Rattle.std.specs.Prelude.{◌≡◌, ◌<◌, ◌≤◌, [], IfOk, IfSome, drop};
 ghost use Rattle.std.specs.Prelude.{false, length, true, List, None, ℕ};
 ghost use Rattle.std.specs.List.{range_with_len};
-ghost use Rattle.tc_term.specs.Faults.{Ended, IsRead, Judged, Reading, first_place, first_wide, place_behind};
+ghost use Rattle.tc_term.specs.Faults.{Ended, Judged, Reading, ReadsAs};
+ghost use Rattle.tc_term.specs.Faults.{first_place, first_wide, place_behind};
 ghost use Rattle.tc_term.specs.Layouts.{At};
 ghost use Rattle.tc_term.specs.Limits.{most_variables};
 ghost use Rattle.tc_term.specs.Layouts as text;
@@ -79,7 +80,7 @@ fn read_tokens(alloc: Global, gathered: &Scanner, end: usize) -> Result<Pattern,
 ///
 /// Takes O(length) time.
 pub fn read_term(alloc: Global, text: &[u8]) -> Result<Pattern, ReadFault>
-    ensures { IsTermAnswer (IsRead false (length text.now) text.now) (length text.now) result }
+    ensures { IsTermAnswer (ReadsAs false (length text.now) text.now) (length text.now) result }
 {
     let size = text.len();
     let Scanned { gathered, stop } = scan(alloc, text, size, false)?;
@@ -112,7 +113,7 @@ pub fn read_clause(
     from: usize,
 ) -> Result<Option<(Pattern, usize)>, ReadFault>
     requires { from ≤ length text.now }
-    ensures read { IsClauseAnswer (IsRead true (length text.now) (drop from text.now)) result }
+    ensures read { IsClauseAnswer (ReadsAs true (length text.now) (drop from text.now)) result }
     ensures behind { IfOk result
         (λ r. IfSome r (λ found. (from < found.1) × (found.1 ≤ length text.now))) }
 {

@@ -4,6 +4,11 @@
 //! A step is an ask of the agent's scripts, or a look whether the ask before has its reply by now. The
 //! logs that it begins with may be those of a run that has come so far in any way. Nothing here knows of
 //! text or of threads.
+//!
+//! ```
+//! let run = go_on(alloc, open(alloc, config)?, &NoGate)?;
+//! // run.cores have the histories, and run.logs the rows of each agent
+//! ```
 #![tactic(auto)]
 
 mod clients;

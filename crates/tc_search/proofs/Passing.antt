@@ -14,27 +14,27 @@ use Rattle.tc_term.specs.Tree.{Tree, IsTuple}
 use Rattle.tc_term.specs.TreeView.{tree_of}
 use Rattle.tc_bag.specs.declared.key.Key.{Key}
 use Rattle.tc_bag.specs.Keys.{key_of, known_first, Agrees, HasFirst, IsLike}
-use Rattle.tc_bag.specs.Stock.{Row, Rises, tuples_of, tuple_at, without_age}
+use Rattle.tc_bag.specs.Stock.{Row, AgesRiseBelow, tuples_of, tuple_at, without_age}
 use Rattle.tc_bag.proofs.Agreement.{Agrees-match, HasFirst-match}
-use Rattle.tc_bag.proofs.Ages.{Rises-below, others_before, without_age-at, tuple_at-at}
+use Rattle.tc_bag.proofs.Ages.{AgesRiseBelow-all, others_before, without_age-at, tuple_at-at}
 use Rattle.tc_search.specs.Found.{IsFound}
 
 -- the rows behind a row are younger
-pub Rises-behind : (xs ys : List Row) (r : Row) (next : ℕ) → Rises (xs ++ r ∷ ys) next → All (λ s. r.age < s.age) ys
-Rises-behind [] ys r next rises = rises.1
-Rises-behind (x ∷ xs) ys r next rises = Rises-behind xs ys r next rises.2
+pub AgesRiseBelow-behind : (xs ys : List Row) (r : Row) (next : ℕ) → AgesRiseBelow (xs ++ r ∷ ys) next → All (λ s. r.age < s.age) ys
+AgesRiseBelow-behind [] ys r next rises = rises.1
+AgesRiseBelow-behind (x ∷ xs) ys r next rises = AgesRiseBelow-behind xs ys r next rises.2
 
 -- the row's age is at least this number, and its tuple has the property
 abbrev pub IsAmong : (Tree → Type 0) → ℕ → Row → Type 0
 IsAmong Q from row = (from ≤ row.age) × Q row.tuple
 
 -- a candidate's age
-pub candidate_below : (Q : Tree → Type 0) (from next : ℕ) (rows : List Row) (row : Row) → Rises rows next
+pub candidate_below : (Q : Tree → Type 0) (from next : ℕ) (rows : List Row) (row : Row) → AgesRiseBelow rows next
     → IsFirst (IsAmong Q from) rows row → row.age < next
 candidate_below Q from next rows row rises first =
     All-head (λ r. r.age < next) row first.behind
     (All-append_right (λ r. r.age < next) first.before (row ∷ first.behind)
-    (subst (All (λ r. r.age < next)) first.split (Rises-below rows next rises)))
+    (subst (All (λ r. r.age < next)) first.split (AgesRiseBelow-all rows next rises)))
 
 module _ (P : Tree → Type 0) where
   -- no row below this age has the property
@@ -64,7 +64,7 @@ module _ (P : Tree → Type 0) where
       ]
 
   -- nor has one up to the candidate, where it hasn't
-  pub passed_more : (Q : Tree → Type 0) (from next : ℕ) (rows : List Row) (row : Row) → Rises rows next → IsKey Q rows
+  pub passed_more : (Q : Tree → Type 0) (from next : ℕ) (rows : List Row) (row : Row) → AgesRiseBelow rows next → IsKey Q rows
       → IsPassed from rows → IsFirst (IsAmong Q from) rows row → (P row.tuple → ⊥)
       → IsPassed (row.age + 1) rows
   passed_more Q from next rows row rises keys passed first never =
@@ -75,7 +75,7 @@ module _ (P : Tree → Type 0) where
       (none_before Q from rows row keys passed first))
       (All-cons Passed row first.behind (λ older. never)
       (All-weaker (λ r. row.age < r.age) Passed (λ r younger older has. absurd (omega (arith, younger, older))) first.behind
-      (Rises-behind first.before first.behind row next (subst (λ rs. Rises rs next) first.split rises)))))
+      (AgesRiseBelow-behind first.before first.behind row next (subst (λ rs. AgesRiseBelow rs next) first.split rises)))))
 
   -- where there is no candidate, no tuple has the property
   pub passed_all : (Q : Tree → Type 0) (from : ℕ) (rows : List Row) → IsKey Q rows → IsPassed from rows
@@ -90,24 +90,24 @@ module _ (P : Tree → Type 0) where
       ]))
 
 -- what a bag has by the age of a row
-pub tuple_at-row : (rows before behind : List Row) (row : Row) (next : ℕ) → Rises rows next
+pub tuple_at-row : (rows before behind : List Row) (row : Row) (next : ℕ) → AgesRiseBelow rows next
     → rows ≡ before ++ row ∷ behind → tuple_at row.age rows ≡ Some row.tuple
 tuple_at-row rows before behind row next rises split =
     ap (tuple_at row.age) split
     ∙ tuple_at-at row.age before behind row
-    (others_before before behind row next (subst (λ rs. Rises rs next) split rises)) refl
+    (others_before before behind row next (subst (λ rs. AgesRiseBelow rs next) split rises)) refl
 
-pub without_age-row : (rows before behind : List Row) (row : Row) (next : ℕ) → Rises rows next
+pub without_age-row : (rows before behind : List Row) (row : Row) (next : ℕ) → AgesRiseBelow rows next
     → rows ≡ before ++ row ∷ behind → tuples_of (without_age row.age rows) ≡ tuples_of before ++ tuples_of behind
 without_age-row rows before behind row next rises split =
     ap (λ rs. tuples_of (without_age row.age rs)) split
     ∙ ap tuples_of (without_age-at row.age before behind row
-    (others_before before behind row next (subst (λ rs. Rises rs next) split rises)) refl)
+    (others_before before behind row next (subst (λ rs. AgesRiseBelow rs next) split rises)) refl)
     ∙ map-append (λ (r : Row). r.tuple) before behind
 
 -- a candidate that the template matches is found
 pub found_row : (n : ℕ) (es : List Equation) (template : Tree) (Q : Tree → Type 0) (from next : ℕ) (rows : List Row) (row : Row)
-    → Rises rows next → IsKey (Matches n es template) Q rows → IsPassed (Matches n es template) from rows
+    → AgesRiseBelow rows next → IsKey (Matches n es template) Q rows → IsPassed (Matches n es template) from rows
     → IsFirst (IsAmong Q from) rows row → Matches n es template row.tuple
     → IsFound n es template rows row.age row.tuple
 found_row n es template Q from next rows row rises keys passed first match =

@@ -12,4 +12,6 @@ pub mod Seeing
 pub mod Polled
 pub mod Becoming
 pub mod Pausing
+pub mod There
+pub mod Light
 pub mod Sends

@@ -7,3 +7,4 @@ pub mod Turns
 pub mod Looking
 pub mod Polling
 pub mod Pausing
+pub mod There

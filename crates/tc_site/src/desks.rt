@@ -1,7 +1,10 @@
 //! Desks of agents.
-ghost use Rattle.std.specs.Prelude.{◌≡◌, ◌<◌, true, ℕ, length, IfOk, OnErr};
-ghost use Rattle.tc_site.specs.Desks.{IsNewDesk, IsSound, desk_of};
+ghost use Rattle.std.specs.Prelude.{◌≡◌, ◌≤◌, ◌<◌, true, ℕ, length, slice_index, IfOk, OnErr, MatchResult};
+ghost use Rattle.tc_desk.specs.Desks.{Keeps, Makes, Polls, Refuses, Spends};
+ghost use Rattle.tc_model.specs.declared.limits.TheConstants.{MOST_WEIGHT};
+ghost use Rattle.tc_site.specs.Desks.{IsDesk, IsNewDesk, IsSound, desk_of};
 ghost use Rattle.tc_site.specs.Pausing.{HasNoneLeft, HoldsTurn, Pauses, Resumes};
+ghost use Rattle.tc_site.specs.There.{IsCallThere, IsPollThere, bond_of};
 
 use crate::judging::{Allowed, judge};
 use crate::kits::{DeskKit, EndedDesk};
@@ -80,8 +83,19 @@ impl<'a, W: Warden + Drop> AgentDesk<'a, W> {
         }
     }
 
+    /// How many entries it has seen at the centre of this place. Places are those of the site's names, from 0.
+    pub fn seen(&self, centre: u32) -> u64
+        requires inside { centre < length self.now.site.names }
+        ensures count { result ≡ slice_index (desk_of self.now).seen centre }
+        ensures few { result ≤ MOST_WEIGHT }
+        ensures agrees { IsDesk self.now }
+    {
+        let _ = self.site.names();
+        self.passes[centre as usize].known()
+    }
+
     /// Takes a turn at the centre of this place and holds it, with the core, until `resume`. Nobody else is
-    /// served there meanwhile, and the desk makes no call. Places are those of the site's names, from 0.
+    /// served there meanwhile, and the desk makes no call.
     pub fn pause<R: Wait>(&mut self, rt: &R, centre: u32) -> Result<Paused, TurnsSpent>
         requires free { (desk_of self.old).free ≡ true }
         requires inside { centre < length self.old.site.names }
@@ -154,7 +168,20 @@ impl<'a, W: Warden + Drop> Desk for AgentDesk<'a, W> {
         alloc: Global,
         centre: &Name,
         ask: Ask,
-    ) -> Result<Served, Refusal> {
+    ) -> Result<Served, Refusal>
+        requires free { (desk_of self.old).free ≡ true }
+        ensures bond { bond_of self.new ≡ bond_of self.old }
+        ensures kept { Keeps (desk_of self.old) (desk_of self.new) }
+        ensures turns { Spends 1 (desk_of self.old) (desk_of self.new) }
+        ensures sound { IsSound W.permits self.old.site self.old.agent self.old.log
+            → IsSound W.permits self.new.site self.new.agent self.new.log }
+        ensures became { MatchResult result
+            (λ served. Makes (desk_of self.old) centre.now ask served (desk_of self.new))
+            (λ why. Refuses (desk_of self.old) centre.now ask why (desk_of self.new)) }
+
+        // What it came to at the centre of this name.
+        ensures there { IsCallThere self.old centre.now ask result self.new }
+    {
         if self.log.reserve(1).is_err() {
             return Err(Refusal::NoMemory);
         }
@@ -213,7 +240,18 @@ impl<'a, W: Warden + Drop> Desk for AgentDesk<'a, W> {
         waited
     }
 
-    fn poll<R: Wait>(&mut self, rt: &R, alloc: Global) -> Result<Seen, DeskFault> {
+    fn poll<R: Wait>(&mut self, rt: &R, alloc: Global) -> Result<Seen, DeskFault>
+        requires free { (desk_of self.old).free ≡ true }
+        ensures bond { bond_of self.new ≡ bond_of self.old }
+        ensures kept { Keeps (desk_of self.old) (desk_of self.new) }
+        ensures turns { Spends 1 (desk_of self.old) (desk_of self.new) }
+        ensures sound { IsSound W.permits self.old.site self.old.agent self.old.log
+            → IsSound W.permits self.new.site self.new.agent self.new.log }
+        ensures became { Polls (desk_of self.old) result (desk_of self.new) }
+
+        // What it came to at the centre of the pending row.
+        ensures there { IsPollThere self.old result self.new }
+    {
         let Some(at) = self.pending else {
             return Err(DeskFault::Idle);
         };

@@ -11,7 +11,7 @@ use Rattle.tc_model.specs.declared.events.EventOp.{EventOp}
 use Rattle.tc_model.specs.declared.faults.SpecCause.TheVariants as cause
 use Rattle.tc_model.specs.declared.goals.Goal.{Goal}
 use Rattle.tc_spec.proofs.Nesting.{clause-nested}
-use Rattle.tc_spec.specs.Written.{IsGoalTerm, IsCausedBy, Spells, leaves, nested, clause_of_parts}
+use Rattle.tc_spec.specs.Written.{IsGoalTerm, IsCausedBy, SpellsRule, leaves, nested, clause_of_parts}
 
 -- the leaves were pushed behind none
 pub pushed_only : (old new : List Term) (b : Tree) → old ≡ [] → map tree_of new ≡ map tree_of old ++ leaves b
@@ -25,7 +25,7 @@ caused_goal t u a b o old new same parts none pushed never =
     (o, a, b, sym same ∙ parts, λ all. never (subst (All IsGoalTerm) (sym (pushed_only old new b none pushed)) all))
 
 pub spelt : (t u b : Tree) (r : Rule) (old new : List Term) → u ≡ t → u ≡ clause_of_parts r.op r.head b
-    → old ≡ [] → map tree_of new ≡ map tree_of old ++ leaves b → map goal_term r.goals ≡ map tree_of new → Spells t r
+    → old ≡ [] → map tree_of new ≡ map tree_of old ++ leaves b → map goal_term r.goals ≡ map tree_of new → SpellsRule t r
 spelt t u b r old new same parts none pushed goals = record {
   body = b;
   parts = sym same ∙ parts;

@@ -12,7 +12,7 @@ use Rattle.tc_model.specs.declared.faults.SpecCause.TheVariants as cause
 use Rattle.tc_model.specs.declared.goals.Goal.{Goal}
 use Rattle.tc_spec.proofs.Nesting.{body-nested}
 use Rattle.tc_spec.specs.Answers.{IsReactionFault, IsThisFault, IsWant}
-use Rattle.tc_spec.specs.Written.{IsGoalTerm, IsCausedBy, IsWrittenAs, Spells, leaves, nested, clause_of_parts}
+use Rattle.tc_spec.specs.Written.{IsGoalTerm, IsCausedBy, IsWrittenAs, SpellsRule, leaves, nested, clause_of_parts}
 use Rattle.tc_spec.specs.declared.faults.ReactionFault.{ReactionFault}
 use Rattle.tc_spec.specs.declared.faults.ReactionFault.TheVariants as fault
 
@@ -35,23 +35,23 @@ goal_terms : (gs : List Goal) → All IsGoalTerm (map goal_term gs)
 goal_terms [] = All-nil IsGoalTerm
 goal_terms (g ∷ gs) = All-cons IsGoalTerm (goal_term g) (map goal_term gs) (g, refl) (goal_terms gs)
 
-pub goal_spells : (t : Tree) (r : Rule) → Spells t r → IsCausedBy t cause.Goal → ⊥
+pub goal_spells : (t : Tree) (r : Rule) → SpellsRule t r → IsCausedBy t cause.Goal → ⊥
 goal_spells t r s why =
     let body : s.body ≡ why.2 =
     one_body (of_one (op_name r.op) r.head) s.body (of_one (op_name why.0) why.1) why.2 (sym s.parts ∙ why.3) in
     why.4 (subst (All IsGoalTerm) (sym s.goals ∙ ap leaves body) (goal_terms r.goals))
 
 -- two rules that it spells have the same clause
-pub same_goals : (t : Tree) (r q : Rule) → Spells t r → Spells t q → map goal_term r.goals ≡ map goal_term q.goals
+pub same_goals : (t : Tree) (r q : Rule) → SpellsRule t r → SpellsRule t q → map goal_term r.goals ≡ map goal_term q.goals
 same_goals t r q s p =
     let body : s.body ≡ p.body =
     one_body (of_one (op_name r.op) r.head) s.body (of_one (op_name q.op) q.head) p.body (sym s.parts ∙ p.parts) in
     sym s.goals ∙ ap leaves body ∙ p.goals
 
-same_length : (t : Tree) (r q : Rule) → Spells t r → Spells t q → length r.goals ≡ length q.goals
+same_length : (t : Tree) (r q : Rule) → SpellsRule t r → SpellsRule t q → length r.goals ≡ length q.goals
 same_length t r q s p = omega (arith, ap length (same_goals t r q s p), length-map r.goals goal_term, length-map q.goals goal_term)
 
-pub same_clause : (t : Tree) (r q : Rule) → Spells t r → Spells t q → clause_term r ≡ clause_term q
+pub same_clause : (t : Tree) (r q : Rule) → SpellsRule t r → SpellsRule t q → clause_term r ≡ clause_term q
 same_clause t r q s p =
     ap₂ (of_two (codes "reaction"))
     (one_head (of_one (op_name r.op) r.head) s.body (of_one (op_name q.op) q.head) p.body (sym s.parts ∙ p.parts))
@@ -79,10 +79,10 @@ shape_goal t h k = shape_parts t k.1 k.2 k.0 k.3 h
 head_goal : (t : Tree) → IsCausedBy t cause.Head → IsCausedBy t cause.Goal → ⊥
 head_goal t h k = head_parts t k.1 k.2 k.0 k.3 h
 
-pub shape_spells : (t : Tree) (r : Rule) → Spells t r → IsCausedBy t cause.Shape → ⊥
+pub shape_spells : (t : Tree) (r : Rule) → SpellsRule t r → IsCausedBy t cause.Shape → ⊥
 shape_spells t r s h = shape_parts t r.head s.body r.op s.parts h
 
-pub head_spells : (t : Tree) (r : Rule) → Spells t r → IsCausedBy t cause.Head → ⊥
+pub head_spells : (t : Tree) (r : Rule) → SpellsRule t r → IsCausedBy t cause.Head → ⊥
 head_spells t r s h = head_parts t r.head s.body r.op s.parts h
 
 pub same_cause : (t : Tree) (c d : SpecCause) → IsCausedBy t c → IsCausedBy t d → c ≡ d

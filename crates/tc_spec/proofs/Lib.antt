@@ -1,5 +1,4 @@
 pub mod Sifting
-pub mod Meeting
 pub mod Nesting
 pub mod Tables
 pub mod Failing

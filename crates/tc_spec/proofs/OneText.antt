@@ -13,7 +13,7 @@ use Rattle.tc_spec.proofs.Decoding.{one_rule}
 use Rattle.tc_spec.proofs.Exact.{excluded, same_cause, shape_spells, head_spells, goal_spells}
 use Rattle.tc_spec.specs.TextAnswers.{IsTextFault, IsTextWant, IsThisBad}
 use Rattle.tc_spec.specs.Texts.{AreSpelt, HasBadSpec, IsClauseAt, IsFaulty, IsRefused, IsSpelt, IsUnread, Reads}
-use Rattle.tc_spec.specs.Written.{IsCausedBy, IsWrittenAs, Spells}
+use Rattle.tc_spec.specs.Written.{IsCausedBy, IsWrittenAs, SpellsRule}
 use Rattle.tc_spec.specs.declared.faults.SpecFault.{SpecFault}
 use Rattle.tc_spec.specs.declared.faults.SpecFault.TheVariants.{Bad, NoMemory}
 
@@ -100,7 +100,7 @@ own_cause count t cause.Head room h = h
 own_cause count t cause.Goal room h = h
 
 -- where there is none, a clause that spells a rule is one too many
-one_too_many : (count : ℕ) (t : Tree) (r : Rule) (why : SpecCause) → Spells t r → MOST_CLAUSES ≤ count → IsRefused count t why
+one_too_many : (count : ℕ) (t : Tree) (r : Rule) (why : SpecCause) → SpellsRule t r → MOST_CLAUSES ≤ count → IsRefused count t why
     → why ≡ cause.Count
 one_too_many count t r cause.Count spells full h = refl
 one_too_many count t r cause.Size spells full h = absurd (omega (arith, h.0, full))
@@ -111,7 +111,7 @@ one_too_many count t r cause.Goal spells full h = absurd (goal_spells t r spells
 
 -- a clause is refused for its own cause, or is one too many
 by_cause : (count : ℕ) (t : Tree) (why : SpecCause) → IsRefused count t why
-    → IsCausedBy t why ⊎ ((r : Rule) × Spells t r × (MOST_CLAUSES ≤ count))
+    → IsCausedBy t why ⊎ ((r : Rule) × SpellsRule t r × (MOST_CLAUSES ≤ count))
 by_cause count t cause.Count (r, spells, inl many) = inl (r, spells, many)
 by_cause count t cause.Count (r, spells, inr full) = inr (r, spells, full)
 by_cause count t cause.Size h = inl h.1
@@ -123,8 +123,8 @@ by_cause count t cause.Goal h = inl h
 same_refusal : (count : ℕ) (t : Tree) (c d : SpecCause) → IsRefused count t c → IsRefused count t d → c ≡ d
 same_refusal count t c d h k = by (by_cause count t c h) (by_cause count t d k)
   where
-    by : IsCausedBy t c ⊎ ((r : Rule) × Spells t r × (MOST_CLAUSES ≤ count))
-        → IsCausedBy t d ⊎ ((r : Rule) × Spells t r × (MOST_CLAUSES ≤ count)) → c ≡ d
+    by : IsCausedBy t c ⊎ ((r : Rule) × SpellsRule t r × (MOST_CLAUSES ≤ count))
+        → IsCausedBy t d ⊎ ((r : Rule) × SpellsRule t r × (MOST_CLAUSES ≤ count)) → c ≡ d
     by (inl own) (inl other) = same_cause t c d own other
     by (inr (r, spells, full)) y =
         one_too_many count t r c spells full h ∙ sym (one_too_many count t r d spells full k)

@@ -3,11 +3,11 @@ use Rattle.std.proofs.Common.{◌≡◌, ◌≤◌, ◌+◌, ◌++◌, ℕ, Bool
 use Rattle.std.proofs.Math.Seq.{drop-append_seam}
 use Rattle.std.specs.Char.{is_ascii_digit}
 use Rattle.std.proofs.lemmas.List.Elements.{All-head, All-tail}
-use Rattle.tc_term.specs.Faults.{Answer, Answers, Found, IsRead, Nothing}
+use Rattle.tc_term.specs.Faults.{Answer, AnswersTokens, Found, ReadsAs, Nothing}
 use Rattle.tc_term.specs.Layouts.{At, Layout, NoPiece, Piece, Scan, Stop, TextEnd, at_clause_end, at_no_token, at_text_end, blank, layout, no_layout, token}
 use Rattle.tc_term.specs.Text as text
 use Rattle.tc_term.specs.Text.{canonical}
-use Rattle.tc_term.specs.Tokens.{Lexeme, Spells, Word, Variable, Number, Quoted, Symbol, Punctuation, Open, Close, OpenList, CloseList, Comma, Bar}
+use Rattle.tc_term.specs.Tokens.{Lexeme, SpellsToken, Word, Variable, Number, Quoted, Symbol, Punctuation, Open, Close, OpenList, CloseList, Comma, Bar}
 use Rattle.tc_term.specs.declared.comparison.Cmp.TheVariants as cmp
 use Rattle.tc_model.specs.Reactions.{AreClauses, IsRule, Rule, body_term, clause_term, clauses_text, goal_term}
 use Rattle.tc_model.specs.declared.goals.Goal.{Goal}
@@ -65,7 +65,7 @@ IsPlain _ = Unit {0}
 first_byte : (b c : ℕ) (s t : List ℕ) → b ∷ s ≡ c ∷ t → b ≡ c
 first_byte b c s t same = cc
 
-plain_letter : (s rest front after : List ℕ) (lexeme : Lexeme) → s ≡ 114 ∷ rest → s ≡ front ++ after → Spells front lexeme → IsPlain lexeme
+plain_letter : (s rest front after : List ℕ) (lexeme : Lexeme) → s ≡ 114 ∷ rest → s ≡ front ++ after → SpellsToken front lexeme → IsPlain lexeme
 plain_letter s rest [] after (Number n) is split spelt = spelt.1
 plain_letter s rest (b ∷ front) after (Number n) is split spelt =
     let digit : is_ascii_digit 114 ≡ true =
@@ -88,7 +88,7 @@ abbrev first_token : ℕ → Lexeme → Bool → List At → List At
 first_token place lexeme glued ts = record { lexeme = lexeme; place = place; glued = glued } ∷ ts
 
 glued_or_not : (size place : ℕ) (g h : Bool) (lexeme : Lexeme) (ts : List At) (stop : Stop) (a : Answer) → IsPlain lexeme
-    → Answers true size (first_token place lexeme g ts) stop a → Answers true size (first_token place lexeme h ts) stop a
+    → AnswersTokens true size (first_token place lexeme g ts) stop a → AnswersTokens true size (first_token place lexeme h ts) stop a
 glued_or_not size place g h (Word w) ts stop a p x = x
 glued_or_not size place g h (Variable w) ts stop a p x = x
 glued_or_not size place g h (Number n) ts stop a p x = absurd p
@@ -114,7 +114,7 @@ line_feed : (s : List ℕ) → Piece (10 ∷ s) s
 line_feed s = blank refl
 
 scanned : (size : ℕ) (s rest : List ℕ) (a : Answer) → s ≡ 114 ∷ rest → {ts : List At} {stop : Stop} → Scan true size s ts stop
-    → Answers true size ts stop a → IsRead true size (10 ∷ s) a
+    → AnswersTokens true size ts stop a → ReadsAs true size (10 ∷ s) a
 scanned size s rest a is (at_text_end l) x = ([], TextEnd, at_text_end (layout (line_feed s) l), x)
 scanned size s rest a is (at_clause_end e l b) x = ([], _, at_clause_end e (layout (line_feed s) l) b, x)
 scanned size s rest a is (at_no_token l n f) x = ([], _, at_no_token (layout (line_feed s) l) n f, x)
@@ -126,14 +126,14 @@ scanned size s rest a is (token {mid} {front} {after} {lexeme} {ts} {stop} l lon
       (plain_letter s rest front after lexeme is (stays (no_layout_letter s rest is) l ∙ longest.split) longest.spelled) x,
 )
 
-behind_line_feed : (size : ℕ) (s rest : List ℕ) (a : Answer) → s ≡ 114 ∷ rest → IsRead true size s a → IsRead true size (10 ∷ s) a
+behind_line_feed : (size : ℕ) (s rest : List ℕ) (a : Answer) → s ≡ 114 ∷ rest → ReadsAs true size s a → ReadsAs true size (10 ∷ s) a
 behind_line_feed size s rest a is x = scanned size s rest a is x.2 x.3
 
 -- nothing is left at the end, nor at a line feed there
-nothing_left : (size : ℕ) → IsRead true size [] Nothing
+nothing_left : (size : ℕ) → ReadsAs true size [] Nothing
 nothing_left size = ([], TextEnd, at_text_end (no_layout no_piece_empty), refl)
 
-nothing_behind : (size : ℕ) → IsRead true size (10 ∷ []) Nothing
+nothing_behind : (size : ℕ) → ReadsAs true size (10 ∷ []) Nothing
 nothing_behind size = ([], TextEnd, at_text_end (layout (line_feed []) (no_layout no_piece_empty)), refl)
 
 -- the text from a rule's clause on
@@ -172,10 +172,10 @@ clause_read_behind text before more r rule is =
     let there : text ≡ fed ++ clause_on r more = is ∙ sym (append_assoc before (10 ∷ []) (clause_on r more)) in
     let far : length fed ≡ length before + 1 = length-append before (10 ∷ []) in
     let a = Found (clause_term r) (place_behind (length before + 1) r) in
-    let read : IsRead true (length text) (clause_on r more) a =
-    subst (λ s. IsRead true (length text) s a) (rest_from text fed (clause_on r more) there)
+    let read : ReadsAs true (length text) (clause_on r more) a =
+    subst (λ s. ReadsAs true (length text) s a) (rest_from text fed (clause_on r more) there)
     (subst (λ k. Reads text (length fed) (Found (clause_term r) (place_behind k r))) far (clause_read text fed more r rule there)) in
-    subst (λ s. IsRead true (length text) s a) (sym (rest_from text before (10 ∷ clause_on r more) is))
+    subst (λ s. ReadsAs true (length text) s a) (sym (rest_from text before (10 ∷ clause_on r more) is))
     (behind_line_feed (length text) (clause_on r more) (drop 1 (clause_on r more)) a (begins r more) read)
 
 -- the clauses are spelt from a place on, and nothing else
@@ -190,7 +190,7 @@ one_more text from behind r rs rule read rest =
 spelt_behind : (text before : List ℕ) (rs : List Rule) → All IsRule rs → text ≡ before ++ 10 ∷ clauses_text rs
     → AreAllSpelt text (length before) rs
 spelt_behind text before [] rules is =
-    (length before, refl, subst (λ s. IsRead true (length text) s Nothing) (sym (rest_from text before (10 ∷ []) is)) (nothing_behind (length text)))
+    (length before, refl, subst (λ s. ReadsAs true (length text) s Nothing) (sym (rest_from text before (10 ∷ []) is)) (nothing_behind (length text)))
 spelt_behind text before (r ∷ rs) rules is =
     let c = canonical (clause_term r) in
     let front = before ++ (10 ∷ c ++ codes ".") in

@@ -1,6 +1,6 @@
 -- Texts of clauses, and what is wrong with the others.
 use Rattle.std.specs.Prelude.{◌≡◌, ◌<◌, ◌≤◌, ◌+◌, ◌⊎◌, ℕ, true, List, [], ◌∷◌, drop, length}
-use Rattle.tc_term.specs.Faults.{Answer, Found, IsRead, Nothing, TooBig, TooMany, WideInt}
+use Rattle.tc_term.specs.Faults.{Answer, Found, ReadsAs, Nothing, TooBig, TooMany, WideInt}
 use Rattle.tc_term.specs.Faults as answer
 use Rattle.tc_term.specs.Tree.{Tree}
 use Rattle.tc_model.specs.Reactions.{Rule}
@@ -8,11 +8,11 @@ use Rattle.tc_model.specs.declared.faults.BadSpec.{BadSpec}
 use Rattle.tc_model.specs.declared.faults.SpecCause.{SpecCause}
 use Rattle.tc_model.specs.declared.faults.SpecCause.TheVariants as cause
 use Rattle.tc_model.specs.declared.limits.TheConstants.{MOST_CLAUSES, MOST_GOALS}
-use Rattle.tc_spec.specs.Written.{IsCausedBy, IsWrittenAs, Spells}
+use Rattle.tc_spec.specs.Written.{IsCausedBy, IsWrittenAs, SpellsRule}
 
 -- the reader of clauses answers this at this place of the text
 abbrev pub Reads : List ℕ → ℕ → Answer → Type 0
-Reads text from answer = IsRead true (length text) (drop from text) answer
+Reads text from answer = ReadsAs true (length text) (drop from text) answer
 
 -- a clause stands in the text from one place to another, and is written as this rule
 pub record IsClauseAt (text : List ℕ) (from : ℕ) (r : Rule) (behind : ℕ) : Type 0 where
@@ -48,7 +48,7 @@ IsTooMuch count r = (MOST_GOALS < length r.goals) ⊎ (MOST_CLAUSES ≤ count)
 -- the first cause for which a clause behind so many others is refused, in the order of shape, head,
 -- goal, count, size
 abbrev pub IsRefused : ℕ → Tree → SpecCause → Type 0
-IsRefused count t cause.Count = (r : Rule) × Spells t r × IsTooMuch count r
+IsRefused count t cause.Count = (r : Rule) × SpellsRule t r × IsTooMuch count r
 IsRefused count t cause.Size = (count < MOST_CLAUSES) × IsCausedBy t cause.Size
 IsRefused count t why = IsCausedBy t why
 

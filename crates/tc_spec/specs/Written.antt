@@ -47,7 +47,7 @@ abbrev pub clause_of_parts : EventOp → Tree → Tree → Tree
 clause_of_parts o head body = of_two (codes "reaction") (of_one (op_name o) head) body
 
 -- the term is a clause of the rule's head and of its goals, however its body is nested
-pub record Spells (t : Tree) (r : Rule) : Type 0 where
+pub record SpellsRule (t : Tree) (r : Rule) : Type 0 where
   pub body : Tree
   pub parts : t ≡ clause_of_parts r.op r.head body
   pub goals : leaves body ≡ map goal_term r.goals
@@ -55,7 +55,7 @@ pub record Spells (t : Tree) (r : Rule) : Type 0 where
 -- the term is written as the rule: it spells it, and it is one, which is few enough goals and a
 -- clause that can be read back
 pub record IsWrittenAs (t : Tree) (r : Rule) : Type 0 where
-  pub spells : Spells t r
+  pub spells : SpellsRule t r
   pub rule : IsRule r
 
 -- the first cause for which a term is no reaction, in the order of shape, head, goal, count, size
@@ -66,6 +66,6 @@ IsCausedBy t cause.Head = (h : Tree) × (b : Tree) × IsTwo (codes "reaction") t
 IsCausedBy t cause.Goal =
     (o : EventOp) × (a : Tree) × (b : Tree) × (t ≡ clause_of_parts o a b)
     × (All IsGoalTerm (leaves b) → ⊥)
-IsCausedBy t cause.Count = (r : Rule) × Spells t r × (MOST_GOALS < length r.goals)
+IsCausedBy t cause.Count = (r : Rule) × SpellsRule t r × (MOST_GOALS < length r.goals)
 IsCausedBy t cause.Size =
-    (r : Rule) × Spells t r × (length r.goals ≤ MOST_GOALS) × (IsReadable (clause_term r) → ⊥)
+    (r : Rule) × SpellsRule t r × (length r.goals ≤ MOST_GOALS) × (IsReadable (clause_term r) → ⊥)

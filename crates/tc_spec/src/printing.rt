@@ -6,7 +6,7 @@ ghost use Rattle.tc_model.specs.Reactions.{clause_term, clauses_text};
 
 use crate::terms::clause_of;
 use std::alloc::Global;
-use tc_lists::NoMemory;
+use tc_lists::{NoMemory, cut_back};
 use tc_model::{Clauses, Reaction};
 use tc_print::print_term;
 
@@ -18,11 +18,8 @@ pub fn print_spec(alloc: Global, clauses: &Clauses, into: &mut Vec<u8>) -> Resul
     ensures same { OnErr result (into.new.items ≡ into.old.items) }
 {
     let before = into.len();
-    if let Err(fault) = write_clauses(alloc, clauses.items(), into) {
-        into.truncate(before);
-        return Err(fault);
-    }
-    Ok(())
+    let written = write_clauses(alloc, clauses.items(), into);
+    cut_back(written, before, into)
 }
 
 // The same, where the text may be cut off after an `Err`.

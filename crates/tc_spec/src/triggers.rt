@@ -1,8 +1,8 @@
 //! The clauses of an operation, and those of them whose heads meet an event.
-ghost use Rattle.std.specs.Prelude.{◌≡◌, ◌≤◌, ◌+◌, ◌↔◌, ◌++◌, ◌∷◌, [], if◌then◌else◌};
+ghost use Rattle.std.specs.Prelude.{◌≡◌, ◌≤◌, ◌↔◌, ◌++◌, ◌∷◌, [], if◌then◌else◌};
 ghost use Rattle.std.specs.Prelude.{length, false, ℕ, List, IsTrue, IfOk, OnOk};
-ghost use Rattle.tc_term.specs.Variables.{var_bound, raised};
-ghost use Rattle.tc_term.specs.Equations.{Solvable, under};
+ghost use Rattle.tc_term.specs.Variables.{raised};
+ghost use Rattle.tc_term.specs.Equations.{under};
 ghost use Rattle.tc_term.specs.Tree.{Tree};
 ghost use Rattle.tc_term.specs.TreeView.{tree_of};
 ghost use Rattle.tc_model.specs.Triggers.{AreTriggered, IsTriggered};
@@ -13,7 +13,7 @@ use std::alloc::Global;
 use tc_lists::NoMemory;
 use tc_model::{Event, EventOp, Reaction};
 use tc_term::Term;
-use tc_unify::{Part, Store};
+use tc_unify::Store;
 
 /// The numbers of the clauses of an operation, from 1, rising.
 pub fn numbers_of(alloc: Global, clauses: &[Reaction], o: EventOp) -> Result<Vec<u32>, NoMemory>
@@ -74,12 +74,13 @@ fn is_triggered(store: &mut Store, r: &Reaction, e: &Event) -> Result<bool, NoMe
     if !has_op(r, e.op()) {
         return Ok(false);
     }
+    let head = r.head();
     let term = e.term();
-    if !could_meet(r.head(), term.term()) {
+    if !could_meet(head, term.term()) {
         return Ok(false);
     }
-    let meets = does_meet(store, r, e)?;
-    Ok(meets)
+    let met = store.meet(head, r.vars(), term)?;
+    Ok(met)
 }
 
 // Whether two terms are alike without their arguments, or one is a variable. Else no valuation makes
@@ -98,38 +99,4 @@ fn could_meet(head: &Term, term: &Term) -> bool
         }
         _ => false,
     }
-}
-
-// Whether the head of a reaction can be made equal to an event's term.
-fn does_meet(store: &mut Store, r: &Reaction, e: &Event) -> Result<bool, NoMemory>
-    ensures yes { IfOk result (λ y. IsTrue y → Solvable (r.now.vars + var_bound e.now.term)
-        ((r.now.head, raised r.now.vars e.now.term) ∷ [])) }
-    ensures no { IfOk result (λ y. y ≡ false → Solvable (r.now.vars + var_bound e.now.term)
-        ((r.now.head, raised r.now.vars e.now.term) ∷ []) → ⊥) }
-{
-    let vars = r.vars();
-    let term = e.term();
-    store.renew(vars + term.vars())?;
-    let met = meet(store, r, e)?;
-    Ok(met)
-}
-
-// Adds the equation of a reaction's head and an event's term to a store of no equations.
-fn meet(store: &mut Store, r: &Reaction, e: &Event) -> Result<bool, NoMemory>
-    requires { store.old ≡ record { vars = r.now.vars + var_bound e.now.term; pairs = [] } }
-    ensures added { IfOk result (λ y. IsTrue y → Solvable (r.now.vars + var_bound e.now.term)
-        ((r.now.head, raised r.now.vars e.now.term) ∷ [])) }
-    ensures refused { IfOk result (λ y. y ≡ false → Solvable (r.now.vars + var_bound e.now.term)
-        ((r.now.head, raised r.now.vars e.now.term) ∷ []) → ⊥) }
-{
-    let left = Part {
-        term: r.head(),
-        shift: 0,
-    };
-    let right = Part {
-        term: e.term().term(),
-        shift: r.vars(),
-    };
-    let added = store.add(left, right)?;
-    Ok(added)
 }

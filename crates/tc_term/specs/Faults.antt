@@ -216,11 +216,11 @@ Stopped true size ts TextEnd a = Unended size ts a
 Stopped false size ts TextEnd a = Ended size ts TextEnd a
 
 -- the first rule that applies decides
-abbrev pub Answers : Bool → ℕ → List At → Stop → Answer → Type 0
-Answers clauses size ts stop a =
+abbrev pub AnswersTokens : Bool → ℕ → List At → Stop → Answer → Type 0
+AnswersTokens clauses size ts stop a =
     MatchOption (first_wide ts) (Stopped clauses size ts stop a) (λ place. a ≡ WideInt place)
 
 -- the bytes s, at the end of a text of this size, are read so
-abbrev pub IsRead : Bool → ℕ → List ℕ → Answer → Type 0
-IsRead clauses size s a = (ts : List At) × (stop : Stop) × Scan clauses size s ts stop
-    × Answers clauses size ts stop a
+abbrev pub ReadsAs : Bool → ℕ → List ℕ → Answer → Type 0
+ReadsAs clauses size s a = (ts : List At) × (stop : Stop) × Scan clauses size s ts stop
+    × AnswersTokens clauses size ts stop a

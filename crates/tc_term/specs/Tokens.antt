@@ -84,21 +84,21 @@ IsQuoted [] m = ⊥
 IsQuoted (b ∷ s) m = (b ≡ 39) × Inside s m
 
 -- the bytes s have the form of the token
-abbrev pub Spells : List ℕ → Lexeme → Type 0
-Spells s (Word w) = (s ≡ w) × IsWordFrom is_name_start s
-Spells s (Variable w) = (s ≡ w) × IsWordFrom is_variable_start s
-Spells s (Number n) = (n ≡ decimal_from 0 s) × IsDigits s
-Spells s (Quoted m) = IsQuoted s m
-Spells s (Symbol t) = s ≡ sign_bytes t
-Spells s (Punctuation t) = s ≡ mark_byte t ∷ []
+abbrev pub SpellsToken : List ℕ → Lexeme → Type 0
+SpellsToken s (Word w) = (s ≡ w) × IsWordFrom is_name_start s
+SpellsToken s (Variable w) = (s ≡ w) × IsWordFrom is_variable_start s
+SpellsToken s (Number n) = (n ≡ decimal_from 0 s) × IsDigits s
+SpellsToken s (Quoted m) = IsQuoted s m
+SpellsToken s (Symbol t) = s ≡ sign_bytes t
+SpellsToken s (Punctuation t) = s ≡ mark_byte t ∷ []
 
 -- the longest token at the front of the text
 pub record Longest (text s : List ℕ) (lexeme : Lexeme) (rest : List ℕ) : Type 0 where
   pub split : text ≡ s ++ rest
-  pub spelled : Spells s lexeme
-  pub longest : (s' rest' : List ℕ) (lexeme' : Lexeme) → text ≡ s' ++ rest' → Spells s' lexeme'
+  pub spelled : SpellsToken s lexeme
+  pub longest : (s' rest' : List ℕ) (lexeme' : Lexeme) → text ≡ s' ++ rest' → SpellsToken s' lexeme'
       → length s' ≤ length s
 
 -- the text begins with no token
 abbrev pub BeginsNone : List ℕ → Type 0
-BeginsNone text = (s rest : List ℕ) (lexeme : Lexeme) → text ≡ s ++ rest → Spells s lexeme → ⊥
+BeginsNone text = (s rest : List ℕ) (lexeme : Lexeme) → text ≡ s ++ rest → SpellsToken s lexeme → ⊥

@@ -16,6 +16,7 @@
 //! ```
 #![tactic(auto)]
 
+mod bytes;
 mod comparison;
 mod laws;
 mod limits;
@@ -25,6 +26,7 @@ mod template;
 mod terms;
 mod tuple;
 
+pub use bytes::{is_name, is_variable_start, is_word};
 pub use comparison::Cmp;
 pub use laws::{
     fewer_equations_have_more_solutions, ground_template_matches_itself, renumbering_keeps_matches,

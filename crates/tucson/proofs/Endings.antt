@@ -8,9 +8,9 @@ use Rattle.tc_config.specs.declared.faults.ConfigCause.TheVariants as cause
 use Rattle.tc_config.specs.declared.limits.TheConstants.{MOST_BYTES}
 use Rattle.tucson.specs.declared.status.Status.{Status}
 use Rattle.tucson.specs.declared.status.Status.TheVariants.{Ended, WriteFault, Refused, Blocked, ReadFault, NoMemory, Usage}
-use Rattle.tucson.specs.Answer.{Input, Whole, IsAnswer, IsInput, IsDue}
+use Rattle.tucson.specs.Answer.{Input, Unread, Whole, TooLong, IsAnswer, IsInput, IsDue}
 use Rattle.tucson.specs.Commands.{IsRun}
-use Rattle.tucson.specs.Ending.{Call, EndsAsDue, Ends, IsUnlessStopped, Tells, Writes}
+use Rattle.tucson.specs.Ending.{BreaksOff, Call, EndsAsDue, Ends, IsUnlessStopped, Tells, Writes}
 
 answers : (call : Call) (status same : Status) (input : Input) (text : List ℕ) → IsInput call.source.left call.source_after.left input → IsDue call.words input status text → (same ≡ status) × (call.sink_after.taken ≡ appended call.sink.taken text) → EndsAsDue call same
 answers call status same input text read due wrote = record {
@@ -42,6 +42,75 @@ pub Ends-told : (call : Call) (result : Status) (input : List ℕ) → IsRun cal
 Ends-told call result input run read (inl told) =
     Ends-written call told.status result (Whole input) told.text read (run, told.is) told.writes
 Ends-told call result input run read (inr none) = subst (Ends call) (sym none.0) (inl none.1)
+
+-- what is due to a call that asks for a run is due whatever its words are
+module _ (words other : List (List ℕ)) (run : IsRun words) (runs : IsRun other) where
+  due_too : (input : Input) (status : Status) (text : List ℕ) → IsDue words input status text → IsDue other input status text
+  due_too Unread Usage text due = absurd (due.0 run)
+  due_too Unread Ended text due = absurd due
+  due_too Unread WriteFault text due = absurd due
+  due_too Unread (Refused clause why) text due = absurd due
+  due_too Unread Blocked text due = absurd due
+  due_too Unread ReadFault text due = absurd due
+  due_too Unread NoMemory text due = absurd due
+  due_too (Whole input) status text due = (runs, due.1)
+  due_too TooLong (Refused clause cause.Length) text due = (runs, due.1, due.2)
+  due_too TooLong (Refused clause cause.Syntax) text due = absurd due
+  due_too TooLong (Refused clause cause.Size) text due = absurd due
+  due_too TooLong (Refused clause cause.Shape) text due = absurd due
+  due_too TooLong (Refused clause cause.Reaction) text due = absurd due
+  due_too TooLong (Refused clause cause.UnknownCentre) text due = absurd due
+  due_too TooLong (Refused clause cause.UnknownRole) text due = absurd due
+  due_too TooLong (Refused clause cause.UnknownAgent) text due = absurd due
+  due_too TooLong (Refused clause cause.Twice) text due = absurd due
+  due_too TooLong (Refused clause cause.NotGround) text due = absurd due
+  due_too TooLong (Refused clause cause.Count) text due = absurd due
+  due_too TooLong Ended text due = absurd due
+  due_too TooLong WriteFault text due = absurd due
+  due_too TooLong Blocked text due = absurd due
+  due_too TooLong ReadFault text due = absurd due
+  due_too TooLong NoMemory text due = absurd due
+  due_too TooLong Usage text due = absurd due
+
+-- a call that asks for a run ends as it does whatever its words are
+module _ (call : Call) (words : List (List ℕ)) (run : IsRun call.words) (runs : IsRun words) where
+  abbrev worded : Call
+  worded = record {
+    words = words;
+    source = call.source;
+    source_after = call.source_after;
+    sink = call.sink;
+    sink_after = call.sink_after;
+  }
+
+  as_due : (status : Status) → EndsAsDue call status → EndsAsDue worded status
+  as_due status ends = record {
+    input = ends.input;
+    text = ends.text;
+    read = ends.read;
+    due = due_too call.words words run runs ends.input status ends.text ends.due;
+    taken = ends.taken;
+  }
+
+  breaks_off : BreaksOff call → BreaksOff worded
+  breaks_off ends = record {
+    input = ends.input;
+    status = ends.status;
+    text = ends.text;
+    read = ends.read;
+    due = due_too call.words words run runs ends.input ends.status ends.text ends.due;
+    taken = ends.taken;
+  }
+
+  pub Ends-words : (status : Status) → Ends call status → Ends worded status
+  Ends-words Ended ends = as_due Ended ends
+  Ends-words Blocked ends = as_due Blocked ends
+  Ends-words (Refused clause why) ends = as_due (Refused clause why) ends
+  Ends-words Usage ends = as_due Usage ends
+  Ends-words WriteFault ends = record { rises = ends.rises; unsure = ends.unsure; begins = breaks_off ends.begins }
+  Ends-words ReadFault ends = record { rises = ends.rises; unsure = ends.unsure; run = runs; nothing = ends.nothing }
+  Ends-words NoMemory (inl nothing) = inl nothing
+  Ends-words NoMemory (inr ends) = inr (breaks_off ends)
 
 -- what holds of the input that was read holds of what was left, where that is told
 pub of_left : (left rest : Option (List ℕ)) (limit : ℕ) (input : List ℕ) (P : List ℕ → Type 0) → ReadsAll left rest limit input → P input

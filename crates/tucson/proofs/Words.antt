@@ -1,8 +1,10 @@
 -- The words of a call.
-use Rattle.std.proofs.Common.{◌≡◌, ◌≤◌, ◌<◌, ◌∙◌, ℕ, List, [], ◌∷◌, ◌++◌, Vec, Global, length, get_or, map, decimal, refl, sym, ap, append-nil, arith}
+use Rattle.std.proofs.Common.{◌≡◌, ◌≤◌, ◌<◌, ◌∙◌, ℕ, List, [], ◌∷◌, ◌++◌, Vec, Global, length, get_or, map, decimal, refl, sym, ap, subst, append-nil, arith}
 use Rattle.std.proofs.lemmas.Fmt.{decimal_injective}
+use borrow.Enum.Total.{values_d}
 use Rattle.tc_lists.specs.Decimals.{IsLongestNumberAt, IsNumberAt}
-use Rattle.tucson.specs.Commands.{Asks, IsCount, IsRun}
+use Rattle.tucson.specs.Commands.{Asks, IsCount, IsRun, RunsOn, run_words}
+use Rattle.tucson.specs.contracts.command.Command.{enum}
 use Rattle.tucson.specs.declared.command.Command.{Command}
 use Rattle.tucson.specs.declared.command.Command.TheVariants.{Run}
 
@@ -32,3 +34,32 @@ count_whole word n workers rest longest count =
 -- words that ask for the one command ask to run
 pub asked : (words : List (List ℕ)) (command : Command) → Asks words command → IsRun words
 asked words (Run workers) on = (workers, on)
+
+-- so many workers as words may tell
+abbrev pub IsFew : ℕ → Type 0
+IsFew workers = (1 ≤ workers) × (workers ≤ 64)
+
+count_few : (word : List ℕ) (workers : ℕ) → IsCount word workers → IsFew workers
+count_few word workers count = (count.some, count.few)
+
+-- words that ask to run tell one worker at least, and 64 at most
+pub workers_few : (words : List (List ℕ)) (workers : ℕ) → RunsOn words workers → IsFew workers
+workers_few [] workers on = absurd on
+workers_few (run ∷ []) workers on = (omega (arith, on.1), omega (arith, on.1))
+workers_few (run ∷ option ∷ []) workers on = absurd on
+workers_few (run ∷ option ∷ count ∷ []) workers on = count_few count workers on.2
+workers_few (run ∷ option ∷ count ∷ more ∷ words) workers on = absurd on
+
+-- the number that a command tells, as a pattern takes it out
+abbrev pub told : Command → ℕ
+told command = (values_d enum 0 (0, tt) command).0
+
+told_is : (workers : ℕ) → told (Run workers) ≡ workers
+told_is workers = refl
+
+pub told_few : (words : List (List ℕ)) (command : Command) → Asks words command → IsFew (told command)
+told_few words (Run workers) on = subst IsFew (sym (told_is workers)) (workers_few words workers on)
+
+-- the words for so many workers ask to run
+pub words_run : (workers : ℕ) → IsFew workers → IsRun (run_words workers)
+words_run workers few = (workers, (refl, refl, record { text = refl; some = few.0; few = few.1 }))

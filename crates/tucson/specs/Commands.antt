@@ -17,6 +17,10 @@ RunsOn (run ∷ option ∷ count ∷ []) workers =
     (run ≡ codes "run") × (option ≡ codes "--workers") × IsCount count workers
 RunsOn words workers = ⊥
 
+-- the words that ask to run a configuration on so many workers
+abbrev pub run_words : ℕ → List (List ℕ)
+run_words workers = codes "run" ∷ codes "--workers" ∷ decimal workers ∷ []
+
 -- the words ask for this command
 abbrev pub Asks : List (List ℕ) → Command → Type 0
 Asks words (Run workers) = RunsOn words workers

@@ -1,13 +1,15 @@
 //! The top call: a configuration is read, its agents' scripts are run, and what came of it is written.
 //!
+//! `checked_runs` makes its calls by these lines:
+//!
 //! ```
-//! let mut source = SureSource::new(input);
+//! let mut source = SureSource::new(configuration.to_vec(alloc)?);
 //! let mut sink = SureSink::new(alloc);
-//! let ended = tucson(alloc, &words, &mut source, &mut sink);
+//! let status = tucson(rt, alloc, &words, &mut source, &mut sink, gate);
 //! ```
 //!
-//! `ended` is then `Status::Ended` or `Status::Blocked`, and `sink.taken()` the histories and the logs;
-//! or it says why not.
+//! `status` is then `Status::Ended` or `Status::Blocked`, and `sink.taken()` the histories and the logs;
+//! or it says why not. `run_main` does the same for a number of workers, without words.
 #![tactic(auto)]
 
 mod command;
@@ -18,6 +20,7 @@ mod top;
 mod writing;
 
 pub use command::{Command, command_of};
+pub use running::run_main;
 pub use status::Status;
 pub use tc_config::ConfigCause;
 pub use top::tucson;

@@ -1,5 +1,5 @@
-//! An input, run: what the configuration that it spells comes to.
-ghost use Rattle.std.specs.Prelude.{◌≡◌, ◌<◌, [], ℕ, IfOk, length};
+//! A configuration, read to its end and run.
+ghost use Rattle.std.specs.Prelude.{◌≡◌, ◌<◌, ◌≤◌, [], ℕ, IfOk, IfSome, length};
 ghost use Rattle.tc_io.specs.Faults.{Counts};
 ghost use Rattle.tc_model.specs.Choices.{TheFirst};
 ghost use Rattle.tc_config.specs.Configurations.{Configuration};
@@ -8,7 +8,8 @@ ghost use Rattle.tc_config.specs.Texts.{IsRefused, Spells};
 ghost use Rattle.tc_config.specs.declared.faults.ConfigCause.{ConfigCause};
 ghost use Rattle.tc_runner.specs.Cores.{Goes, histories, rows_of};
 ghost use Rattle.tucson.specs.Answer.{IsAnswer, IsOutcome};
-ghost use Rattle.tucson.specs.Ending.{IsEndOfRun, IsUnlessStopped, Tells, sink_of};
+ghost use Rattle.tucson.specs.Commands.{run_words};
+ghost use Rattle.tucson.specs.Ending.{Ends, IsEndOfRun, IsUnlessStopped, Tells, sink_of, source_of};
 
 use crate::refusing::refused;
 use crate::status::Status;
@@ -16,15 +17,56 @@ use crate::writing::write_run;
 use std::alloc::Global;
 use std::sync::Wait;
 use std::thread::Threads;
-use tc_config::{Config, ConfigFault, read_config};
+use tc_config::{Config, ConfigCause, ConfigFault, MOST_BYTES, read_config};
 use tc_desk::Gate;
-use tc_io::Sink;
+use tc_io::{InputFault, Sink, Source, read_all};
 use tc_lists::NoMemory;
 use tc_runner::{Opened, go_on, open};
 use tc_workers::work;
 
-/// Answers an input: runs the configuration that it spells, or says why it spells none.
-pub fn answer<R: Threads + Wait + Sync, K: Sink, G: Gate + Sync>(
+/// Reads a configuration, runs the scripts of its agents on so many workers, and writes what came of it.
+///
+/// It promises what `tucson` does for the words `run --workers N` with this number.
+pub fn run_main<R: Threads + Wait + Sync, S: Source, K: Sink, G: Gate + Sync>(
+    rt: &R,
+    alloc: Global,
+    workers: usize,
+    source: &mut S,
+    sink: &mut K,
+    gate: &G,
+) -> Status
+    requires some { 1 ≤ workers }
+    requires few { workers ≤ 64 }
+    ensures ends { Ends (record {
+      words = run_words workers;
+      source = source_of S.left S.read_faults S.sure source.old;
+      source_after = source_of S.left S.read_faults S.sure source.new;
+      sink = sink_of K.taken K.write_faults K.sure sink.old;
+      sink_after = sink_of K.taken K.write_faults K.sure sink.new;
+    }) result }
+
+    // Every fault of reading and of writing is told, and no other status stands for one.
+    ensures reads { Counts (result ≡ Status.ReadFault)
+        (S.read_faults source.old) (S.read_faults source.new) }
+    ensures writes { Counts (result ≡ Status.WriteFault)
+        (K.write_faults sink.old) (K.write_faults sink.new) }
+
+    // The input decides the status.
+    ensures runs { IfSome (S.left source.old) (λ input. (c : Configuration) → Spells input c
+        → IsEndOfRun result) }
+    ensures refused { IfSome (S.left source.old) (λ input. (clause : ℕ) (why : ConfigCause)
+        → IsRefused input clause why → IsUnlessStopped (Status.Refused clause why) result) }
+{
+    match read_all(alloc, source, MOST_BYTES) {
+        Ok(input) => answer(rt, alloc, workers, &input, sink, gate),
+        Err(InputFault::TooLong) => refused(alloc, 0, ConfigCause::Length, sink),
+        Err(InputFault::Failed) => Status::ReadFault,
+        Err(InputFault::NoMemory) => Status::NoMemory,
+    }
+}
+
+// Answers an input: runs the configuration that it spells, or says why it spells none.
+fn answer<R: Threads + Wait + Sync, K: Sink, G: Gate + Sync>(
     rt: &R,
     alloc: Global,
     workers: usize,

@@ -8,16 +8,14 @@ ghost use Rattle.tucson.specs.Commands.{IsRun};
 ghost use Rattle.tucson.specs.Ending.{Ends, IsEndOfRun, IsUnlessStopped, sink_of, source_of};
 
 use crate::command::{Command, command_of};
-use crate::refusing::refused;
-use crate::running::answer;
+use crate::running::run_main;
 use crate::status::Status;
 use crate::writing::written;
 use std::alloc::Global;
 use std::sync::Wait;
 use std::thread::Threads;
-use tc_config::{ConfigCause, MOST_BYTES};
 use tc_desk::Gate;
-use tc_io::{InputFault, Sink, Source, read_all};
+use tc_io::{Sink, Source};
 
 const USAGE: &[u8] = b"usage: tucson run [--workers N] | verify | load N SEED | serve PORT\n";
 
@@ -63,10 +61,5 @@ pub fn tucson<R: Threads + Wait + Sync, S: Source, K: Sink, G: Gate + Sync>(
     let Some(Command::Run { workers }) = command_of(words) else {
         return written(Status::Usage, USAGE, sink);
     };
-    match read_all(alloc, source, MOST_BYTES) {
-        Ok(input) => answer(rt, alloc, workers, &input, sink, gate),
-        Err(InputFault::TooLong) => refused(alloc, 0, ConfigCause::Length, sink),
-        Err(InputFault::Failed) => Status::ReadFault,
-        Err(InputFault::NoMemory) => Status::NoMemory,
-    }
+    run_main(rt, alloc, workers, source, sink, gate)
 }

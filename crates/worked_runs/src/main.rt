@@ -7,26 +7,30 @@
 //! |---|---|
 //! | `%% NAME` | the configuration of this name begins behind this line |
 //! | `%words WORD ..` | these are the words of the call, and not `run --workers 1` |
+//! | `%also N ..` | `run --workers N` ends with the same status and text, for each N |
+//! | `%logs N ..` | it ends with the same status and logs, the lines from the first `agent` on |
 //! | `%repeat N TEXT` | here TEXT stands N times, a line each, with its number for each `#` |
 //! | `%read PIECE N` | a read gives PIECE bytes at most, and the Nth fails |
 //! | `%write PIECE N` | a write takes PIECE bytes at most, and the Nth fails |
 //!
-//! What stands before the first configuration is a comment of the table.
+//! What stands before the first configuration is a comment of the table. Behind the end of a row stands
+//! with which of these numbers of workers it was the same. With one where it wasn't, how it ended is
+//! printed as an end of its own.
 //!
 //! What the table shows beyond what is proved: that the definitions of configurations, runs and
-//! texts say what is meant, and that calls end where memory is ample. What is written was worked
-//! out by hand, and then compared with what the program prints.
+//! texts say what is meant, that calls end where memory is ample, and that a text, or its logs, is the
+//! same with any number of workers where it doesn't depend on the order of calls. What is written was
+//! worked out by hand, and then compared with what the program prints.
 #![tactic(auto)]
 
+mod calls;
 mod ends;
 mod rows;
 
 use anyhow::anyhow;
-use ends::print_end;
+use calls::print_row;
 use rows::rows;
-use tc_desk::NoGate;
 use tc_io::{StdSink, StdSource, read_all, write_all};
-use tucson::tucson;
 
 /// The most bytes that a table may have.
 const MOST_BYTES: usize = 1 << 20;
@@ -38,10 +42,7 @@ fn main(rt: HostRuntime) -> anyhow::Result<()> {
     )?;
     let mut ends = Vec::new(alloc);
     for row in rows(alloc, &table)? {
-        let mut source = row.source(alloc)?;
-        let mut sink = row.sink(alloc)?;
-        let status = tucson(&rt, alloc, &row.words, &mut source, &mut sink, &NoGate);
-        print_end(row.name, status, sink.taken(), &mut ends)?;
+        print_row(&rt, alloc, &row, &mut ends)?;
     }
     write_all(&mut StdSink::new(rt.stdout()), &ends).map_err(|fault| anyhow!(
         "what came of it was not written: {fault:?}"

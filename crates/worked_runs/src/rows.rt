@@ -1,11 +1,12 @@
 //! The rows of a table: configurations, with how they are run.
+use crate::ends::Part;
 use anyhow::anyhow;
 use std::alloc::Global;
 use tc_io::{MemSink, MemSource};
 use tc_lists::{NoMemory, append_number, read_number};
 
-/// The words of a call, where a row names none.
-const USUAL_WORDS: &[u8] = b" run --workers 1";
+/// The words of a call before the number of workers.
+const USUAL_WORDS: &[u8] = b" run --workers";
 
 /// How many bytes a read or a write moves at most, where a row doesn't say so.
 const USUAL_PIECE: u64 = 1 << 16;
@@ -18,6 +19,9 @@ const MOST: u64 = 1 << 25;
 pub struct Row<'t> {
     pub name: &'t [u8],
     pub words: Vec<Vec<u8>>,
+    /// Numbers of workers with which a part of the end is the same.
+    pub others: Vec<Vec<u8>>,
+    pub part: Part,
     input: Vec<u8>,
     reads: Calls,
     writes: Calls,
@@ -58,7 +62,9 @@ impl<'t> Row<'t> {
     fn new(alloc: Global, name: &'t [u8]) -> Result<Row<'t>, NoMemory> {
         Ok(Row {
             name,
-            words: words_of(alloc, USUAL_WORDS)?,
+            words: words_with(alloc, b"1")?,
+            others: Vec::new(alloc),
+            part: Part::Whole,
             input: Vec::new(alloc),
             reads: SURE,
             writes: SURE,
@@ -69,6 +75,11 @@ impl<'t> Row<'t> {
     fn add_line(&mut self, alloc: Global, line: &[u8]) -> anyhow::Result<()> {
         if let Some(words) = line.strip_prefix(b"%words") {
             self.words = words_of(alloc, words)?;
+        } else if let Some(others) = line.strip_prefix(b"%also") {
+            self.others = words_of(alloc, others)?;
+        } else if let Some(others) = line.strip_prefix(b"%logs") {
+            self.others = words_of(alloc, others)?;
+            self.part = Part::Logs;
         } else if let Some(calls) = line.strip_prefix(b"%read ") {
             self.reads = calls_of(calls)?;
         } else if let Some(calls) = line.strip_prefix(b"%write ") {
@@ -93,6 +104,13 @@ impl<'t> Row<'t> {
         let failing = failing(alloc, self.writes)?;
         Ok(MemSink::new(alloc, self.writes.piece as usize, failing))
     }
+}
+
+/// The words of a call with so many workers.
+pub fn words_with(alloc: Global, workers: &[u8]) -> Result<Vec<Vec<u8>>, NoMemory> {
+    let mut words = words_of(alloc, USUAL_WORDS)?;
+    words.push(workers.to_vec(alloc)?)?;
+    Ok(words)
 }
 
 // The words of a text in which each stands behind a space.

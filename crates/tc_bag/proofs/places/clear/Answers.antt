@@ -1,7 +1,6 @@
 use Rattle.std.proofs.Common.{◌≡◌, ◌≢◌, ◌+◌, None, Option, All, length, filter, set, sym, subst}
 use Rattle.std.specs.Option.{IfSome}
 use Rattle.tc_term.specs.Tree.{Tree}
-use Rattle.tc_bag.specs.declared.slots.Place.{Place}
 use Rattle.tc_bag.specs.Places.{slots_of, AgesRise}
 use Rattle.tc_bag.specs.Slots.{is_not_of}
 use Rattle.tc_bag.proofs.ByAge.{filter-others}

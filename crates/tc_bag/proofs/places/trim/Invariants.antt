@@ -1,4 +1,4 @@
-use Rattle.std.proofs.Common.{◌≡◌, length, vec_len}
+use Rattle.std.proofs.Common.{◌≡◌, vec_len}
 use Rattle.tc_bag.specs.Places.{slots_of, AgesRise}
 use Rattle.tc_bag.proofs.places.trim.Given as goal
 

@@ -1,7 +1,11 @@
 use Rattle.std.proofs.Common.{ℕ, ◌≡◌, ◌<◌, List, length, get_or, take, refl, sym, ap, subst, ◌∙◌, arith}
 use Rattle.std.specs.List.{All}
 use Rattle.std.proofs.lemmas.Option.{slice_get_read}
-use Rattle.tc_term.specs.Equations.{Equations}
+use Rattle.tc_term.specs.Equations.{Equations, Solvable}
+use Rattle.tc_term.specs.TreeView.{tree_of}
+use Rattle.tc_term.specs.Variables.{var_bound}
+use Rattle.tc_term.proofs.Numbered.{var_bound-pattern}
+use Rattle.tc_unify.proofs.MetTerms.{met-same}
 use Rattle.tc_model.specs.Choices.{TheFirst}
 use Rattle.tc_model.specs.Reactions.{Rule, IsRule}
 use Rattle.tc_model.specs.Goals.{Scene, IsStuck}
@@ -13,19 +17,37 @@ use Rattle.tc_bag.proofs.Additions.{adds-none-again}
 use Rattle.tc_model.specs.Within.{HasVarsBelow, terms_of}
 use Rattle.tc_body.specs.Moments.{moment_of, IsDone}
 use Rattle.tc_body.proofs.Leading.{begun_moment, failed_first, more_done}
-use Rattle.tc_model.proofs.Rules.{rule_goals}
+use Rattle.tc_model.proofs.Rules.{rule_goals, rule_head, rule_vars}
 use Rattle.tc_body.proofs.body.run_goals.Goals as goal
+
+pub meet-requires-clause-bound : goal.meet-requires-clause-bound
+meet-requires-clause-bound c =
+    let inside = (rule_head c.args.r.now c.head.ensures.rule).bound in
+    omega (arith, inside, ap var_bound c.head.ensures.head, c.vars.ensures.vars)
+
+pub meet-requires-clause-few : goal.meet-requires-clause-few
+meet-requires-clause-few c =
+    let pattern = c.term.ensures.event.term in
+    let bound = var_bound-pattern c.args.e.now.term pattern in
+    let few = rule_vars c.args.r.now c.vars.ensures.rule in
+    omega (arith, few, c.vars.ensures.vars, bound, pattern.template.few, ap var_bound c.term.ensures.term)
 
 pub returns-then-not-branch-clause-failed : goal.returns-then-not-branch-clause-failed
 returns-then-not-branch-clause-failed c =
     failed_first c.args.r.now c.args.e.now c.args.context.now (tuples_of c.args.bag.now.now) c.new-effects.result.items
-    c.goals-goals.ensures.rule.some c.new-effects.ensures.items (c.in_ok-meet.ensures.apart c.if-not-branch.true)
+    c.goals-goals.ensures.rule.some c.new-effects.ensures.items
+    (subst (λ (s : Equations). Solvable s.vars s.pairs → ⊥)
+    (met-same c.vars.result c.args.r.now.vars (tree_of c.head.result.now) c.args.r.now.head c.term.result.now
+    c.args.e.now.term c.vars.ensures.vars c.head.ensures.head c.term.ensures.term)
+    (c.in_ok-meet.ensures.apart c.if-not-branch.true))
 
 pub loop-i-init : goal.loop-i-init
 loop-i-init c =
-    let q = c.in_ok-meet.ensures.met c.if-not-branch.false in
+    let q = c.in_ok-meet.ensures.met c.if-not-branch.false
+    ∙ met-same c.vars.result c.args.r.now.vars (tree_of c.head.result.now) c.args.r.now.head c.term.result.now
+    c.args.e.now.term c.vars.ensures.vars c.head.ensures.head c.term.ensures.term in
     record {
-      leads = begun_moment c.args.r.now c.args.e.now c.args.context.now c.meet.new.store _ c.args.bag.now c.new-effects.result.items c.new-effects.ensures.items q;
+      leads = begun_moment c.args.r.now c.args.e.now c.args.context.now c.meet.new.self _ c.args.bag.now c.new-effects.result.items c.new-effects.ensures.items q;
       width = ap (λ (s : Equations). s.vars) q;
       solvable = c.in_ok-meet.ensures.solvable;
       saved = refl;
@@ -49,7 +71,7 @@ within_goal r i g n rule same inside at =
 
 pub step-requires-clause-goal : goal.step-requires-clause-goal
 step-requires-clause-goal c =
-    within_goal c.args.r.now c.loop-i.i c.index-goals-i.result c.vars.result c.goals-goals.ensures.rule c.vars.ensures.vars
+    within_goal c.args.r.now c.loop-i.i c.index-goals-i.result c.vars-in-loop-i.result c.goals-goals.ensures.rule c.vars-in-loop-i.ensures.vars
     (below c.goals-goals.result.now c.args.r.now.goals c.loop-i.i c.goals-goals.ensures.goals c.loop-i-test.true)
     (here c.goals-goals.result.now c.args.r.now.goals c.loop-i.i c.index-goals-i.result c.goals-goals.ensures.goals c.index-goals-i.is)
 
@@ -69,7 +91,7 @@ returns-then-not-branch-2-clause-failed c =
       end = end;
       leads = c.loop-i.invariant.leads;
       recorded = sym (c.in_ok-step.ensures.effects c.if-not-branch-2.true);
-      stuck = subst (λ n. IsStuck (scene n) g end) c.vars.ensures.vars (c.in_ok-step.ensures.stuck c.if-not-branch-2.true);
+      stuck = subst (λ n. IsStuck (scene n) g end) c.vars-in-loop-i.ensures.vars (c.in_ok-step.ensures.stuck c.if-not-branch-2.true);
     }
 
 pub loop-i-preserved : goal.loop-i-preserved
@@ -84,7 +106,7 @@ loop-i-preserved c =
           (below c.goals-goals.result.now r.goals c.loop-i.i c.goals-goals.ensures.goals c.loop-i-test.true)
           (here c.goals-goals.result.now r.goals c.loop-i.i g c.goals-goals.ensures.goals c.index-goals-i.is)
           c.loop-i.invariant.leads
-          (subst (λ n. IsDone (scene n) g m end) c.vars.ensures.vars (c.in_ok-step.ensures.done c.if-not-branch-2.false));
+          (subst (λ n. IsDone (scene n) g m end) c.vars-in-loop-i.ensures.vars (c.in_ok-step.ensures.done c.if-not-branch-2.false));
       width = c.step.ensures.vars ∙ c.loop-i.invariant.width;
       solvable = c.step.ensures.solvable;
       saved = c.step.ensures.saved ∙ c.loop-i.invariant.saved;

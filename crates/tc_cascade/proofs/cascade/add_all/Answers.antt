@@ -5,4 +5,4 @@ use Rattle.tc_cascade.proofs.cascade.add_all.Goals as goal
 pub loop-event-preserved : goal.loop-event-preserved
 loop-event-preserved c =
     adds_more c.args.spec.now c.loop-event.yielded (c.in-Some.event ∷ []) c.args.room
-    c.args.waiting.now c.loop-event.waiting c.add.new.waiting c.loop-event.invariant c.in_ok-add.ensures
+    c.args.triggered.now c.loop-event.triggered c.add.new.triggered c.loop-event.invariant c.in_ok-add.ensures

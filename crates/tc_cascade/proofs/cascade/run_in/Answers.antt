@@ -1,18 +1,18 @@
-use Rattle.std.proofs.Common.{◌≡◌, ◌≤◌, ◌<◌, ◌+◌, ◌-◌, ◌++◌, [], ◌∷◌, List, length, drop, refl, sym, ap, subst, ◌∙◌, arith, length-append, Bool, true, ◌==◌}
+use Rattle.std.proofs.Common.{◌≡◌, ◌+◌, ◌-◌, [], ◌∷◌, List, length, drop, refl, sym, ap, subst, ◌∙◌, arith, length-append, Bool, true, ◌==◌}
 use Rattle.std.proofs.lemmas.Bool.Decides.{Decides-eqb}
 use Rattle.tc_model.specs.Reactions.{Rule}
 use Rattle.tc_bag.proofs.Additions.{adds-none-again}
-use Rattle.tc_model.specs.Triggers.{Member, IsClause}
+use Rattle.tc_model.specs.Triggers.{IsClause}
 use Rattle.tc_cascade.specs.Adding.{Adds, Stands}
 use Rattle.tc_cascade.proofs.Waves.{at_first, at_stands, at_next, at_whole}
 use Rattle.tc_cascade.proofs.cascade.run_in.Goals as goal
 
 pub loop-k-init : goal.loop-k-init
 loop-k-init c =
-    let adds = subst (λ e. Adds c.args.spec.now (e ∷ []) (c.args.budget + 1) c.new-waiting.result c.add.new.waiting) c.in_ok-copy.ensures c.in_ok-add.ensures in
+    let adds = subst (λ e. Adds c.args.spec.now (e ∷ []) (c.args.budget + 1) c.new-triggered.result c.add.new.triggered) c.in_ok-copy.ensures c.in_ok-add.ensures in
     record {
-      at = at_first c.args.spec.now c.args.context.now c.args.e.now c.args.bag.now c.new-items.result.items c.new-waiting.result c.add.new.waiting
-          c.args.budget (c.args.budget + 1 - 0) (omega arith) c.new-items.ensures.items c.new-waiting.ensures adds;
+      at = at_first c.args.spec.now c.args.context.now c.args.e.now c.args.bag.now c.new-items.result.items c.new-triggered.result c.add.new.triggered
+          c.args.budget (c.args.budget + 1 - 0) (omega arith) c.new-items.ensures.items c.new-triggered.ensures adds;
       count = ap length c.new-items.ensures.items;
       saved = refl;
       next = omega arith;
@@ -24,15 +24,15 @@ pub returns-in_default-clause-ends : goal.returns-in_default-clause-ends
 returns-in_default-clause-ends c =
     let lt = c.loop-k-test.true in
     let count = c.loop-k.invariant.count in
-    at_whole c.args.spec.now c.args.context.now c.args.e.now c.args.bag.now c.loop-k.bag c.loop-k.items.items c.new.result c.loop-k.waiting
+    at_whole c.args.spec.now c.args.context.now c.args.e.now c.args.bag.now c.loop-k.bag c.loop-k.items.items c.new.result c.loop-k.triggered
     (c.args.budget + 1 - c.loop-k.k) c.args.budget c.loop-k.invariant.at c.in_default.ensures.none
     (omega (arith, lt)) (omega (arith, lt, count)) c.new.ensures
 
 pub clause_at-reaction-requires : goal.clause_at-reaction-requires
 clause_at-reaction-requires c =
     subst (λ (cs : List Rule). Stands cs c.in-Some.clause) (sym c.clauses.ensures)
-    (at_stands c.args.spec.now c.args.context.now c.args.e.now c.args.bag.now c.loop-k.bag c.loop-k.items.items c.loop-k.waiting
-    (drop 1 c.loop-k.waiting) (record { clause = c.in-Some.clause; event = c.in-Some.event.now }) (c.args.budget + 1 - c.loop-k.k)
+    (at_stands c.args.spec.now c.args.context.now c.args.e.now c.args.bag.now c.loop-k.bag c.loop-k.items.items c.loop-k.triggered
+    (drop 1 c.loop-k.triggered) (record { clause = c.in-Some.clause; event = c.in-Some.event.now }) (c.args.budget + 1 - c.loop-k.k)
     (let lt = c.loop-k-test.true in omega (arith, lt)) c.loop-k.invariant.at c.in-Some.ensures.some)
 
 pub loop-k-preserved : goal.loop-k-preserved
@@ -45,11 +45,11 @@ loop-k-preserved c =
     let lt = c.loop-k-test.true in
     let clause : IsClause cs c.in-Some.clause reaction =
     subst (λ (xs : List Rule). IsClause xs c.in-Some.clause reaction) c.clauses.ensures c.clause_at-reaction.ensures in
-    let adds : Adds cs c.in_ok-item.events.items more_room c.pass.new.self c.add_all.new.waiting =
-    subst (λ n. Adds cs c.in_ok-item.events.items n c.pass.new.self c.add_all.new.waiting) (omega arith) c.in_ok-add_all.ensures in
+    let adds : Adds cs c.in_ok-item.events.items more_room c.pass.new.self c.add_all.new.triggered =
+    subst (λ n. Adds cs c.in_ok-item.events.items n c.pass.new.self c.add_all.new.triggered) (omega arith) c.in_ok-add_all.ensures in
     record {
       at = at_next cs c.args.context.now c.args.e.now c.args.bag.now c.loop-k.bag c.execute_in.new.bag items c.push.new.self.items
-          (record { clause = c.in-Some.clause; event = c.in-Some.event.now }) c.loop-k.waiting (drop 1 c.loop-k.waiting) c.pass.new.self c.add_all.new.waiting
+          (record { clause = c.in-Some.clause; event = c.in-Some.event.now }) c.loop-k.triggered (drop 1 c.loop-k.triggered) c.pass.new.self c.add_all.new.triggered
           (c.args.budget + 1 - c.loop-k.k) more_room reaction item c.in_ok-item.events.items
           (omega (arith, lt)) c.loop-k.invariant.at c.in-Some.ensures.some c.pass.ensures clause c.in_ok-item.ensures.body
           c.in_ok-item.ensures.names c.in_ok-item.ensures.tuples c.in_ok-item.ensures.events adds c.in_ok-push.ensures.items;
@@ -69,8 +69,8 @@ pub returns-then-is_empty-clause-ends : goal.returns-then-is_empty-clause-ends
 returns-then-is_empty-clause-ends c =
     let end = c.loop-k.auto.k-end in
     let count = c.loop-k.invariant.count in
-    at_whole c.args.spec.now c.args.context.now c.args.e.now c.args.bag.now c.loop-k.bag c.loop-k.items.items c.new-then-is_empty.result c.loop-k.waiting
-    (c.args.budget + 1 - c.loop-k.k) c.args.budget c.loop-k.invariant.at (empty_is c.loop-k.waiting c.is_empty.result c.is_empty.ensures c.if-is_empty.true)
+    at_whole c.args.spec.now c.args.context.now c.args.e.now c.args.bag.now c.loop-k.bag c.loop-k.items.items c.new-then-is_empty.result c.loop-k.triggered
+    (c.args.budget + 1 - c.loop-k.k) c.args.budget c.loop-k.invariant.at (empty_is c.loop-k.triggered c.is_empty.result c.is_empty.ensures c.if-is_empty.true)
     (omega (arith, end)) (omega (arith, end, count)) c.new-then-is_empty.ensures
 
 pub returns-in_err-item-clause-old : goal.returns-in_err-item-clause-old

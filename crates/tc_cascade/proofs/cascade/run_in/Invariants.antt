@@ -5,7 +5,7 @@ use Rattle.tc_cascade.proofs.cascade.run_in.Given as goal
 
 abbrev pub invariant-loop-k : goal.invariant-loop-k
 invariant-loop-k l = record {
-  at : IsAt l.spec l.context l.e l.initial.bag l.bag l.items.items l.waiting (l.budget + 1 - l.k);
+  at : IsAt l.spec l.context l.e l.initial.bag l.bag l.items.items l.triggered (l.budget + 1 - l.k);
   count : length l.items.items ≡ l.k;
   saved : l.bag.saved ≡ l.initial.bag.saved;
   next : l.bag.next ≤ l.initial.bag.next + 64 * l.k;

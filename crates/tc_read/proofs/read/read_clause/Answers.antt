@@ -1,7 +1,7 @@
 use Rattle.std.proofs.Common.{◌≡◌, ◌+◌, sym, ◌∙◌, refl, length, true, drop, arith}
 use Rattle.std.proofs.lemmas.List.{length-drop}
 use Rattle.tc_term.specs.Layouts.{ClauseEnd}
-use Rattle.tc_term.specs.Faults.{Ended, IsRead, Found, first_wide}
+use Rattle.tc_term.specs.Faults.{Ended, ReadsAs, Found, first_wide}
 use Rattle.tc_read.proofs.Answering.{fault_of, to_read, end_within, end_beyond}
 use Rattle.tc_read.proofs.read.read_clause.Goals as goal
 use Rattle.tc_lists.proofs.Options.{none_from_never}
@@ -23,7 +23,7 @@ pub returns-in-ClauseEnd-clause-read : goal.returns-in-ClauseEnd-clause-read
 returns-in-ClauseEnd-clause-read c =
     let s = rw c.rest_from.ensures at c.in_ok-gathered.ensures in
     let narrow : first_wide s.0 ≡ _ = sym s.2.wide ∙ none_from_never c.in_ok-gathered.field-0.gathered.wide c.in_default.not-Some in
-    fault_of (Ended (length c.args.text.now) s.0 (ClauseEnd c.in-ClauseEnd.place)) (IsRead true (length c.args.text.now) (drop c.args.from c.args.text.now))
+    fault_of (Ended (length c.args.text.now) s.0 (ClauseEnd c.in-ClauseEnd.place)) (ReadsAs true (length c.args.text.now) (drop c.args.from c.args.text.now))
     (λ a h. to_read true (length c.args.text.now) (drop c.args.from c.args.text.now) s.0 (ClauseEnd c.in-ClauseEnd.place) (rw c.in-ClauseEnd.is at s.1) narrow a h)
     c.in-Err.fault
     (c.in-Err.ensures (length c.args.text.now) (c.in-ClauseEnd.place + 1) s.0 (ClauseEnd c.in-ClauseEnd.place) s.2 narrow refl refl)

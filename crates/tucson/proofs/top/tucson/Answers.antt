@@ -1,14 +1,9 @@
-use Rattle.std.proofs.Common.{ℕ, List, Vec, Global, Err, map, refl, ap, subst, rules}
-use Rattle.tc_config.specs.Configurations.{Configuration}
-use Rattle.tc_config.specs.Texts.{IsRefused, Spells}
-use Rattle.tc_config.specs.declared.faults.ConfigCause.{ConfigCause}
-use Rattle.tc_config.specs.declared.faults.ConfigCause.TheVariants.{Length}
-use Rattle.tucson.specs.Answer.{IsAnswer, TooLong, Unread, refused_text, usage_text}
+use Rattle.std.proofs.Common.{ℕ, List, Vec, Global, map, refl, rules}
+use Rattle.tucson.specs.Answer.{Unread, usage_text}
 use Rattle.tucson.specs.Commands.{Asks, IsRun}
-use Rattle.tucson.specs.Ending.{IsEndOfRun, IsUnlessStopped, Tells, sink_of}
-use Rattle.tucson.specs.declared.status.Status.TheVariants.{Refused, Usage}
-use Rattle.tucson.proofs.Endings.{Ends-told, Ends-written, of_left, of_too_long}
-use Rattle.tucson.proofs.Words.{asked}
+use Rattle.tucson.specs.declared.status.Status.TheVariants.{Usage}
+use Rattle.tucson.proofs.Endings.{Ends-words, Ends-written}
+use Rattle.tucson.proofs.Words.{asked, told_few, words_run}
 use Rattle.tucson.proofs.top.tucson.Goals as goal
 
 -- the bytes of a word
@@ -20,35 +15,9 @@ returns-in_default-clause-ends g c =
     let other : IsRun (map bytes c.args.words.now) → ⊥ = search rules in
     Ends-written _ Usage c.written.result Unread usage_text refl (other, refl) c.written.ensures.wrote
 
-pub returns-in-Ok-clause-ends : goal.returns-in-Ok-clause-ends
-returns-in-Ok-clause-ends g c =
-    let on : Asks (map bytes c.args.words.now) c.in-Some-Run.field-0 = search rules in
-    let run = asked (map bytes c.args.words.now) c.in-Some-Run.field-0 on in
-    Ends-told _ c.answer.result c.in-Ok.input.items run c.in-Ok.ensures.all
-    (subst (λ (input : List ℕ). Tells (IsAnswer input) (sink_of g.K.Sink.taken g.K.Sink.write_faults g.K.Sink.sure c.args.sink.now)
-    (sink_of g.K.Sink.taken g.K.Sink.write_faults g.K.Sink.sure c.answer.new.sink) c.answer.result) c.deref.ensures.value c.answer.ensures.tells)
-
-pub returns-in-Ok-clause-runs : goal.returns-in-Ok-clause-runs
-returns-in-Ok-clause-runs g c = λ run.
-    of_left (g.S.Source.left c.args.source.now) (g.S.Source.left c.read_all.new.source) _ c.in-Ok.input.items
-    (λ (input : List ℕ). (other : Configuration) → Spells input other → IsEndOfRun c.answer.result) c.in-Ok.ensures.all
-    (subst (λ (input : List ℕ). (other : Configuration) → Spells input other → IsEndOfRun c.answer.result) c.deref.ensures.value c.answer.ensures.runs)
-
-pub returns-in-Ok-clause-refused : goal.returns-in-Ok-clause-refused
-returns-in-Ok-clause-refused g c = λ run.
-    of_left (g.S.Source.left c.args.source.now) (g.S.Source.left c.read_all.new.source) _ c.in-Ok.input.items
-    (λ (input : List ℕ). (clause : ℕ) (why : ConfigCause) → IsRefused input clause why → IsUnlessStopped (Refused clause why) c.answer.result) c.in-Ok.ensures.all
-    (subst (λ (input : List ℕ). (clause : ℕ) (why : ConfigCause) → IsRefused input clause why → IsUnlessStopped (Refused clause why) c.answer.result)
-    c.deref.ensures.value c.answer.ensures.refused)
-
-pub returns-in-Err-TooLong-clause-ends : goal.returns-in-Err-TooLong-clause-ends
-returns-in-Err-TooLong-clause-ends g c =
-    let on : Asks (map bytes c.args.words.now) c.in-Some-Run.field-0 = search rules in
-    let run = asked (map bytes c.args.words.now) c.in-Some-Run.field-0 on in
-    Ends-written _ (Refused 0 Length) c.refused.result TooLong (refused_text 0 Length)
-    (c.in-Err-TooLong.ensures.too_long (ap Err c.in-Err-TooLong.field-0-is)) (run, refl, refl) c.refused.ensures.wrote
-
-pub returns-in-Err-TooLong-clause-refused : goal.returns-in-Err-TooLong-clause-refused
-returns-in-Err-TooLong-clause-refused g c = λ run.
-    of_too_long (g.S.Source.left c.args.source.now) (g.S.Source.left c.read_all.new.source) c.refused.result
-    (c.in-Err-TooLong.ensures.too_long (ap Err c.in-Err-TooLong.field-0-is)) c.refused.ensures.unless
+pub returns-clause-ends : goal.returns-clause-ends
+returns-clause-ends g c =
+    let words = map bytes c.args.words.now in
+    let on : Asks words c.in-Some-Run.field-0 = search rules in
+    Ends-words _ words (words_run _ (told_few words c.in-Some-Run.field-0 on)) (asked words c.in-Some-Run.field-0 on)
+    c.run_main.result c.run_main.ensures.ends

@@ -3,7 +3,7 @@ use Rattle.std.specs.Option.{option_map}
 use Rattle.tc_lists.specs.Firsts.{NoneOf, IsFirst}
 use Rattle.tc_term.specs.Tree.{IsTuple}
 use Rattle.tc_term.specs.TreeView.{tree_of}
-use Rattle.tc_bag.specs.Stock.{Stock, row, Rises, IsCandidateLike}
+use Rattle.tc_bag.specs.Stock.{Stock, row, AgesRiseBelow, IsCandidateLike}
 use Rattle.tc_bag.specs.Slots.{IsThereLike}
 use Rattle.tc_bag.specs.Lent.{lent_key}
 use Rattle.std.proofs.Common.{vec_capacity}
@@ -33,7 +33,7 @@ returns-clause-none c =
 pub returns-clause-rises : goal.returns-clause-rises
 returns-clause-rises c =
     let b = c.self.inside in
-    subst (λ (stock : Stock). Rises stock.now stock.next) c.self.view_is
+    subst (λ (stock : Stock). AgesRiseBelow stock.now stock.next) c.self.view_is
     (sound-rises b.rows b.next b.log.items (vec_capacity b.log) b.marks.items c.self.invariant)
 
 pub returns-clause-tuples : goal.returns-clause-tuples

@@ -1,4 +1,4 @@
-use Rattle.std.proofs.Common.{◌≡◌, ◌≤◌, ◌<◌, ℕ, List, [], All, length, drop, sym, subst, ◌∙◌}
+use Rattle.std.proofs.Common.{◌≡◌, ◌≤◌, ◌<◌, List, [], All, drop, sym, subst, ◌∙◌}
 use Rattle.std.specs.Option.{IfNone}
 use Rattle.tc_bag.specs.declared.slots.Place.{Place}
 use Rattle.tc_bag.specs.Slots.{Slot}

@@ -1,4 +1,4 @@
-use Rattle.std.proofs.Common.{All, filter, ap, sym, subst, ◌∙◌}
+use Rattle.std.proofs.Common.{All, filter, sym, subst}
 use Rattle.std.proofs.lemmas.List.Elements.{All-filter}
 use Rattle.tc_bag.specs.Slots.{is_not_of}
 use Rattle.tc_bag.specs.Places.{IsFindable}

@@ -1,7 +1,7 @@
-use Rattle.std.proofs.Common.{◌≡◌, ◌+◌, ◌-◌, List, drop, length, refl, sym, ap, subst, ◌∙◌, arith}
+use Rattle.std.proofs.Common.{◌≡◌, ◌+◌, ◌-◌, List, drop, refl, sym, ap, subst, ◌∙◌, arith}
 use Rattle.tc_model.specs.Triggers.{Member}
-use Rattle.tc_cascade.specs.Batches.{waiting_in, IsQueue}
-use Rattle.tc_cascade.proofs.Passing.{next_waits, batch_done, queue_next, queue_done}
+use Rattle.tc_cascade.specs.Batches.{triggered_in, IsQueue}
+use Rattle.tc_cascade.proofs.Passing.{next_triggered, batch_done, queue_done}
 use Rattle.tc_cascade.proofs.queue.Queue.pass.Goals as goal
 
 pub invariant_of-self : goal.invariant_of-self
@@ -24,12 +24,12 @@ returns-then-self-end c =
     let end = c.if-self-end.true in
     let len = c.len-end.ensures in
     let all = c.in-Some.batch.now.numbers.ok in
-    subst (λ (ms : List Member). waiting_in c.pop_front.new.self.items 0 ≡ drop 1 ms) c.self.view_is
-    (ap (λ cs. waiting_in cs 0) c.pop_front.ensures.rest
-    ∙ sym (next_waits bs place ∙ batch_done bs c.in-Some.batch.now (place + 1) (omega (arith, some, ok)) c.in-Some.ensures.lookup (omega (arith, end, len, all))))
+    subst (λ (ms : List Member). triggered_in c.pop_front.new.self.items 0 ≡ drop 1 ms) c.self.view_is
+    (ap (λ cs. triggered_in cs 0) c.pop_front.ensures.rest
+    ∙ sym (next_triggered bs place ∙ batch_done bs c.in-Some.batch.now (place + 1) (omega (arith, some, ok)) c.in-Some.ensures.lookup (omega (arith, end, len, all))))
 
 pub returns-else-self-end : goal.returns-else-self-end
 returns-else-self-end c =
     let bs = c.self.inside.batches.items in
     let place = c.self.inside.place in
-    subst (λ (ms : List Member). waiting_in bs (place + 1) ≡ drop 1 ms) c.self.view_is (sym (next_waits bs place))
+    subst (λ (ms : List Member). triggered_in bs (place + 1) ≡ drop 1 ms) c.self.view_is (sym (next_triggered bs place))

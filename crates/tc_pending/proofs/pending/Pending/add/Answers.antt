@@ -6,7 +6,7 @@ use Rattle.tc_pending.proofs.Log.{same_waiting, IsLog-noted, saved-logged, lengt
 use Rattle.tc_pending.specs.Codes.{code_of, codes_of}
 use Rattle.tc_pending.proofs.Coded.{code, codes-push}
 use Rattle.tc_pending.specs.Filed.{IsFiled}
-use Rattle.tc_pending.specs.Rising.{Rises, IsAbove}
+use Rattle.tc_pending.specs.Rising.{NumbersRise, IsAbove}
 use Rattle.tc_pending.proofs.Filed.{IsFiled-at, IsFiled-push, AreFiled-now, AreFiled-noted}
 use Rattle.tc_pending.proofs.pending.Pending.add.Goals as goal
 use Rattle.tc_pending.proofs.pending.Pending.add.Goals.{After-note}
@@ -57,7 +57,7 @@ module _ (c : After-note) where
 pub number_behind-requires : goal.number_behind-requires
 number_behind-requires c =
     let p = c.self.inside in
-    subst Rises (sym (c.deref.ensures.value ∙ c.make_room.ensures.serials))
+    subst NumbersRise (sym (c.deref.ensures.value ∙ c.make_room.ensures.serials))
     (AreFiled-now p.index p.filed p.requests.items p.serials.items p.changes.items c.self.invariant.filed).rises
 
 pub invariant_of-self-2 : goal.invariant_of-self-2

@@ -4,10 +4,11 @@ use Rattle.std.specs.Option.{option_to_list}
 use Rattle.tc_pending.specs.Changes.{saved_at, IsLog}
 use Rattle.tc_lists.specs.Marks.{IsGivenUp}
 use Rattle.tc_pending.specs.Waiting.{Waiting}
-use Rattle.tc_pending.proofs.Log.{IsLog-none, IsLog-kept, waiting-kept, some_from_test, none_from_test}
+use Rattle.tc_pending.proofs.Log.{IsLog-none, IsLog-kept, waiting-kept, none_from_test}
+use Rattle.tc_lists.proofs.Bools.{some_from_test}
 use Rattle.tc_pending.specs.Codes.{codes_of}
 use Rattle.tc_pending.specs.Filed.{KeepsAll}
-use Rattle.tc_pending.specs.Rising.{Rises}
+use Rattle.tc_pending.specs.Rising.{NumbersRise}
 use Rattle.tc_pending.proofs.Filed.{IsFiled-kept, AreFiled-now, AreFiled-only}
 use Rattle.tc_pending.proofs.pending.Pending.keep.Goals as goal
 
@@ -29,7 +30,7 @@ module _ (c : goal.Else-is_empty) where
 pub forget_removed-requires : goal.forget_removed-requires
 forget_removed-requires c =
     let p = c.self.inside in
-    subst Rises (sym c.deref.ensures.value)
+    subst NumbersRise (sym c.deref.ensures.value)
     (AreFiled-now p.index p.filed p.requests.items p.serials.items p.changes.items c.self.invariant.filed).rises
 
 pub invariant_of-self : goal.invariant_of-self

@@ -1,7 +1,7 @@
 use Rattle.std.proofs.Common.{◌==◌, ◌∷◌, [], ◌++◌, not, ap, sym, ◌∙◌}
 use Rattle.tc_pending.specs.Changes.{AreFiled}
 use Rattle.tc_pending.specs.Codes.{codes_of}
-use Rattle.tc_pending.specs.Waiting.{marked}
+use Rattle.tc_pending.specs.Waiting.{marked_requests}
 use Rattle.tc_pending.proofs.Filed.{IsFiled-at, AreFiled-now, AreFiled-filed}
 use Rattle.tc_pending.proofs.Log.{waiting, IsLog-marked, saved-marked}
 use Rattle.tc_pending.proofs.pending.Pending.mark.Goals as goal
@@ -44,4 +44,4 @@ returns-clause-marked c =
     ap (waiting c.self.inside.requests.items)
     (saved-marked c.self.inside.requests.items c.self.inside.changes.items c.self.inside.marks.items c.push.new.self.items
     (c.in_ok-push.ensures.items ∙ ap (λ n. c.self.inside.marks.items ++ n ∷ []) (c.len.ensures ∙ c.self.inside.changes.ok.0)))
-    ∙ ap marked c.self.view_is
+    ∙ ap marked_requests c.self.view_is

@@ -6,7 +6,7 @@ use Rattle.tc_pending.specs.declared.changes.Change.TheVariants.{Removed}
 use Rattle.tc_pending.specs.Changes.{earlier, earlier_serials, Fits, IsLog}
 use Rattle.tc_pending.specs.Codes.{codes_of}
 use Rattle.tc_pending.specs.Filed.{IsFiled, KeepsAll}
-use Rattle.tc_pending.specs.Rising.{Rises}
+use Rattle.tc_pending.specs.Rising.{NumbersRise}
 use Rattle.tc_pending.specs.Waiting.{Waiting}
 use Rattle.tc_pending.proofs.Log.{same_waiting, none-noted, IsLog-noted, saved-logged, length-noted, insert-removed, Fits-removed}
 use Rattle.tc_pending.proofs.Coded.{codes-remove, length-codes}
@@ -106,7 +106,7 @@ remove-serial-requires c =
     )
 
 pub leave-requires : goal.leave-requires
-leave-requires c = subst Rises (sym c.deref.ensures.value) (now (goal.at.leave-requires c).After-note).rises
+leave-requires c = subst NumbersRise (sym c.deref.ensures.value) (now (goal.at.leave-requires c).After-note).rises
 
 pub invariant_of-self : goal.invariant_of-self
 invariant_of-self c =

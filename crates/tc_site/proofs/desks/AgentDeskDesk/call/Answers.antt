@@ -9,6 +9,7 @@ use Rattle.tc_site.specs.Desks.{AgentState, IsSound}
 use Rattle.tc_site.specs.Turns.{IsTurn, waiting_of}
 use Rattle.tc_site.proofs.Told.{at-pass, decides, decides-refused, goes-after, goes-turn, keeps-gone, keeps-refused, keeps-same, lost-before, lost-turn}
 use Rattle.tc_site.proofs.Told.{pushed, read-row, read-turn, refuses, spends-gone, spends-refused, tells}
+use Rattle.tc_site.proofs.There.{call-there, none-there, refused-there, room-there}
 use Rattle.tc_site.proofs.Turned.{desk-refused, desk-seen, desk-turned, idle-log, pass-free, pass-next}
 use Rattle.tc_site.proofs.desks.AgentDeskDesk.call.Goals as goal
 
@@ -78,14 +79,30 @@ invariant_of-self-in_default-why g c =
 pub returns-then-is_err-clause-kept : goal.returns-then-is_err-clause-kept
 returns-then-is_err-clause-kept g c = keeps-same _ c.args.self.now c.reserve.new.self.items c.self.view_is c.reserve.ensures.items c.requires.free
 
+pub returns-then-is_err-clause-there : goal.returns-then-is_err-clause-there
+returns-then-is_err-clause-there g c =
+    none-there _ c.args.centre.now c.args.ask c.reserve.new.self.items c.args.self.now c.self.view_is _ refl
+
 pub returns-in_default-clause-kept : goal.returns-in_default-clause-kept
 returns-in_default-clause-kept g c = keeps-same _ c.args.self.now c.reserve.new.self.items c.self.view_is c.reserve.ensures.items c.requires.free
+
+pub returns-in_default-clause-there : goal.returns-in_default-clause-there
+returns-in_default-clause-there g c =
+    none-there _ c.args.centre.now c.args.ask c.reserve.new.self.items c.args.self.now c.self.view_is _ refl
 
 pub returns-in_default-copy-clause-kept : goal.returns-in_default-copy-clause-kept
 returns-in_default-copy-clause-kept g c = keeps-same _ c.args.self.now c.reserve.new.self.items c.self.view_is c.reserve.ensures.items c.requires.free
 
+pub returns-in_default-copy-clause-there : goal.returns-in_default-copy-clause-there
+returns-in_default-copy-clause-there g c =
+    none-there _ c.args.centre.now c.args.ask c.reserve.new.self.items c.args.self.now c.self.view_is _ refl
+
 pub returns-in-NoMemory-clause-kept : goal.returns-in-NoMemory-clause-kept
 returns-in-NoMemory-clause-kept g c = keeps-same _ c.args.self.now c.reserve.new.self.items c.self.view_is c.reserve.ensures.items c.requires.free
+
+pub returns-in-NoMemory-clause-there : goal.returns-in-NoMemory-clause-there
+returns-in-NoMemory-clause-there g c =
+    none-there _ c.args.centre.now c.args.ask c.reserve.new.self.items c.args.self.now c.self.view_is c.in-Err.why c.in-NoMemory.is
 
 pub returns-then-is_err-clause-became : goal.returns-then-is_err-clause-became
 returns-then-is_err-clause-became g c =
@@ -137,6 +154,8 @@ returns-in-Ok-turn_at g c =
       became = tells g.W.Warden.permits _ c.self.invariant c.is_some-waits.result c.is_some-waits.ensures c.args.centre.now c.args.ask place
           allowed.0 op allowed.1 t p q c.centre.ensures at-p c.turn_at.ensures.kept became row pushed-log c.waiting-self-inside.result
           c.told-told.result c.args.self.now row-is log-is c.waiting-self-inside.ensures c.told-told.ensures c.self.view_is turn;
+      there = call-there _ c.args.centre.now place allowed.0.named t p q c.centre.ensures at-p pushed-log c.waiting-self-inside.result
+          c.args.ask op allowed.1 became row c.told-told.result c.args.self.now row-is log-is c.told-told.ensures c.self.view_is turn;
     }
 
 pub returns-in-Err-turn_at-clause-kept : goal.returns-in-Err-turn_at-clause-kept
@@ -154,6 +173,13 @@ returns-in-Err-turn_at-clause-turns g c =
     let at-p = at-pass c.self.invariant c.judge.ensures.site c.in-Ok-judge.field-0.place named c.index_mut-pass.ensures.value in
     spends-gone _ _ p q at-p c.reserve.new.self.items c.self.inside.pending c.args.self.now c.self.view_is
     (goes-after c.centre.result.now p q q.seen p.mine c.in-Err-turn_at.ensures.room.sees.after)
+
+pub returns-in-Err-turn_at-clause-there : goal.returns-in-Err-turn_at-clause-there
+returns-in-Err-turn_at-clause-there g c =
+    let named = c.in-Ok-judge.ensures.allowed.0.named in
+    let at-p = at-pass c.self.invariant c.judge.ensures.site c.in-Ok-judge.field-0.place named c.index_mut-pass.ensures.value in
+    room-there _ c.args.centre.now c.in-Ok-judge.field-0.place named c.centre.result.now _ c.turn_at.new.pass c.centre.ensures at-p
+    c.reserve.new.self.items c.self.inside.pending c.args.ask c.args.self.now c.self.view_is c.in-Err-turn_at.ensures.room
 
 pub returns-in-Err-turn_at-clause-became : goal.returns-in-Err-turn_at-clause-became
 returns-in-Err-turn_at-clause-became g c =
@@ -188,4 +214,5 @@ returns-in_default-why g c =
           (subst (λ (x : AgentState g.row.W.Denot). IsSound permits x.site x.agent x.log) (sym c.self.view_is) sound);
       became = refuses permits _ c.self.invariant waits c.is_some-waits.ensures c.args.centre.now c.args.ask why other refused log log-is
           c.args.self.now c.self.view_is;
+      there = refused-there _ c.args.centre.now c.args.ask log c.args.self.now c.self.view_is permits waits why other refused;
     }

@@ -2,6 +2,7 @@ use Rattle.std.proofs.Common.{ap₂}
 use Rattle.tc_site.proofs.Becoming.{polled-becomes, polled-desk_now}
 use Rattle.tc_site.proofs.Polled.{polled-next}
 use Rattle.tc_site.proofs.Seeing.{has-pass}
+use Rattle.tc_site.proofs.There.{poll-there}
 use Rattle.tc_site.proofs.desks.AgentDeskDesk.poll.Goals as goal
 
 pub poll_for-polled-requires : goal.poll_for-polled-requires
@@ -37,4 +38,6 @@ returns g c =
       turns = becomes.turns;
       sound = becomes.sound;
       became = becomes.came;
+      there = poll-there has c.in-Some.is c.poll_for-polled.new.pass c.poll_for-polled.new.log.items c.still-self-inside.result c.poll_for-polled.result c.args.self.now
+          c.self.view_is (c.poll_for-polled.ensures.polled has.waiting.row_is has.at_row);
     }

@@ -1,0 +1,132 @@
+-- What the turn of a call or of a poll came to, at the centre that it went to.
+use Rattle.std.proofs.Common.{◌≡◌, ℕ, ◌+◌, List, Bool, Option, Some, Ok, Err, Result, inl, inr, length, refl, sym, ap, subst}
+use Rattle.std.specs.List.{slice_get}
+use Rattle.tc_desk.specs.Desks.{with_row}
+use Rattle.tc_desk.specs.Operands.{OpOf, Sound}
+use Rattle.tc_desk.specs.declared.desks.DeskFault.{DeskFault}
+use Rattle.tc_desk.specs.declared.desks.DeskFault.TheVariants as fault
+use Rattle.tc_desk.specs.declared.desks.Seen.{Seen}
+use Rattle.tc_desk.specs.declared.desks.Served.{Served}
+use Rattle.tc_desk.specs.declared.rows.LogRow.{LogRow}
+use Rattle.tc_desk.specs.declared.rows.LogResult.{LogResult}
+use Rattle.tc_desk.specs.declared.rows.LogResult.TheVariants.{Replied, Pending, Refused, Polled}
+use Rattle.tc_desk.specs.declared.rows.Refusal.{Refusal}
+use Rattle.tc_desk.specs.declared.rows.Refusal.TheVariants as refusal
+use Rattle.tc_model.specs.State.{Origin}
+use Rattle.tc_model.specs.declared.asks.Ask.{Ask}
+use Rattle.tc_model.specs.declared.asks.Primitive.{Primitive}
+use Rattle.tc_model.specs.declared.calls.Op.{Op}
+use Rattle.tc_model.specs.declared.entries.Entry.{Entry}
+use Rattle.tc_shared.specs.Passes.{SeesRoom}
+use Rattle.tc_turn.specs.Passes.{TurnstileState, PassState}
+use Rattle.tc_site.specs.Desks.{AgentState}
+use Rattle.tc_site.specs.Judging.{IsRefusedFor}
+use Rattle.tc_site.specs.Polling.{IsPolled}
+use Rattle.tc_site.specs.There.{CallsThere, GoesTo, IsCallThere, IsPollThere, PollsThere}
+use Rattle.tc_site.specs.Turns.{IsTurn, told_of}
+use Rattle.tc_site.specs.declared.waiting.WaitingAt.{WaitingAt}
+use Rattle.tc_site.proofs.Becoming.{after}
+use Rattle.tc_site.proofs.Seeing.{HasPass}
+
+module _ {W : Type 0} (d : AgentState W) (centre : List ℕ) (place : ℕ) (named : slice_get d.site.names place ≡ Some centre)
+    (t : TurnstileState Origin) (p q : PassState Entry Origin) (at-t : slice_get d.site.centres place ≡ Some t)
+    (at-p : slice_get d.passes place ≡ Some p) (log : List LogRow) (pending : Option WaitingAt) where
+  abbrev goes-to : GoesTo d centre place (after d place q log pending)
+  goes-to = record { named = named; t = t; p = p; q = q; at_centre = at-t; at_pass = at-p; after = refl }
+
+  -- memory ran out in the turn
+  pub room-there : (ask : Ask) (s : AgentState W) → d ≡ s → SeesRoom t p q
+      → IsCallThere s centre ask (Err refusal.NoMemory) (after d place q log pending)
+  room-there ask s same room =
+      subst (λ x. IsCallThere x centre ask (Err refusal.NoMemory) (after d place q log pending)) same
+      (inr (record { place = place; there = goes-to; room = room }))
+
+  module _ (ask : Ask) (op : Op) (sound : OpOf ask (Sound op)) where
+    calls : (became : LogResult) → log ≡ with_row d.log centre (Some ask) became → IsTurn t p (length d.log + 1) op became q
+        → CallsThere d centre ask (told_of became) (after d place q log pending)
+    calls became log-is turn = record {
+      place = place;
+      there = goes-to;
+      op = op;
+      is = sound;
+      became = became;
+      turn = turn;
+      row = log-is;
+      told_is = refl;
+    }
+
+    came : (became : LogResult) → IsTurn t p (length d.log + 1) op became q → CallsThere d centre ask (told_of became) (after d place q log pending)
+        → IsCallThere d centre ask (told_of became) (after d place q log pending)
+    came (Replied reply) turn calls = calls
+    came Pending turn calls = calls
+    came (Refused refusal.TurnsSpent) turn calls = calls
+    came (Refused (refusal.Full weight many)) turn calls = calls
+    came (Refused refusal.UnknownCentre) turn calls = absurd turn
+    came (Refused refusal.Waiting) turn calls = absurd turn
+    came (Refused refusal.Denied) turn calls = absurd turn
+    came (Refused refusal.TooBig) turn calls = absurd turn
+    came (Refused refusal.NotGround) turn calls = absurd turn
+    came (Refused (refusal.BadSpec bad)) turn calls = absurd turn
+    came (Refused refusal.NoMemory) turn calls = absurd turn
+    came (Polled told) turn calls = absurd turn
+
+    -- the call came to its turn
+    pub call-there : (became : LogResult) (row : ℕ) (told : Result Served Refusal) (s : AgentState W) → row ≡ length d.log
+        → log ≡ with_row d.log centre (Some ask) became → told ≡ told_of became → d ≡ s → IsTurn t p (row + 1) op became q
+        → IsCallThere s centre ask told (after d place q log pending)
+    call-there became row told s row-is log-is told-is same turn =
+        let turn' : IsTurn t p (length d.log + 1) op became q = subst (λ n. IsTurn t p (n + 1) op became q) row-is turn in
+        subst (λ x. IsCallThere x centre ask told (after d place q log pending)) same
+        (subst (λ r. IsCallThere d centre ask r (after d place q log pending)) (sym told-is)
+        (came became turn' (calls became log-is turn')))
+
+-- a call that came to no turn
+module _ {W : Type 0} (d : AgentState W) (centre : List ℕ) (ask : Ask) (log : List LogRow) (s : AgentState W) (same : d ≡ s) where
+  abbrev still : AgentState W
+  still = record { site = d.site; agent = d.agent; passes = d.passes; log = log; pending = d.pending; held = d.held }
+
+  nowhere : still.passes ≡ s.passes
+  nowhere = ap (λ (x : AgentState W). x.passes) same
+
+  pub refused-there : (permits : W → ℕ → ℕ → Primitive → Option ℕ) (waits : Bool) (why : Refusal) → (why ≡ refusal.NoMemory → ⊥)
+      → IsRefusedFor permits d.site d.agent waits centre ask why → IsCallThere s centre ask (Err why)
+      (record { site = d.site; agent = d.agent; passes = d.passes; log = log; pending = d.pending; held = d.held })
+  refused-there permits waits refusal.UnknownCentre other refused = nowhere
+  refused-there permits waits refusal.Waiting other refused = nowhere
+  refused-there permits waits refusal.Denied other refused = nowhere
+  refused-there permits waits refusal.TooBig other refused = nowhere
+  refused-there permits waits refusal.NotGround other refused = nowhere
+  refused-there permits waits (refusal.BadSpec bad) other refused = nowhere
+  refused-there permits waits refusal.TurnsSpent other refused = absurd refused
+  refused-there permits waits (refusal.Full weight many) other refused = absurd refused
+  refused-there permits waits refusal.NoMemory other refused = absurd (other refl)
+
+  -- memory ran out before a turn
+  pub none-there : (why : Refusal) → why ≡ refusal.NoMemory
+      → IsCallThere s centre ask (Err why)
+      (record { site = d.site; agent = d.agent; passes = d.passes; log = log; pending = d.pending; held = d.held })
+  none-there why is = subst (λ y. IsCallThere s centre ask (Err y) still) (sym is) (inl nowhere)
+
+-- a poll for the reply to the pending row
+module _ {W : Type 0} {d : AgentState W} {w : WaitingAt} {t : TurnstileState Origin} {p : PassState Entry Origin} (has : HasPass d w t p)
+    (at : d.pending ≡ Some w) (q : PassState Entry Origin) (log : List LogRow) (pending : Option WaitingAt) where
+  polls : (r : Result Seen DeskFault) → IsPolled t w.row p has.waiting.row_is.centre d.log r q log → PollsThere d r (after d w.centre q log pending)
+  polls r poll = record {
+    at = w;
+    pending = at;
+    row = has.waiting.row_is;
+    at_row = has.at_row;
+    there = goes-to d has.waiting.row_is.centre w.centre has.waiting.named t p q has.at_centre has.at_pass log pending;
+    polled = poll;
+  }
+
+  came-poll : (r : Result Seen DeskFault) → IsPolled t w.row p has.waiting.row_is.centre d.log r q log → IsPollThere d r (after d w.centre q log pending)
+  came-poll (Ok seen) poll = polls (Ok seen) poll
+  came-poll (Err fault.TurnsSpent) poll = polls (Err fault.TurnsSpent) poll
+  came-poll (Err (fault.Full weight many)) poll = polls (Err (fault.Full weight many)) poll
+  came-poll (Err fault.NoMemory) poll = polls (Err fault.NoMemory) poll
+  came-poll (Err fault.Idle) poll = absurd poll
+
+  pub poll-there : (r : Result Seen DeskFault) (s : AgentState W) → d ≡ s → IsPolled t w.row p has.waiting.row_is.centre d.log r q log
+      → IsPollThere s r (after d w.centre q log pending)
+  poll-there r s same poll = subst (λ x. IsPollThere x r (after d w.centre q log pending)) same (came-poll r poll)
