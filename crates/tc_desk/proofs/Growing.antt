@@ -5,7 +5,7 @@ use Rattle.std.proofs.lemmas.Bool.{cases_eq, true≢false}
 use Rattle.std.proofs.lemmas.List.{append-nil, length-append}
 use Rattle.std.proofs.lemmas.List.Elements.{All-nil, All-weaker, Contains-append_left}
 use Rattle.std.proofs.lemmas.Option.{none-some, same_Some, slice_get_within}
-use Rattle.tc_desk.specs.Agreeing.{Agrees, AgreesRefused, AgreesRow, AreLonger, HasComeTo, HasPolled, HasReply, HasRow, HasWaited, HaveRows, IsLastServed, IsLonger, IsMadeBy, IsNextRow, numbered}
+use Rattle.tc_desk.specs.Agreeing.{Agrees, AgreesRefused, AgreesRow, AreLonger, HasComeTo, HasPolled, HasReply, HasRow, HasWaited, HaveRows, IsLastServed, IsLonger, IsMadeBy, IsNextRow, NamesCentre, numbered}
 use Rattle.tc_desk.specs.Desks.{replied}
 use Rattle.tc_desk.specs.Logs.{is_pending, is_served}
 use Rattle.tc_desk.specs.declared.rows.LogResult.{LogResult}
@@ -184,6 +184,12 @@ module _ (origins : List Origin) (names : List (List ℕ)) (olds news : List (Li
         (λ (last : (k ≡ length log) × (x ≡ row)).
         ap (λ (r : LogRow). r.number) last.1 ∙ next.counted ∙ ap (λ n. n + 1) (sym last.0))
         (slice_get_push log row k x at);
+    known = λ k x at.
+        ⊎_elim
+        (λ (before : (k < length log) × (slice_get log k ≡ Some x)). agrees.known k x before.1)
+        (λ (last : (k ≡ length log) × (x ≡ row)).
+        subst (λ (r : LogRow). NamesCentre names r.centre r.result) (sym last.1) next.known)
+        (slice_get_push log row k x at);
     rows = λ k place x origin history at named began there.
         ⊎_elim
         (λ (before : (k < length log) × (slice_get log k ≡ Some x)).
@@ -204,6 +210,7 @@ module _ (origins : List Origin) (names : List (List ℕ)) (olds news : List (Li
       → HaveRows names news agent log → Agrees origins names news agent log
   Agrees-longer log agrees longer have = record {
     numbers = agrees.numbers;
+    known = agrees.known;
     rows = λ k place x origin history at named began there.
         let within = slice_get_within log k x at in
         rows-longer log log (length log) k place x origin history agrees longer (omega (arith, within)) (AreLike-same k log) at named began there;
@@ -312,6 +319,15 @@ module _ (front : List LogRow) (row : LogRow) (back : List LogRow) (reply : Repl
           let is : x ≡ replied row reply = same_Some x (replied row reply) (sym at ∙ ap (slice_get after) here ∙ slice_get_middle front (replied row reply) back) in
           ap (λ (r : LogRow). r.number) is ∙ agrees.numbers (length front) row (slice_get_middle front row back) ∙ ap (λ n. n + 1) (sym here))
           (λ (other : k ≡ length front → ⊥). agrees.numbers k x (slice_get_beside front row (replied row reply) back k other ∙ at))
+          (cases_eq k (length front));
+      known = λ k x at.
+          ⊎_elim
+          (λ (here : k ≡ length front).
+          let is : x ≡ replied row reply = same_Some x (replied row reply) (sym at ∙ ap (slice_get after) here ∙ slice_get_middle front (replied row reply) back) in
+          let was : Contains names row.centre =
+          subst (NamesCentre names row.centre) pending (agrees.known (length front) row (slice_get_middle front row back)) in
+          subst (λ (r : LogRow). NamesCentre names r.centre r.result) (sym is) was)
+          (λ (other : k ≡ length front → ⊥). agrees.known k x (slice_get_beside front row (replied row reply) back k other ∙ at))
           (cases_eq k (length front));
       rows = λ k place x origin history at named began there.
           ⊎_elim

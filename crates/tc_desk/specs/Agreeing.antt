@@ -90,11 +90,28 @@ pub record HasRow (log : List LogRow) (centre : List ℕ) (e : Entry) : Type 0 w
   pub there : row.centre ≡ centre
   pub made : IsMadeBy e row.result
 
+-- where a row may stand that came to this: it names one of the centres, and one that was refused as of an
+-- unknown centre names none
+abbrev pub NamesCentre : List (List ℕ) → List ℕ → LogResult → Type 0
+NamesCentre names centre (Replied reply) = Contains names centre
+NamesCentre names centre Pending = Contains names centre
+NamesCentre names centre (Refused refusal.UnknownCentre) = Contains names centre → ⊥
+NamesCentre names centre (Refused refusal.Waiting) = Contains names centre
+NamesCentre names centre (Refused refusal.Denied) = Contains names centre
+NamesCentre names centre (Refused refusal.TooBig) = Contains names centre
+NamesCentre names centre (Refused refusal.NotGround) = Contains names centre
+NamesCentre names centre (Refused (refusal.BadSpec bad)) = Contains names centre
+NamesCentre names centre (Refused refusal.TurnsSpent) = Contains names centre
+NamesCentre names centre (Refused (refusal.Full weight pending)) = Contains names centre
+NamesCentre names centre (Refused refusal.NoMemory) = Contains names centre
+NamesCentre names centre (Polled told) = Contains names centre
+
 -- an agent's log agrees with the histories of the centres of these names: the rows are numbered from 1
--- on, what each says is so, and whatever the agent has made there has its row
+-- on and name these centres, what each says is so, and whatever the agent has made there has its row
 pub record Agrees (origins : List Origin) (names : List (List ℕ)) (histories : List (List Entry)) (agent : ℕ)
     (log : List LogRow) : Type 0 where
   pub numbers : (k : ℕ) (row : LogRow) → slice_get log k ≡ Some row → row.number ≡ k + 1
+  pub known : (k : ℕ) (row : LogRow) → slice_get log k ≡ Some row → NamesCentre names row.centre row.result
   pub rows : (k place : ℕ) (row : LogRow) (origin : Origin) (history : List Entry)
       → slice_get log k ≡ Some row → slice_get names place ≡ Some row.centre
       → slice_get origins place ≡ Some origin → slice_get histories place ≡ Some history
@@ -120,10 +137,11 @@ HaveRows names histories agent log = (place : ℕ) (centre : List ℕ) (history 
     → slice_get names place ≡ Some centre → slice_get histories place ≡ Some history
     → All (HasRow log centre) (calls_of agent history)
 
--- the row that comes behind the log agrees with the history of its centre
+-- the row that comes behind the log names its centre, and agrees with the history of that
 pub record IsNextRow (origins : List Origin) (names : List (List ℕ)) (histories : List (List Entry))
     (agent : ℕ) (log : List LogRow) (row : LogRow) : Type 0 where
   pub counted : row.number ≡ length log + 1
+  pub known : NamesCentre names row.centre row.result
   pub agrees : (place : ℕ) (origin : Origin) (history : List Entry) → slice_get names place ≡ Some row.centre
       → slice_get origins place ≡ Some origin → slice_get histories place ≡ Some history
       → AgreesRow origin history (numbered agent (length log + 1)) log (length log) row row.result

@@ -31,6 +31,7 @@ module _ {W : Type 0} (s : SiteState W) (agent : ℕ) (passes : List (PassState 
         ap (λ (q : PassState Entry Origin). q.holds) (fresh.fresh k t.0 p t.1 at);
     agrees = record {
       numbers = λ k row at. absurd (none-some row at);
+      known = λ k row at. absurd (none-some row at);
       rows = λ k place row origin history at named began there. absurd (none-some row at);
       calls = λ place centre history named there.
           let p = slice_get-map_from (λ (q : PassState Entry Origin). q.seen) passes place history there in

@@ -46,7 +46,7 @@ use Rattle.tc_lists.proofs.Sets.{slice_get-map_at, slice_get-set_same}
 use Rattle.tc_site.proofs.Putting.{put-settled, unserved-settled}
 use Rattle.tc_site.proofs.Seeing.{HasSeen, answered-desk, answered-read, answered-sound, later-desk, none-left, pending-row, pending-some, row-at, same-desk, seen-same, seen-sees, stands}
 use Rattle.tc_site.proofs.Told.{Goes, goes-after, goes-same, keeps-gone, set-self, spends-gone, takes-gone}
-use Rattle.tc_site.proofs.Turned.{desk-pushed, own-pass, pass-free, pass-next, rows-made, rows-same, waits-behind, was-full}
+use Rattle.tc_site.proofs.Turned.{desk-pushed, has-name, own-pass, pass-free, pass-next, rows-made, rows-same, waits-behind, was-full}
 
 -- a log with a row of a poll behind it
 module _ (log : List LogRow) (centre : List ℕ) (result : LogResult) where
@@ -196,6 +196,7 @@ module _ {W : Type 0} (d : AgentState W) (is : IsDesk d) (site : IsSite d.site.n
       told-desk : IsDesk (now (with_row d.log centre None (Polled m.reply)) (Some w))
       told-desk =
           desk-pushed d is site free w.centre centre waiting.named t p at-t at-p q keeps row (Some w) refl refl told-grown told-agrees
+          (has-name d.site.names w.centre centre waiting.named)
           (rows-made d is site free w.centre centre waiting.named t p at-t at-p q keeps row entry mine-is entry-row)
           (waits-behind d.site.names d.log w row waiting refl)
 
@@ -341,6 +342,7 @@ module _ {W : Type 0} (d : AgentState W) (is : IsDesk d) (site : IsSite d.site.n
           (desk-pushed d is site free w.centre centre waiting.named t p at-t at-p q keeps (row-of full) (Some w) refl refl
           (grown-sees t p q (length d.log) h.sees)
           (was-full d is site free w.centre centre waiting.named t p at-t at-p q keeps weight many h)
+          (has-name d.site.names w.centre centre waiting.named)
           (rows-same d is site free w.centre centre waiting.named t p at-t at-p q keeps (row-of full)
           (ap (λ (x : PassState Entry Origin). x.mine) h.sees.after))
           (waits-behind d.site.names d.log w (row-of full) waiting refl))

@@ -45,7 +45,7 @@ use Rattle.tc_site.specs.Sites.{IsSite, histories_of}
 use Rattle.tc_site.specs.Turns.{HasGrown, IsTurn, IsTurnRefused, told_of, waiting_of}
 use Rattle.tc_site.specs.declared.waiting.WaitingAt.{WaitingAt}
 use Rattle.tc_lists.proofs.Sets.{slice_get-map_at, slice_get-set_same}
-use Rattle.tc_site.proofs.Turned.{idle-log, same-place}
+use Rattle.tc_site.proofs.Turned.{has-name, idle-log, same-place}
 
 -- the numbers of a list in which one element is replaced
 module _ {X : Type 0} (f : X → ℕ) where
@@ -297,7 +297,7 @@ module _ {W : Type 0} (permits : W → ℕ → ℕ → Primitive → Option ℕ)
 
   ready : IsReady (desk_of d) centre
   ready = record {
-    known = (place, slice_get_within d.site.names place centre allowed.named, get_or_from_slice_get d.site.names place centre centre allowed.named);
+    known = has-name d.site.names place centre allowed.named;
     idle = idle-log d.site.names d.log d.pending is.waits none-pending;
   }
 
@@ -471,7 +471,7 @@ module _ {W : Type 0} (permits : W → ℕ → ℕ → Primitive → Option ℕ)
 
   ready-at : (place : ℕ) → slice_get d.site.names place ≡ Some centre → waits ≡ false → IsReady (desk_of d) centre
   ready-at place named idle = record {
-    known = (place, slice_get_within d.site.names place centre named, get_or_from_slice_get d.site.names place centre centre named);
+    known = has-name d.site.names place centre named;
     idle = idle-log d.site.names d.log d.pending is.waits (sym waits-is ∙ idle);
   }
 

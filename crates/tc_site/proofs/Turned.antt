@@ -10,7 +10,7 @@ use Rattle.std.proofs.lemmas.List.Folds.{list_any-append}
 use Rattle.std.proofs.lemmas.Option.{none-some, same_Some, slice_get_within, get_or_from_slice_get}
 use Rattle.tc_centre.specs.declared.answers.Answer.{Answer}
 use Rattle.tc_centre.specs.declared.answers.Answer.TheVariants as answer
-use Rattle.tc_desk.specs.Agreeing.{AgreesRefused, AgreesRow, AreLonger, HasRow, HaveRows, IsLonger, IsNextRow, numbered}
+use Rattle.tc_desk.specs.Agreeing.{AgreesRefused, AgreesRow, AreLonger, HasRow, HaveRows, IsLonger, IsNextRow, NamesCentre, numbered}
 use Rattle.tc_desk.specs.Desks.{with_row}
 use Rattle.tc_desk.specs.Logs.{any_pending, is_pending, is_served}
 use Rattle.tc_desk.specs.Operands.{OpOf, Sound}
@@ -63,6 +63,10 @@ same-place names i j name differ here there =
     ⊎_elim (λ (before : j < i). absurd (differ j i name before m (b ∙ sym a)))
     (λ (last : i ≤ j). let same : i ≡ j = omega (arith, behind, last) in same) (cases_lt j i))
     (cases_lt i j)
+
+-- a name with a place is one of the names
+pub has-name : (names : List (List ℕ)) (place : ℕ) (name : List ℕ) → slice_get names place ≡ Some name → Contains names name
+has-name names place name at = (place, slice_get_within names place name at, get_or_from_slice_get names place name name at)
 
 -- a log in which no row is pending, with one more that isn't
 pub settled-push : (log : List LogRow) (row : LogRow) → any_pending log ≡ false → is_pending row.result ≡ false → any_pending (log ++ row ∷ []) ≡ false
@@ -283,9 +287,11 @@ module _ {W : Type 0} (d : AgentState W) (is : IsDesk d) (site : IsSite d.site.n
     -- with a row more that agrees with what the pass has seen
     module _ (row : LogRow) (pending : Option WaitingAt) (counted : row.number ≡ length d.log + 1) (of : row.centre ≡ centre) where
       next-row : AgreesRow t.origin q.seen (numbered d.agent (length d.log + 1)) d.log (length d.log) row row.result
+          → NamesCentre d.site.names centre row.result
           → IsNextRow (origins_of d.site.centres) d.site.names (histories_of (set d.passes place q)) d.agent d.log row
-      next-row agrees = record {
+      next-row agrees known = record {
         counted = counted;
+        known = subst (λ c. NamesCentre d.site.names c row.result) (sym of) known;
         agrees = λ k origin history at began there.
             let here : k ≡ place = same-place d.site.names k place centre site.differ (at ∙ ap Some of) named in
             let first = slice_get-map_from (λ (x : TurnstileState Origin). x.origin) d.site.centres k origin began in
@@ -298,15 +304,15 @@ module _ {W : Type 0} (d : AgentState W) (is : IsDesk d) (site : IsSite d.site.n
       }
 
       pub desk-pushed : HasGrown (length d.log) p q → AgreesRow t.origin q.seen (numbered d.agent (length d.log + 1)) d.log (length d.log) row row.result
-          → All (HasRow (d.log ++ row ∷ []) centre) q.mine → WaitsAt d.site.names (d.log ++ row ∷ []) pending
+          → NamesCentre d.site.names centre row.result → All (HasRow (d.log ++ row ∷ []) centre) q.mine → WaitsAt d.site.names (d.log ++ row ∷ []) pending
           → IsDesk (record d { passes = set d.passes place q; log = d.log ++ row ∷ []; pending = pending })
-      desk-pushed grown agrees made waits = record {
+      desk-pushed grown agrees known made waits = record {
         agent_is = is.agent_is;
         are = are-set d.agent (length d.log) place d.site.centres d.passes is.are t p q at-t at-p keeps.own keeps.number;
         holds = holds-set;
         agrees = Agrees-push (origins_of d.site.centres) d.site.names (histories_of d.passes) (histories_of passes') d.agent d.log row is.agrees
             (longer-set d.agent (length d.log) place d.site.centres d.passes is.are t p q at-t at-p keeps.own keeps.number grown)
-            (next-row agrees) (rows-set (d.log ++ row ∷ []) (λ name es all. HaveRow-longer d.log (row ∷ []) name es all) made);
+            (next-row agrees known) (rows-set (d.log ++ row ∷ []) (λ name es all. HaveRow-longer d.log (row ∷ []) name es all) made);
         waits = waits;
       }
 
@@ -340,6 +346,24 @@ module _ {W : Type 0} (d : AgentState W) (is : IsDesk d) (site : IsSite d.site.n
       refused-agrees refusal.NotGround turn = tt
       refused-agrees (refusal.BadSpec bad) turn = tt
       refused-agrees refusal.NoMemory turn = absurd turn
+
+      refused-named : (why : Refusal) → IsTurn t p next op (Refused why) q → NamesCentre d.site.names centre (Refused why)
+      refused-named (refusal.Full weight pending) turn = has-name d.site.names place centre named
+      refused-named refusal.TurnsSpent turn = has-name d.site.names place centre named
+      refused-named refusal.UnknownCentre turn = absurd turn
+      refused-named refusal.Waiting turn = absurd turn
+      refused-named refusal.Denied turn = absurd turn
+      refused-named refusal.TooBig turn = absurd turn
+      refused-named refusal.NotGround turn = absurd turn
+      refused-named (refusal.BadSpec bad) turn = absurd turn
+      refused-named refusal.NoMemory turn = absurd turn
+
+      -- the row names the centre
+      row-named : (became : LogResult) → IsTurn t p next op became q → NamesCentre d.site.names centre became
+      row-named (Replied r) turn = has-name d.site.names place centre named
+      row-named Pending turn = has-name d.site.names place centre named
+      row-named (Refused why) turn = refused-named why turn
+      row-named (Polled told) turn = absurd turn
 
       -- the row agrees with what the pass has seen
       row-agrees : (became : LogResult) → IsTurn t p next op became q
@@ -408,7 +432,7 @@ module _ {W : Type 0} (d : AgentState W) (is : IsDesk d) (site : IsSite d.site.n
       desk-turned became {log = log} log-is pending-is idle grown turn =
           subst (λ w. IsDesk (record d { passes = set d.passes place q; log = log; pending = w })) (sym pending-is)
           (subst (λ l. IsDesk (record d { passes = set d.passes place q; log = l; pending = waiting_of became (length d.log) place })) (sym log-is)
-          (desk-pushed (row-of became) (waiting_of became (length d.log) place) refl refl grown (row-agrees became turn) (turn-rows became turn)
+          (desk-pushed (row-of became) (waiting_of became (length d.log) place) refl refl grown (row-agrees became turn) (row-named became turn) (turn-rows became turn)
           (waits-turned d.site.names d.log centre ask place became named idle)))
 
 pub longer-same : (agent top : ℕ) (histories : List (List Entry)) → AreLonger agent top histories histories
@@ -431,12 +455,25 @@ module _ {W : Type 0} (permits : W → ℕ → ℕ → Primitive → Option ℕ)
   judged-agrees (refusal.BadSpec bad) origin history id other refused = tt
   judged-agrees refusal.NoMemory origin history id other refused = absurd (other refl)
 
+  judged-named : (why : Refusal) → (why ≡ refusal.NoMemory → ⊥) → IsRefusedFor permits d.site d.agent waits centre asked why
+      → NamesCentre d.site.names centre (Refused why)
+  judged-named refusal.UnknownCentre other refused = refused
+  judged-named refusal.Waiting other refused = refused.0
+  judged-named refusal.Denied other refused = has-name d.site.names refused.place centre refused.named
+  judged-named refusal.TooBig other refused = has-name d.site.names refused.place centre refused.allowed.named
+  judged-named refusal.NotGround other refused = has-name d.site.names refused.place centre refused.allowed.named
+  judged-named (refusal.BadSpec bad) other refused = has-name d.site.names refused.place centre refused.allowed.named
+  judged-named refusal.TurnsSpent other refused = absurd refused
+  judged-named (refusal.Full weight pending) other refused = absurd refused
+  judged-named refusal.NoMemory other refused = absurd (other refl)
+
   row-refused : (why : Refusal) → (why ≡ refusal.NoMemory → ⊥) → IsRefusedFor permits d.site d.agent waits centre asked why
       → IsDesk (record d { log = with_row d.log centre (Some ask) (Refused why) })
   row-refused why other refused =
       let row : LogRow = record { number = length d.log + 1; centre = centre; ask = Some ask; result = Refused why } in
       let next : IsNextRow (origins_of d.site.centres) d.site.names (histories_of d.passes) d.agent d.log row = record {
         counted = refl;
+        known = judged-named why other refused;
         agrees = λ k origin history at began there. judged-agrees why origin history (numbered d.agent (length d.log + 1)) other refused;
       } in
       record {
