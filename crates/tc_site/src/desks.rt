@@ -83,7 +83,8 @@ impl<'a, W: Warden + Drop> AgentDesk<'a, W> {
         }
     }
 
-    /// How many entries it has seen at the centre of this place. Places are those of the site's names, from 0.
+    /// How many entries it has seen at the centre of this place. Places are those of the site's names,
+    /// from 0.
     pub fn seen(&self, centre: u32) -> u64
         requires inside { centre < length self.now.site.names }
         ensures count { result ≡ slice_index (desk_of self.now).seen centre }
