@@ -1,20 +1,22 @@
 #!/usr/bin/env python3
 """What the gate costs, crate by crate: processor seconds of proof, of tests and of must-fail edits.
 
-bench/gate.py                  runs `rt ci --anew` at the top of the repository, and prints the table of docs/GATE.md
-bench/gate.py NAME ..          the same of these crates and those below them
-bench/gate.py --kept [NAME ..] without --anew: what an earlier run here has passed is not tried, and has no time
+bench/gate.py            runs the gate on a clean clone of what is committed, and prints the table of docs/GATE.md
+bench/gate.py NAME ..    the same of these crates and those below them
 
-What `rt ci` says goes to standard error. Every prover that it starts is looked at twice a second, so times
+Nothing is kept from an earlier run: where this kit's `rt ci` would take over what it has passed, it is told
+`--anew`. What it says goes to standard error. Every prover that it starts is looked at twice a second, so times
 are exact to a second for each start of a prover. A run that is interrupted, or that `kill` ends, prints the
 table of what it has seen so far.
 """
 import os
 import pathlib
 import re
+import shutil
 import signal
 import subprocess
 import sys
+import tempfile
 import time
 
 TOP = pathlib.Path(__file__).resolve().parent.parent
@@ -101,11 +103,32 @@ def print_table(seconds, wall):
     print(f"\nWall time {wall / 60:.1f} minutes on {os.cpu_count()} processors.")
 
 
-def command_of(words):
-    """The run of `rt ci` that these words ask for."""
-    kept = "--kept" in words
-    names = [word for word in words if word != "--kept"]
-    return ["rt", "ci", *([] if kept else ["--anew"]), *names]
+def with_those_below(names, uses):
+    """These crates, and all that they stand on."""
+    found, waiting = set(), list(names)
+    while waiting:
+        name = waiting.pop()
+        if name in uses and name not in found:
+            found.add(name)
+            waiting += uses[name]
+    return found
+
+
+def leave_out_others(folder, names):
+    """Leaves in a clone these crates and those below them alone."""
+    lines = [re.match(r"(\w+)[^:#]*:(.*)", line) for line in (folder / "crates.txt").read_text().splitlines()]
+    lines = [line for line in lines if line]
+    wanted = with_those_below(names, {line[1]: line[2].split() for line in lines})
+    (folder / "crates.txt").write_text("".join(line[0] + "\n" for line in lines if line[1] in wanted))
+    for crate in (folder / "crates").iterdir():
+        if crate.name not in wanted:
+            shutil.rmtree(crate)
+
+
+def gate_command():
+    """The command of the gate, from nothing."""
+    told = subprocess.run(["rt", "help"], capture_output=True, text=True)
+    return ["rt", "ci", *(["--anew"] if "--anew" in told.stdout + told.stderr else [])]
 
 
 def watch(run, kinds, used):
@@ -121,11 +144,16 @@ def watch(run, kinds, used):
 
 
 def main():
-    began = time.monotonic()
-    run = subprocess.Popen(command_of(sys.argv[1:]), cwd=TOP, stdin=subprocess.DEVNULL, stdout=sys.stderr)
-    kinds, used = {}, {}
-    watch(run, kinds, used)
-    print_table(seconds_of(used), time.monotonic() - began)
+    with tempfile.TemporaryDirectory(prefix="gate-") as room:
+        clone = pathlib.Path(room) / "clone"
+        subprocess.run(["git", "clone", "--quiet", TOP, clone], check=True)
+        if sys.argv[1:]:
+            leave_out_others(clone, sys.argv[1:])
+        began = time.monotonic()
+        run = subprocess.Popen(gate_command(), cwd=clone, stdin=subprocess.DEVNULL, stdout=sys.stderr)
+        kinds, used = {}, {}
+        watch(run, kinds, used)
+        print_table(seconds_of(used), time.monotonic() - began)
     sys.exit(run.returncode)
 
 
