@@ -1,6 +1,6 @@
 //! The numbers to which tuples evaluate, and how numbers compare.
 ghost use Rattle.std.specs.Prelude.{◌≡◌};
-ghost use Rattle.tc_term.specs.Arithmetic.{evaluated, holds, of_one, of_two};
+ghost use Rattle.tc_term.specs.Arithmetic.{evaluated, holds, value_on_one, value_on_two};
 ghost use Rattle.tc_term.specs.TreeView.{tree_of};
 
 use crate::operators::{difference, modulo, opposite, product, quotient, sum};
@@ -56,7 +56,7 @@ fn evaluate(t: &Term) -> Option<i64>
 
 // What an operator makes of one number.
 fn apply_one(name: &[u8], x: i64) -> Option<i64>
-    ensures { result ≡ of_one name.now x }
+    ensures { result ≡ value_on_one name.now x }
 {
     if name == b"-".as_slice() {
         opposite(x)
@@ -67,7 +67,7 @@ fn apply_one(name: &[u8], x: i64) -> Option<i64>
 
 // What an operator makes of two numbers.
 fn apply_two(name: &[u8], x: i64, y: i64) -> Option<i64>
-    ensures { result ≡ of_two name.now x y }
+    ensures { result ≡ value_on_two name.now x y }
 {
     if name == b"+".as_slice() {
         sum(x, y)

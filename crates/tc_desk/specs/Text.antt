@@ -36,16 +36,16 @@ pub data Version : Type 0 where
   Two : Version
 
 -- a word, and a term in brackets
-abbrev pub applied : List ℕ → Tree → List ℕ
-applied word t = joined (word ∷ codes "(" ∷ canonical t ∷ codes ")" ∷ [])
+abbrev pub bracketed : List ℕ → Tree → List ℕ
+bracketed word t = joined (word ∷ codes "(" ∷ canonical t ∷ codes ")" ∷ [])
 
 -- an operation
 abbrev pub op_text : Op → List ℕ
-op_text (Out t) = applied (codes "out") t
-op_text (In t) = applied (codes "in") t
-op_text (Rd t) = applied (codes "rd") t
-op_text (Inp t) = applied (codes "inp") t
-op_text (Rdp t) = applied (codes "rdp") t
+op_text (Out t) = bracketed (codes "out") t
+op_text (In t) = bracketed (codes "in") t
+op_text (Rd t) = bracketed (codes "rd") t
+op_text (Inp t) = bracketed (codes "inp") t
+op_text (Rdp t) = bracketed (codes "rdp") t
 op_text (SetSpec clauses) = joined (codes "set_spec(" ∷ quoted (clauses_text clauses) ∷ codes ")" ∷ [])
 op_text GetSpec = codes "get_spec"
 

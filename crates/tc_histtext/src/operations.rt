@@ -3,7 +3,7 @@ ghost use Rattle.std.specs.Prelude.{◌≡◌, ◌++◌, OnOk};
 ghost use mathlib.Core.List.{IsPrefix};
 ghost use Rattle.tc_term.specs.Tree.{Fits};
 ghost use Rattle.tc_term.specs.TreeView.{tree_of};
-ghost use Rattle.tc_desk.specs.Text.{applied, op_text};
+ghost use Rattle.tc_desk.specs.Text.{bracketed, op_text};
 
 use std::alloc::Global;
 use tc_lists::NoMemory;
@@ -32,7 +32,7 @@ pub(crate) fn write_op(alloc: Global, op: &Op, into: &mut Vec<u8>) -> Result<(),
 fn write_applied(alloc: Global, word: &[u8], t: &Term, into: &mut Vec<u8>) -> Result<(), NoMemory>
     requires fits { Fits (tree_of t.now) }
     ensures appended { OnOk result (into.new.items
-        ≡ into.old.items ++ applied word.now (tree_of t.now)) }
+        ≡ into.old.items ++ bracketed word.now (tree_of t.now)) }
     ensures kept { IsPrefix into.old.items into.new.items }
 {
     into.extend_from_slice(word)?;

@@ -6,13 +6,13 @@ use Rattle.tc_read.specs.ReadAnswers.{IsClauseAnswer}
 use Rattle.tc_model.specs.Reactions.{Rule}
 use Rattle.tc_model.specs.declared.limits.TheConstants.{MOST_CLAUSES}
 use Rattle.tc_spec.specs.TextAnswers.{IsFaultAt, IsTextFault}
-use Rattle.tc_spec.specs.Texts.{AreSpelt, IsClauseAt, IsSpelt, Reads}
+use Rattle.tc_spec.specs.Texts.{AreClausesAt, IsClauseAt, IsSpelt, Reads}
 use Rattle.tc_spec.specs.declared.faults.SpecFault.{SpecFault}
 use Rattle.tc_spec.specs.declared.faults.SpecFault.TheVariants.{Bad, NoMemory}
 
 -- the text up to a place is these clauses, few enough for a centre
 pub record IsReadTo (text : List ℕ) (from : ℕ) (rs : List Rule) : Type 0 where
-  pub spelt : AreSpelt text 0 rs from
+  pub spelt : AreClausesAt text 0 rs from
   pub few : length rs ≤ MOST_CLAUSES
   pub inside : from ≤ length text
 
@@ -25,8 +25,8 @@ pub found_read : (P : Answer → Type 0) (x : Option (Tree × ℕ)) (t : Tree) (
 found_read P x t behind is told = subst (λ (o : Option (Tree × ℕ)). IsClauseAnswer P (Ok o)) is told
 
 -- one clause more
-spelt_more : (text : List ℕ) (start from behind : ℕ) (rs : List Rule) (r : Rule) → AreSpelt text start rs from
-    → IsClauseAt text from r behind → AreSpelt text start (rs ++ r ∷ []) behind
+spelt_more : (text : List ℕ) (start from behind : ℕ) (rs : List Rule) (r : Rule) → AreClausesAt text start rs from
+    → IsClauseAt text from r behind → AreClausesAt text start (rs ++ r ∷ []) behind
 spelt_more text start from behind [] r spelt at = (behind, subst (λ k. IsClauseAt text k r behind) spelt at, refl)
 spelt_more text start from behind (q ∷ rs) r spelt at =
     (spelt.0, spelt.1, spelt_more text spelt.0 from behind rs r spelt.2 at)

@@ -14,7 +14,7 @@ use Rattle.tc_model.specs.declared.goals.Goal.{Goal}
 use Rattle.tc_model.specs.declared.goals.Goal.TheVariants.{OutR, InR, RdR, NoR, Pre, Post, Success, Failure, True, Agent, Centre, Operation, Tuple, Equal, Differ, Is, Compare}
 use Rattle.tc_read.proofs.Blanks.{no_piece, no_piece_empty}
 use Rattle.tc_read.proofs.ReadBack.{clause-read-back}
-use Rattle.tc_spec.specs.Texts.{AreSpelt, IsSpelt, Reads}
+use Rattle.tc_spec.specs.Texts.{AreClausesAt, IsSpelt, Reads}
 use Rattle.tc_spec.specs.Written.{IsWrittenAs, leaves}
 
 -- the leaves of a body are its goals
@@ -180,7 +180,7 @@ clause_read_behind text before more r rule is =
 
 -- the clauses are spelt from a place on, and nothing else
 abbrev AreAllSpelt : List ℕ → ℕ → List Rule → Type 0
-AreAllSpelt text from rs = (end : ℕ) × AreSpelt text from rs end × Reads text end Nothing
+AreAllSpelt text from rs = (end : ℕ) × AreClausesAt text from rs end × Reads text end Nothing
 
 one_more : (text : List ℕ) (from behind : ℕ) (r : Rule) (rs : List Rule) → IsRule r → Reads text from (Found (clause_term r) behind)
     → AreAllSpelt text behind rs → AreAllSpelt text from (r ∷ rs)

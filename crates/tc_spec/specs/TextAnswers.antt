@@ -2,7 +2,7 @@
 use Rattle.std.specs.Prelude.{◌≡◌, ◌+◌, ℕ, List}
 use Rattle.tc_term.specs.Tree.{Tree}
 use Rattle.tc_model.specs.declared.faults.BadSpec.{BadSpec}
-use Rattle.tc_spec.specs.Texts.{HasBadSpec, IsFaulty, IsRefused}
+use Rattle.tc_spec.specs.Texts.{HasBadSpec, IsFaultyClauseAt, IsClauseRefused}
 use Rattle.tc_spec.specs.declared.faults.SpecFault.{SpecFault}
 use Rattle.tc_spec.specs.declared.faults.SpecFault.TheVariants.{Bad, NoMemory}
 
@@ -23,10 +23,10 @@ IsTextWant NoMemory = Unit {0}
 
 -- the fault is of what stands at this place behind so many clauses, or memory has run out
 abbrev pub IsFaultAt : List ℕ → ℕ → ℕ → SpecFault → Type 0
-IsFaultAt text from count (Bad bad) = (bad.clause ≡ count + 1) × IsFaulty text from count bad.cause
+IsFaultAt text from count (Bad bad) = (bad.clause ≡ count + 1) × IsFaultyClauseAt text from count bad.cause
 IsFaultAt text from count NoMemory = Unit {0}
 
 -- the fault is of this clause behind so many others, or memory has run out
 abbrev pub IsRefusal : ℕ → Tree → SpecFault → Type 0
-IsRefusal count t (Bad bad) = (bad.clause ≡ count + 1) × IsRefused count t bad.cause
+IsRefusal count t (Bad bad) = (bad.clause ≡ count + 1) × IsClauseRefused count t bad.cause
 IsRefusal count t NoMemory = Unit {0}

@@ -21,25 +21,25 @@ pub record IsClauseAt (text : List ℕ) (from : ℕ) (r : Rule) (behind : ℕ) :
   pub written : IsWrittenAs term r
 
 -- clauses of these rules stand in the text, one behind another, from one place to another
-abbrev pub AreSpelt : List ℕ → ℕ → List Rule → ℕ → Type 0
-AreSpelt text from [] end = end ≡ from
-AreSpelt text from (r ∷ rs) end =
-    (behind : ℕ) × IsClauseAt text from r behind × AreSpelt text behind rs end
+abbrev pub AreClausesAt : List ℕ → ℕ → List Rule → ℕ → Type 0
+AreClausesAt text from [] end = end ≡ from
+AreClausesAt text from (r ∷ rs) end =
+    (behind : ℕ) × IsClauseAt text from r behind × AreClausesAt text behind rs end
 
 -- the text is clauses of these rules and nothing else, and they are few enough for a centre
 pub record IsSpelt (text : List ℕ) (rules : List Rule) : Type 0 where
   pub end : ℕ
-  pub spelt : AreSpelt text 0 rules end
+  pub spelt : AreClausesAt text 0 rules end
   pub nothing : Reads text end Nothing
   pub few : length rules ≤ MOST_CLAUSES
 
 -- the reader finds no clause here, for this cause
-abbrev pub IsUnread : List ℕ → ℕ → SpecCause → Type 0
-IsUnread text from cause.Syntax = (place : ℕ) × Reads text from (answer.Syntax place)
-IsUnread text from cause.Size =
+abbrev pub IsNoClauseAt : List ℕ → ℕ → SpecCause → Type 0
+IsNoClauseAt text from cause.Syntax = (place : ℕ) × Reads text from (answer.Syntax place)
+IsNoClauseAt text from cause.Size =
     (place : ℕ) × (Reads text from (WideInt place)
     ⊎ (Reads text from (TooMany place) ⊎ Reads text from (TooBig place)))
-IsUnread text from _ = ⊥
+IsNoClauseAt text from _ = ⊥
 
 -- the rule has too many goals, or as many clauses stand before it as a centre may have
 abbrev pub IsTooMuch : ℕ → Rule → Type 0
@@ -47,22 +47,22 @@ IsTooMuch count r = (MOST_GOALS < length r.goals) ⊎ (MOST_CLAUSES ≤ count)
 
 -- the first cause for which a clause behind so many others is refused, in the order of shape, head,
 -- goal, count, size
-abbrev pub IsRefused : ℕ → Tree → SpecCause → Type 0
-IsRefused count t cause.Count = (r : Rule) × SpellsRule t r × IsTooMuch count r
-IsRefused count t cause.Size = (count < MOST_CLAUSES) × IsCausedBy t cause.Size
-IsRefused count t why = IsCausedBy t why
+abbrev pub IsClauseRefused : ℕ → Tree → SpecCause → Type 0
+IsClauseRefused count t cause.Count = (r : Rule) × SpellsRule t r × IsTooMuch count r
+IsClauseRefused count t cause.Size = (count < MOST_CLAUSES) × IsCausedBy t cause.Size
+IsClauseRefused count t why = IsCausedBy t why
 
 -- what stands here behind so many clauses is faulty, for this cause
-abbrev pub IsFaulty : List ℕ → ℕ → ℕ → SpecCause → Type 0
-IsFaulty text from count why =
-    IsUnread text from why
-    ⊎ ((t : Tree) × (behind : ℕ) × Reads text from (Found t behind) × IsRefused count t why)
+abbrev pub IsFaultyClauseAt : List ℕ → ℕ → ℕ → SpecCause → Type 0
+IsFaultyClauseAt text from count why =
+    IsNoClauseAt text from why
+    ⊎ ((t : Tree) × (behind : ℕ) × Reads text from (Found t behind) × IsClauseRefused count t why)
 
 -- the first faulty clause, behind good ones, and its first cause
 pub record HasBadSpec (text : List ℕ) (bad : BadSpec) : Type 0 where
   pub good : List Rule
   pub from : ℕ
-  pub spelt : AreSpelt text 0 good from
+  pub spelt : AreClausesAt text 0 good from
   pub few : length good ≤ MOST_CLAUSES
   pub number : bad.clause ≡ length good + 1
-  pub faulty : IsFaulty text from (length good) bad.cause
+  pub faulty : IsFaultyClauseAt text from (length good) bad.cause

@@ -22,8 +22,8 @@ modulo x y =
 
 -- what an operator makes of two numbers: `//` truncates toward zero, and nothing comes of a zero
 -- divisor
-abbrev pub of_two : List ℕ → ℤ → ℤ → Option ℤ
-of_two name x y =
+abbrev pub value_on_two : List ℕ → ℤ → ℤ → Option ℤ
+value_on_two name x y =
     if bytes_eq name (codes "+") then in_range (x +ℤ y)
     else if bytes_eq name (codes "-") then in_range (x -ℤ y)
     else if bytes_eq name (codes "*") then in_range (x *ℤ y)
@@ -33,16 +33,16 @@ of_two name x y =
     else None
 
 -- what an operator makes of one number
-abbrev pub of_one : List ℕ → ℤ → Option ℤ
-of_one name x = if bytes_eq name (codes "-") then in_range (neg_ℤ x) else None
+abbrev pub value_on_one : List ℕ → ℤ → Option ℤ
+value_on_one name x = if bytes_eq name (codes "-") then in_range (neg_ℤ x) else None
 
 -- the number to which a term evaluates; none where it has another part, or a part that is out of
 -- range
 abbrev pub evaluated : Tree → Option ℤ
 evaluated (Number n) = in_range n
-evaluated (Compound name (Last t)) = option_and_then (of_one name) (evaluated t)
+evaluated (Compound name (Last t)) = option_and_then (value_on_one name) (evaluated t)
 evaluated (Compound name (More t (Last u))) =
-    option_and_then (λ x. option_and_then (of_two name x) (evaluated u)) (evaluated t)
+    option_and_then (λ x. option_and_then (value_on_two name x) (evaluated u)) (evaluated t)
 evaluated _ = None
 
 -- whether the comparison holds

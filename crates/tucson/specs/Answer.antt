@@ -21,24 +21,24 @@ abbrev pub usage_text : List ℕ
 usage_text = codes "usage: tucson run [--workers N] | verify | load N SEED | serve PORT\n"
 
 -- the words of a cause
-abbrev pub cause_text : ConfigCause → List ℕ
-cause_text cause.Syntax = codes "syntax"
-cause_text cause.Size = codes "size"
-cause_text cause.Shape = codes "shape"
-cause_text cause.Reaction = codes "reaction"
-cause_text cause.UnknownCentre = codes "unknown centre"
-cause_text cause.UnknownRole = codes "unknown role"
-cause_text cause.UnknownAgent = codes "unknown agent"
-cause_text cause.Twice = codes "twice"
-cause_text cause.NotGround = codes "not ground"
-cause_text cause.Count = codes "count"
-cause_text cause.Length = codes "length"
+abbrev pub config_cause_text : ConfigCause → List ℕ
+config_cause_text cause.Syntax = codes "syntax"
+config_cause_text cause.Size = codes "size"
+config_cause_text cause.Shape = codes "shape"
+config_cause_text cause.Reaction = codes "reaction"
+config_cause_text cause.UnknownCentre = codes "unknown centre"
+config_cause_text cause.UnknownRole = codes "unknown role"
+config_cause_text cause.UnknownAgent = codes "unknown agent"
+config_cause_text cause.Twice = codes "twice"
+config_cause_text cause.NotGround = codes "not ground"
+config_cause_text cause.Count = codes "count"
+config_cause_text cause.Length = codes "length"
 
 -- that a configuration is refused: its first faulty clause, and why
 abbrev pub refused_text : ℕ → ConfigCause → List ℕ
 refused_text clause why =
     joined (
-    codes "configuration refused: clause " ∷ decimal clause ∷ codes ": " ∷ cause_text why ∷
+    codes "configuration refused: clause " ∷ decimal clause ∷ codes ": " ∷ config_cause_text why ∷
     codes "\n" ∷ [])
 
 -- the text is that of a good run of the configuration, at whose end some agent waits, or none does

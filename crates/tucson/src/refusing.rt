@@ -1,7 +1,7 @@
 //! What is written of a configuration that is refused.
 ghost use Rattle.std.specs.Prelude.{◌≡◌, IfOk};
 ghost use Rattle.tc_io.specs.Faults.{Counts};
-ghost use Rattle.tucson.specs.Answer.{cause_text, refused_text};
+ghost use Rattle.tucson.specs.Answer.{config_cause_text, refused_text};
 ghost use Rattle.tucson.specs.Ending.{IsUnlessStopped, Writes, sink_of};
 
 use crate::status::Status;
@@ -42,7 +42,7 @@ fn refusal(alloc: Global, clause: u32, cause: ConfigCause) -> Result<Vec<u8>, No
 
 // The words of a cause.
 fn words_of(cause: ConfigCause) -> &'static [u8]
-    ensures { result.now ≡ cause_text cause }
+    ensures { result.now ≡ config_cause_text cause }
 {
     match cause {
         ConfigCause::Syntax => b"syntax",

@@ -5,7 +5,7 @@ use Rattle.std.specs.Str.{bytes_eq}
 use Rattle.std.proofs.lemmas.Int.{to_z-of_z, ints}
 use Rattle.tc_term.specs.Arithmetic.{in_range, modulo}
 use Rattle.tc_arith.proofs.Ranges.{fits_in_range}
-use Rattle.tc_arith.proofs.ByName.{of_two-quotient, of_two-remainder}
+use Rattle.tc_arith.proofs.ByName.{value_on_two-quotient, value_on_two-remainder}
 use Rattle.tc_arith.proofs.evaluation.apply_two.Goals as goal
 
 pub returns-then-eq-4 : goal.returns-then-eq-4
@@ -18,7 +18,7 @@ returns-then-eq-4 c =
     let same : int_div (to_z w64 (of_z w64 c.args.x)) (to_z w64 (of_z w64 c.args.y)) ≡ int_div c.args.x c.args.y =
     simp (to_z-of_z w64 c.args.x c.ranges.x, to_z-of_z w64 c.args.y c.ranges.y) refl in
     c.quotient.ensures ∙ ap in_range same
-    ∙ sym (of_two-quotient c.args.name.now c.args.x c.args.y plus minus times some over)
+    ∙ sym (value_on_two-quotient c.args.name.now c.args.x c.args.y plus minus times some over)
 
 pub returns-then-eq-5 : goal.returns-then-eq-5
 returns-then-eq-5 c =
@@ -33,4 +33,4 @@ returns-then-eq-5 c =
     simp (to_z-of_z w64 c.args.x c.ranges.x, to_z-of_z w64 c.args.y c.ranges.y) refl in
     ap Some (to_z-of_z w64 c.modulo.result fits) ∙ fits_in_range c.modulo.result fits
     ∙ ap in_range (c.modulo.ensures ∙ same)
-    ∙ sym (of_two-remainder c.args.name.now c.args.x c.args.y plus minus times some over remainder)
+    ∙ sym (value_on_two-remainder c.args.name.now c.args.x c.args.y plus minus times some over remainder)

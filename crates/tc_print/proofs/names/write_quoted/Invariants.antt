@@ -5,4 +5,4 @@ use Rattle.tc_print.proofs.names.write_quoted.Given as goal
 
 -- the opening quote and the bytes so far are written
 abbrev pub invariant-loop-byte : goal.invariant-loop-byte
-invariant-loop-byte l = l.into.items ≡ l.fn.into.items ++ codes "'" ++ flat_map quoted_byte (take l.byte-index l.bytes)
+invariant-loop-byte l = l.into.items ≡ (l.fn.into.items ++ codes "'") ++ flat_map quoted_byte (take l.byte-index l.bytes)
