@@ -63,16 +63,33 @@ impl Goal {
             Goal::Centre(t) => Ok(Goal::Centre(copy_term(alloc, t)?)),
             Goal::Operation(t) => Ok(Goal::Operation(copy_term(alloc, t)?)),
             Goal::Tuple(t) => Ok(Goal::Tuple(copy_term(alloc, t)?)),
-            Goal::Equal(s, t) => Ok(Goal::Equal(copy_term(alloc, s)?, copy_term(alloc, t)?)),
-            Goal::Differ(s, t) => Ok(Goal::Differ(copy_term(alloc, s)?, copy_term(alloc, t)?)),
-            Goal::Is(s, t) => Ok(Goal::Is(copy_term(alloc, s)?, copy_term(alloc, t)?)),
-            Goal::Compare(cmp, s, t) => Ok(Goal::Compare(
-                *cmp,
-                copy_term(alloc, s)?,
-                copy_term(alloc, t)?,
-            )),
+            Goal::Equal(s, t) => {
+                let (s, t) = copy_both(alloc, s, t)?;
+                Ok(Goal::Equal(s, t))
+            }
+            Goal::Differ(s, t) => {
+                let (s, t) = copy_both(alloc, s, t)?;
+                Ok(Goal::Differ(s, t))
+            }
+            Goal::Is(s, t) => {
+                let (s, t) = copy_both(alloc, s, t)?;
+                Ok(Goal::Is(s, t))
+            }
+            Goal::Compare(cmp, s, t) => {
+                let (s, t) = copy_both(alloc, s, t)?;
+                Ok(Goal::Compare(*cmp, s, t))
+            }
         }
     }
+}
+
+// Two equal terms.
+fn copy_both(alloc: Global, s: &Term, t: &Term) -> Result<(Term, Term), NoMemory>
+    ensures { IfOk result (λ terms. (terms.0 ≡ s.now) × (terms.1 ≡ t.now)) }
+{
+    let first = s.copy(alloc)?;
+    let second = t.copy(alloc)?;
+    Ok((first, second))
 }
 
 /// An equal term.
