@@ -33,7 +33,7 @@ use Rattle.tc_model.specs.declared.outcomes.Reply.{Reply}
 use Rattle.tc_model.proofs.Histories.{same_id-below}
 use Rattle.tc_model.proofs.NextEntry.{reply_in-other, same_id-back}
 use Rattle.tc_shared.specs.Passes as passes
-use Rattle.tc_shared.specs.Passes.{Sees, SeesFull, Tells, call_id}
+use Rattle.tc_shared.specs.Passes.{SeesFull, SeesRoom, Tells, call_id}
 use Rattle.tc_turn.specs.Passes.{TurnstileState, PassState}
 use Rattle.tc_site.specs.Desks.{AgentState, IsDesk, IsSound, IsWaitingAt, Permits, counts_of, desk_of, turns_of}
 use Rattle.tc_site.specs.Looking.{HasPut, still_of}
@@ -360,24 +360,28 @@ module _ {W : Type 0} (d : AgentState W) (is : IsDesk d) (site : IsSite d.site.n
     kept-desk log same more =
         subst (λ l. IsDesk (now l (Some w))) (sym same) (later-desk d is site w waiting t p at-t at-p q keeps held more)
 
-    lost-seen : Sees t p q ⊎ (q ≡ p) → HasSeen p q
-    lost-seen lost = ⊎_elim (λ sees. seen-sees t p q sees) (λ same. seen-same p q same) lost
+    lost-seen : SeesRoom t p q ⊎ (q ≡ p) → HasSeen p q
+    lost-seen lost = ⊎_elim (λ (room : SeesRoom t p q). seen-sees t p q room.sees) (λ same. seen-same p q same) lost
 
-    lost-grown : Sees t p q ⊎ (q ≡ p) → HasGrown (length d.log) p q
-    lost-grown lost = ⊎_elim (λ sees. grown-sees t p q (length d.log) sees) (λ same. grown-same t p q (length d.log) same) lost
+    lost-grown : SeesRoom t p q ⊎ (q ≡ p) → HasGrown (length d.log) p q
+    lost-grown lost =
+        ⊎_elim (λ (room : SeesRoom t p q). grown-sees t p q (length d.log) room.sees)
+        (λ same. grown-same t p q (length d.log) same) lost
 
-    lost-goes : Sees t p q ⊎ (q ≡ p) → Goes p q
-    lost-goes lost = ⊎_elim (λ (sees : Sees t p q). goes-after t p q q.seen p.mine sees.after) (λ same. goes-same t p q same) lost
+    lost-goes : SeesRoom t p q ⊎ (q ≡ p) → Goes p q
+    lost-goes lost =
+        ⊎_elim (λ (room : SeesRoom t p q). goes-after t p q q.seen p.mine room.sees.after) (λ same. goes-same t p q same) lost
 
-    lost-turn : (log : List LogRow) → Sees t p q ⊎ (q ≡ p)
+    lost-turn : (log : List LogRow) → SeesRoom t p q ⊎ (q ≡ p)
         → StandsStill (desk_of d) (desk_of (now log (Some w))) ⊎ TakesTurnAtPending (desk_of d) (desk_of (now log (Some w)))
     lost-turn log lost =
         ⊎_elim
-        (λ (sees : Sees t p q).
+        (λ (room : SeesRoom t p q).
         inr (record {
           row = waiting.row_is;
           is = pending-row d is site w waiting;
-          turn = takes-gone d w.centre p q at-p log (Some w) centre waiting.named sees.finds.left (ap (λ (x : PassState Entry Origin). x.turns) sees.after);
+          turn = takes-gone d w.centre p q at-p log (Some w) centre waiting.named room.sees.finds.left
+          (ap (λ (x : PassState Entry Origin). x.turns) room.sees.after);
         }))
         (λ (same : q ≡ p).
         let whole : set d.passes w.centre q ≡ d.passes = ap (λ x. set d.passes w.centre x) same ∙ set-self d.passes w.centre p at-p in

@@ -13,7 +13,7 @@ use Rattle.tc_desk.specs.declared.rows.Refusal.TheVariants as refusal
 use Rattle.tc_model.specs.State.{Origin}
 use Rattle.tc_model.specs.declared.entries.Entry.{Entry}
 use Rattle.tc_model.specs.declared.outcomes.Reply.{Reply}
-use Rattle.tc_shared.specs.Passes.{IsSpent, Sees, SeesFull, Tells}
+use Rattle.tc_shared.specs.Passes.{IsSpent, SeesFull, SeesRoom, Tells}
 use Rattle.tc_turn.specs.Passes.{TurnstileState, PassState}
 use Rattle.tc_site.specs.Looking.{IsPut}
 
@@ -27,7 +27,8 @@ pub record HasToldReply (t : TurnstileState Origin) (place : ℕ) (p : PassState
   pub tells : Tells t p (length log + 1) (place + 1) (poll.Answered reply again) q
   pub put : IsPut (with_row log centre None (Polled (Some again))) place reply after
 
--- what came of one poll; where memory ran out before its turn, the pass is as it was
+-- what came of one poll; where memory ran out before its turn, the pass is as it was, and in its turn, that
+-- turn found room
 abbrev pub IsPolled : TurnstileState Origin → ℕ → PassState Entry Origin → List ℕ → List LogRow
     → Result Seen DeskFault → PassState Entry Origin → List LogRow → Type 0
 IsPolled t place p centre log (Ok seen.Answered) q after = HasToldReply t place p centre log q after
@@ -36,5 +37,5 @@ IsPolled t place p centre log (Ok seen.StillPending) q after =
 IsPolled t place p centre log (Err (fault.Full weight pending)) q after =
     SeesFull t p weight pending q × (after ≡ with_row log centre None (Refused (refusal.Full weight pending)))
 IsPolled t place p centre log (Err fault.TurnsSpent) q after = IsSpent p q × (after ≡ log)
-IsPolled t place p centre log (Err fault.NoMemory) q after = (Sees t p q ⊎ (q ≡ p)) × (after ≡ log)
+IsPolled t place p centre log (Err fault.NoMemory) q after = (SeesRoom t p q ⊎ (q ≡ p)) × (after ≡ log)
 IsPolled t place p centre log (Err fault.Idle) q after = ⊥
