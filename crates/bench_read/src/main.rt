@@ -6,7 +6,6 @@
 
 mod count;
 
-use anyhow::anyhow;
 use count::{count_clauses, count_nodes};
 use std::env;
 use std::time::{CpuClock, Duration};
@@ -20,9 +19,7 @@ fn main(rt: HostRuntime) -> anyhow::Result<()> {
         .skip(1)
         .any(|word| word.as_str() == "measure");
     let start = rt.process_cpu_time()?;
-    let text = read_all(rt.alloc(), &mut StdSource::new(rt.stdin()), MOST_BYTES).map_err(
-        |fault| anyhow!("no text was read: {fault:?}"),
-    )?;
+    let text = read_all(rt.alloc(), &mut StdSource::new(rt.stdin()), MOST_BYTES)?;
     let clauses = count_clauses(rt.alloc(), &text)?;
     let time = rt.process_cpu_time()?.saturating_sub(start);
     if measured {

@@ -2,8 +2,9 @@
 use Rattle.std.proofs.Common.{◌≡◌, ◌<◌, ℕ, false, List, [], ◌∷◌, ◌++◌, codes, length, refl, ap, sym, ◌∙◌, ap₂, if◌then◌else◌, append-nil, append_assoc, arith}
 use Rattle.tc_lists.proofs.Bools.{bytes_eq-apart}
 use Rattle.tc_print.proofs.Numbers.{place_in-variables_after_all}
-use Rattle.tc_print.specs.Printing.{renamed, text_after, texts_after, IsCell, IsEmptyList, IsNoCell}
+use Rattle.tc_print.specs.Printing.{renamed, text_after, texts_after, IsEmptyList}
 use Rattle.tc_term.proofs.Numbered.{instance-alike}
+use Rattle.tc_term.specs.Cells.{IsCell, IsNoCell}
 use Rattle.tc_term.specs.Text.{Place, Alone, Behind, applied, before_element, empty_list, is_dot, is_nil, name_text, placed, text_in, texts_of}
 use Rattle.tc_term.specs.Tree.{Tree, Variable, Atomic, Number, Compound, Trees, Last, More}
 use Rattle.tc_term.specs.TreeView.{tree_of, trees_of}

@@ -4,7 +4,8 @@ use Rattle.std.specs.Fmt.{decimal}
 use Rattle.std.specs.declared.result.Result.{Result}
 use Rattle.std.proofs.lemmas.Result.{on_ok_weaker}
 use Rattle.tc_print.proofs.Parts.{text_after-cell, text_after-tail, text_after-Compound}
-use Rattle.tc_print.specs.Printing.{text_after, texts_after, IsCell, IsEmptyList, IsNoCell}
+use Rattle.tc_print.specs.Printing.{text_after, texts_after, IsEmptyList}
+use Rattle.tc_term.specs.Cells.{IsCell, IsNoCell}
 use Rattle.tc_term.specs.Text.{Place, Alone, Behind, applied, before_element, name_text, text_in}
 use Rattle.tc_term.specs.Tree.{Tree, Trees, Variable, Compound}
 use Rattle.tc_term.specs.Variables.{place_in, variables_after, with_number}

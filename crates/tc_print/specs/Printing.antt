@@ -1,7 +1,7 @@
 -- The text of a part of a term, while variables are numbered by first appearance.
 use Rattle.std.specs.Prelude.{◌≡◌, List, ℕ, codes}
 use Rattle.tc_term.specs.Text.{Place, text_in, texts_of}
-use Rattle.tc_term.specs.Tree.{Tree, Trees, Variable, Atomic, Compound, Last, More}
+use Rattle.tc_term.specs.Tree.{Tree, Trees, Variable, Atomic}
 use Rattle.tc_term.specs.Variables.{instance, instances, place_in, variables_after, variables_after_all}
 
 -- a variable whose number is the place of the old one among these
@@ -15,14 +15,6 @@ text_after seen place t = text_in place (instance (renamed (variables_after seen
 -- the same of arguments, with commas between
 abbrev pub texts_after : List ℕ → Trees → List ℕ
 texts_after seen ts = texts_of (instances (renamed (variables_after_all seen ts)) ts)
-
--- the term is a list cell of this head and this tail
-abbrev pub IsCell : Tree → Tree → Tree → Type 0
-IsCell t head tail = t ≡ Compound (codes ".") (More head (Last tail))
-
--- the term is no list cell
-abbrev pub IsNoCell : Tree → Type 0
-IsNoCell t = (head tail : Tree) → IsCell t head tail → ⊥
 
 -- the term is the empty list
 abbrev pub IsEmptyList : Tree → Type 0

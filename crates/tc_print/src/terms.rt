@@ -1,11 +1,11 @@
 //! Terms as text.
-ghost use Rattle.std.specs.Prelude.{◌≡◌, ◌++◌, ◌∷◌, IfNone, IfSome, IsTrue, ◌↔◌, OnErr, OnOk};
+ghost use Rattle.std.specs.Prelude.{◌≡◌, ◌++◌, ◌∷◌, IsTrue, ◌↔◌, OnErr, OnOk};
 ghost use mathlib.Core.List.{IsPrefix};
 ghost use Rattle.tc_term.specs.Text.{Alone, Behind, applied, canonical};
 ghost use Rattle.tc_term.specs.Tree.{Fits, Variable};
 ghost use Rattle.tc_term.specs.TreeView.{tree_of};
 ghost use Rattle.tc_term.specs.Variables.{variables_after, variables_after_all};
-ghost use Rattle.tc_print.specs.Printing.{IsCell, IsEmptyList, IsNoCell, text_after, texts_after};
+ghost use Rattle.tc_print.specs.Printing.{IsEmptyList, text_after, texts_after};
 
 use crate::names::{append_atom, append_name};
 use crate::numbering::Numbering;
@@ -36,7 +36,7 @@ fn write_term(t: &Term, seen: &mut Numbering, into: &mut Vec<u8>) -> Result<(), 
         ≡ into.old.items ++ text_after seen.old Alone (tree_of t.now)) }
     ensures kept { IsPrefix into.old.items into.new.items }
 {
-    if let Some((head, tail)) = as_cell(t) {
+    if let Some((head, tail)) = t.as_cell() {
         write_behind(b'[', head, seen, into)?;
         return write_tail(tail, seen, into);
     }
@@ -73,7 +73,7 @@ fn write_tail(t: &Term, seen: &mut Numbering, into: &mut Vec<u8>) -> Result<(), 
         ≡ into.old.items ++ text_after seen.old Behind (tree_of t.now)) }
     ensures kept { IsPrefix into.old.items into.new.items }
 {
-    if let Some((head, tail)) = as_cell(t) {
+    if let Some((head, tail)) = t.as_cell() {
         write_behind(b',', head, seen, into)?;
         return write_tail(tail, seen, into);
     }
@@ -117,21 +117,6 @@ fn write_variable(n: u32, seen: &mut Numbering, into: &mut Vec<u8>) -> Result<()
     let number = seen.number(n)?;
     into.push(b'_')?;
     append_number(number as u64, into)
-}
-
-// The head and the tail of a list cell, where the term is one.
-fn as_cell(t: &Term) -> Option<(&Term, &Term)>
-    ensures some { IfSome result
-        (λ c. IsCell (tree_of t.now) (tree_of c.0.now) (tree_of c.1.now)) }
-    ensures none { IfNone result (IsNoCell (tree_of t.now)) }
-{
-    match t {
-        Term::Comp(name, args) => match args.items() {
-            [head, tail] if name.bytes() == b".".as_slice() => Some((head, tail)),
-            _ => None,
-        },
-        _ => None,
-    }
 }
 
 // Whether a term is the empty list.

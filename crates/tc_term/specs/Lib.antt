@@ -2,6 +2,7 @@ pub mod Limits
 pub mod Tree
 pub mod TreeView
 pub mod Same
+pub mod Cells
 pub mod Ground
 pub mod Variables
 pub mod Pattern

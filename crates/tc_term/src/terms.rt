@@ -1,5 +1,6 @@
 //! Terms, and the arguments of compounds.
-ghost use Rattle.std.specs.Prelude.{◌≡◌, ◌<◌, ◌≤◌, All, IfOk, length};
+ghost use Rattle.std.specs.Prelude.{◌≡◌, ◌<◌, ◌≤◌, All, IfNone, IfOk, IfSome, length};
+ghost use Rattle.tc_term.specs.Cells.{IsCell, IsNoCell};
 ghost use Rattle.tc_term.specs.Tree.{depth, depth_of_all, is_ground};
 ghost use Rattle.tc_term.specs.TreeView.{tree_of, trees_of};
 ghost use Rattle.tc_term.specs.Variables.{renamed, all_renamed, place_in};
@@ -118,6 +119,22 @@ impl Term {
                 }
                 true
             }
+        }
+    }
+
+    /// The head and the tail, where the term is a list cell. A walk along the tails falls by `depth`.
+    pub fn as_cell(&self) -> Option<(&Term, &Term)>
+        ensures some { IfSome result
+            (λ c. IsCell (tree_of self.now) (tree_of c.0.now) (tree_of c.1.now)) }
+        ensures none { IfNone result (IsNoCell (tree_of self.now)) }
+        ensures depth { IfSome result (λ c. depth (tree_of c.1.now) < depth (tree_of self.now)) }
+    {
+        match self {
+            Term::Comp(name, args) => match args.items() {
+                [head, tail] if name.bytes() == b".".as_slice() => Some((head, tail)),
+                _ => None,
+            },
+            _ => None,
         }
     }
 
