@@ -1,5 +1,6 @@
 -- How a cascade ends.
-use Rattle.std.specs.Prelude.{◌≡◌, ℕ, List}
+use Rattle.std.specs.Prelude.{◌≡◌, ℕ, List, Ok, Err}
+use Rattle.std.specs.declared.result.Result.{Result}
 use Rattle.tc_model.specs.Choices.{TheFirst}
 use Rattle.tc_model.specs.Events.{Occurrence, Setting}
 use Rattle.tc_model.specs.Reactions.{Rule}
@@ -27,3 +28,10 @@ IsEnd clauses setting budget e old new (Over items) =
 abbrev pub IsUndone : Cascade → Stock → Stock → Type 0
 IsUndone (Whole items) old new = Unit {0}
 IsUndone (Over items) old new = new ≡ old
+
+-- what is left of a bag that was marked before a cascade: all that the cascade has left, with the
+-- marks of before, where it is whole; else the bag of before
+abbrev pub kept_or_undone : {E : Type 0} → Result Cascade E → Stock → Stock → Stock
+kept_or_undone (Ok (Whole items)) before left = record left { saved = before.saved }
+kept_or_undone (Ok (Over items)) before left = before
+kept_or_undone (Err fault) before left = before

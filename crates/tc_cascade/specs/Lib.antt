@@ -1,3 +1,4 @@
+pub mod Ages
 pub mod Adding
 pub mod Batches
 pub mod Ends

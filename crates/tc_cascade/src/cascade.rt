@@ -2,8 +2,9 @@
 ghost use Rattle.std.specs.Prelude.{◌≡◌, ◌≤◌, ◌+◌, ◌*◌, ◌∷◌, [], length, IfOk, OnOk, OnErr};
 ghost use Rattle.tc_model.specs.Triggers.{IsClause};
 ghost use Rattle.tc_model.specs.declared.limits.TheConstants.{MOST_BUDGET};
-ghost use Rattle.tc_bag.specs.Stock.{AddsNone};
-ghost use Rattle.tc_cascade.specs.Ends.{IsEnd, IsUndone, items_of};
+ghost use Rattle.tc_bag.specs.Stock.{AddsNone, Stock, marked};
+ghost use Rattle.tc_cascade.specs.Ages.{most_ages};
+ghost use Rattle.tc_cascade.specs.Ends.{IsEnd, IsUndone, items_of, kept_or_undone};
 ghost use Rattle.tc_cascade.specs.Adding.{Adds, Stands};
 
 use crate::queue::Queue;
@@ -38,31 +39,32 @@ pub fn run(
     bag: &mut Bag,
 ) -> Result<Cascade, NoMemory>
     requires few { budget ≤ MOST_BUDGET }
-    requires next { bag.old.next + 640000 ≤ u64.MAX }
+    requires next { bag.old.next + most_ages ≤ u64.MAX }
     ensures ends { IfOk result (IsEnd spec.now context.now budget e.now bag.old bag.new) }
     ensures over { IfOk result (λ c. IsUndone c bag.old bag.new) }
     ensures same { OnErr result (bag.new ≡ bag.old) }
     ensures per_item { IfOk result (λ c. bag.new.next ≤ bag.old.next + 64 * length (items_of c)) }
     ensures saved { bag.new.saved ≡ bag.old.saved }
-    ensures next { bag.new.next ≤ bag.old.next + 640000 }
+    ensures next { bag.new.next ≤ bag.old.next + most_ages }
     ensures rises { bag.old.next ≤ bag.new.next }
     ensures old { AddsNone bag.old.next bag.old.now bag.new.now }
 {
     let mut store = Store::new(alloc, 0)?;
     bag.mark()?;
-    match run_in(alloc, &mut store, spec, e, context, budget, bag) {
-        Ok(Cascade::Whole(items)) => {
-            bag.keep();
-            Ok(Cascade::Whole(items))
-        }
-        Ok(Cascade::Over(items)) => {
-            bag.undo();
-            Ok(Cascade::Over(items))
-        }
-        Err(fault) => {
-            bag.undo();
-            Err(fault)
-        }
+    let end = run_in(alloc, &mut store, spec, e, context, budget, bag);
+    keep_or_undo(&end, bag);
+    end
+}
+
+/// Keeps what a cascade has left, where it is whole, and else goes back to the bag of before it. The
+/// mark that was set then is removed.
+pub fn keep_or_undo(end: &Result<Cascade, NoMemory>, bag: &mut Bag)
+    ensures { (before : Stock) → bag.old.saved ≡ (marked before).saved
+        → bag.new ≡ kept_or_undone end.now before bag.old }
+{
+    match end {
+        Ok(Cascade::Whole(_)) => bag.keep(),
+        Ok(Cascade::Over(_)) | Err(_) => bag.undo(),
     }
 }
 
@@ -81,11 +83,11 @@ pub fn run_in(
     bag: &mut Bag,
 ) -> Result<Cascade, NoMemory>
     requires few { budget ≤ MOST_BUDGET }
-    requires next { bag.old.next + 640000 ≤ u64.MAX }
+    requires next { bag.old.next + most_ages ≤ u64.MAX }
     ensures ends { IfOk result (IsEnd spec.now context.now budget e.now bag.old bag.new) }
     ensures per_item { IfOk result (λ c. bag.new.next ≤ bag.old.next + 64 * length (items_of c)) }
     ensures saved { bag.new.saved ≡ bag.old.saved }
-    ensures next { bag.new.next ≤ bag.old.next + 640000 }
+    ensures next { bag.new.next ≤ bag.old.next + most_ages }
     ensures rises { bag.old.next ≤ bag.new.next }
     ensures old { AddsNone bag.old.next bag.old.now bag.new.now }
 {

@@ -15,5 +15,5 @@
 mod cascade;
 mod queue;
 
-pub use cascade::{Cascade, run, run_in};
+pub use cascade::{Cascade, keep_or_undo, run, run_in};
 pub use tc_lists::NoMemory;

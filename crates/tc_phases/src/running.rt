@@ -12,7 +12,7 @@ ghost use Rattle.tc_phases.specs.declared.running.Change.TheVariants.{Take, Noth
 use crate::regime::Regime;
 use std::alloc::Global;
 use tc_bag::Bag;
-use tc_cascade::{Cascade, run_in};
+use tc_cascade::{Cascade, keep_or_undo, run_in};
 use tc_lists::{NoMemory, Seq};
 use tc_model::{Context, Event, EventOp, Phase, Sign};
 use tc_term::{Ground, Pattern};
@@ -74,20 +74,9 @@ pub fn run_phase(
         return Ok(Cascade::Whole(Seq::empty(alloc)));
     }
     bag.mark()?;
-    match make_and_run(alloc, store, regime, trigger, change, bag) {
-        Ok(Cascade::Whole(items)) => {
-            bag.keep();
-            Ok(Cascade::Whole(items))
-        }
-        Ok(Cascade::Over(items)) => {
-            bag.undo();
-            Ok(Cascade::Over(items))
-        }
-        Err(fault) => {
-            bag.undo();
-            Err(fault)
-        }
-    }
+    let end = make_and_run(alloc, store, regime, trigger, change, bag);
+    keep_or_undo(&end, bag);
+    end
 }
 
 // The change and the reactions. After `Over` and after want of memory going back is the caller's,

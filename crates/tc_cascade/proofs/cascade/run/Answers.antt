@@ -1,8 +1,7 @@
-use Rattle.std.proofs.Common.{List, Contains, subst}
-use Rattle.tc_bag.specs.Stock.{AddsNone, Row, Stock}
+use Rattle.tc_cascade.proofs.Keeping.{AddsNone-kept_or_undone}
 use Rattle.tc_cascade.proofs.cascade.run.Goals as goal
 
-pub returns-in-Ok-Whole-clause-old : goal.returns-in-Ok-Whole-clause-old
-returns-in-Ok-Whole-clause-old c = λ r there older.
-    subst (λ (s : Stock). AddsNone s.next s.now c.run_in.new.bag.now) c.in_ok-mark.ensures.marked c.run_in.ensures.old
-    r (subst (λ (rows : List Row). Contains rows r) c.keep.ensures.rows there) older
+pub returns-clause-old : goal.returns-clause-old
+returns-clause-old c =
+    AddsNone-kept_or_undone c.run_in-end.result c.args.bag.now c.mark.new.self c.run_in-end.new.bag c.keep_or_undo.new.bag
+    c.in_ok-mark.ensures.marked c.run_in-end.ensures.saved c.keep_or_undo.ensures c.run_in-end.ensures.old
