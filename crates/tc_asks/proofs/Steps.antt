@@ -1,5 +1,5 @@
 -- The items of scripts, and what stands at a place among them.
-use Rattle.std.proofs.Common.{◌≡◌, ◌<◌, ◌≤◌, ◌+◌, inl, inr, ℕ, suc, List, [], ◌∷◌, ◌++◌, Some, length, take, drop, All, ap, sym, ◌∙◌, length-append, arith}
+use Rattle.std.proofs.Common.{◌≡◌, ◌<◌, ◌≤◌, ◌+◌, inl, inr, ℕ, List, [], ◌∷◌, ◌++◌, Some, length, take, drop, All, ap, sym, ◌∙◌, length-append, arith, refl}
 use Rattle.std.specs.List.{slice_get}
 use Rattle.std.specs.Option.{option_map}
 use Rattle.std.proofs.lemmas.Bool.{cases_lt}
@@ -7,7 +7,7 @@ use Rattle.std.proofs.lemmas.List.{append_assoc, get_or_default, get_or_past, le
 use Rattle.std.proofs.lemmas.List.Elements.{All-append, All-map, All-nil, All-weaker}
 use Rattle.std.proofs.lemmas.Option.{slice_get-map, slice_get_within}
 use Rattle.tc_lists.proofs.Parts.{drop_read, take_read}
-use Rattle.tc_lists.proofs.Places.{slice_get_longer}
+use Rattle.tc_lists.proofs.Places.{slice_get_longer, slice_get_behind}
 use Rattle.tc_model.specs.Scripts.{Lines}
 use Rattle.tc_model.specs.declared.scripts.ScriptItem.{ScriptItem}
 use Rattle.tc_desk.specs.Asks.{ScriptStep, steps_at, steps_from, steps_of}
@@ -52,13 +52,6 @@ length-steps-next scripts n inside =
     ∙ ap (λ k. length (steps_of ss) + k) (length-append (steps_at (0 + length ss) s) [])
     ∙ omega (arith, length-steps_at (0 + length ss) s)
 
--- behind a front the places go on
-slice_get_behind : {X : Type 0} (xs ys : List X) (k : ℕ) → slice_get (xs ++ ys) (length xs + k) ≡ slice_get ys k
-slice_get_behind [] ys k = ap (slice_get ys) (omega arith)
-slice_get_behind (x ∷ xs) ys k =
-    let place : length (x ∷ xs) + k ≡ suc (length xs + k) = omega arith in
-    ap (slice_get (x ∷ (xs ++ ys))) place ∙ slice_get_behind xs ys k
-
 -- no script has an item behind the last script
 items_past : (scripts : List Lines) (n : ℕ) → length scripts ≤ n → length (script_at scripts n).items ≡ 0
 items_past scripts n past = ap (λ (s : Lines). length s.items) (get_or_past scripts n (record { vars = 0; items = [] }) past)
@@ -80,7 +73,7 @@ step_at scripts n k count i placed at =
           ∙ ap (λ steps. front ++ steps) behind in
           ap (λ m. slice_get (steps_of scripts) m) placed.before
           ∙ ap (λ steps. slice_get steps (length front + k)) split
-          ∙ slice_get_behind front (steps_at n s ++ steps_from (n + 1) (drop (n + 1) scripts)) k
+          ∙ slice_get_behind front (steps_at n s ++ steps_from (n + 1) (drop (n + 1) scripts)) (length front + k) k refl
           ∙ slice_get_longer (steps_at n s) (steps_from (n + 1) (drop (n + 1) scripts)) k (step i) (slice_get-map step s.items k ∙ ap (option_map step) at.stands)
       | inr past ↦ absurd (omega (arith, within, items_past scripts n past))
     ]

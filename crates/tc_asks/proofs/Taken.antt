@@ -1,9 +1,9 @@
 -- What an asker has taken in, as it takes in a row or goes on to a script, and as the log changes.
-use Rattle.std.proofs.Common.{◌≡◌, ◌<◌, ◌≤◌, ◌+◌, ◌==◌, if◌then◌else◌, inl, inr, ℕ, Bool, true, false, List, [], ◌∷◌, ◌++◌, Option, Some, length, map, take, get_or, All, refl, ap, sym, ◌∙◌, subst, length-append, arith}
+use Rattle.std.proofs.Common.{◌≡◌, ◌<◌, ◌≤◌, ◌+◌, ◌==◌, if◌then◌else◌, inl, inr, ℕ, true, false, List, [], ◌∷◌, ◌++◌, Option, Some, length, map, take, get_or, All, refl, ap, sym, ◌∙◌, subst, length-append, arith}
 use Rattle.std.specs.List.{slice_get}
 use Rattle.std.specs.Option.{option_map}
 use Rattle.std.proofs.Math.Seq.{get_or-append_seam}
-use Rattle.std.proofs.lemmas.Bool.{cases_lt}
+use Rattle.std.proofs.lemmas.Bool.{cases_lt, false_from_ne_true}
 use Rattle.std.proofs.lemmas.Bool.Decides.{eqb_tells}
 use Rattle.std.proofs.lemmas.List.{length-map, length-take, map-append, take-append-le, take_all}
 use Rattle.std.proofs.lemmas.List.Elements.{All-push, All-same}
@@ -129,14 +129,10 @@ taken_shorter scripts log row p pending taken =
       known = subst (λ es. IsKnown (script_at scripts p.script).vars es p.known) (said_longer scripts log (row ∷ []) p few) taken.known;
     }
 
-false_by : (b : Bool) → (b ≡ true → ⊥) → b ≡ false
-false_by false never = refl
-false_by true never = absurd (never refl)
-
 -- where no row is pending, this row isn't
 pub unpending : (log : List LogRow) (k : ℕ) (row : LogRow) → any_pending log ≡ false → slice_get log k ≡ Some row → is_pending row.result ≡ false
 unpending log k row none at =
-    false_by (is_pending row.result) (λ is.
+    false_from_ne_true (is_pending row.result) (λ is.
     let within = slice_get_within log k row at in
     let some : any_pending log ≡ true =
     list_any-from_Any (λ (r : LogRow). is_pending r.result) log (k, row, within, get_or_from_slice_get log k row row at, is) in

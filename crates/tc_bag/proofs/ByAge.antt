@@ -1,6 +1,6 @@
 -- Slots by their ages.
 use Rattle.std.proofs.Common.{◌≡◌, ◌≢◌, ◌<◌, ◌≤◌, ◌==◌, ◌&&◌, ◌||◌, nat_lt, is_some, inl, inr, not, ℕ, Bool, true, false, cond, IsTrue, Option, Some, None, List, [], ◌∷◌, ◌++◌, get_or, map, filter, All, refl, ap, sym, subst, ◌∙◌, arith}
-use Rattle.std.proofs.lemmas.Bool.{cases_Bool, eqb-true, eq-eqb, ne_eqb, true≢false}
+use Rattle.std.proofs.lemmas.Bool.{cases_Bool, eqb-true, eq-eqb, ne_eqb, true≢false, le-ltb, lt-ltb}
 use Rattle.std.proofs.lemmas.Bool.Decides.{nat_tests}
 use Rattle.std.proofs.lemmas.List.Elements.{All-head, All-tail, All-weaker, All-cons, All-map, All-push, filter_passes}
 use Rattle.tc_term.specs.Tree.{Tree}
@@ -304,10 +304,6 @@ filter-stays age ss order told =
     (All-weaker (λ s. s.age ≡ age → is_there s ≡ true) (λ s. stays age s ≡ true)
     (λ s there. stays_here s.age age s.taken there) ss (there_all age ss true order told)))
 
-pub some-map : {T U : Type 0} (f : T → U) (o : Option T) → is_some (option_map f o) ≡ is_some o
-some-map f None = refl
-some-map f (Some x) = refl
-
 -- order of the slots before the last
 pub InOrder-front : (xs ys : List Slot) → InOrder (xs ++ ys) → InOrder xs
 InOrder-front [] ys order = tt
@@ -316,12 +312,6 @@ InOrder-front (x ∷ xs) ys order = (All-append_left (λ t. x.age < t.age) xs ys
 pub filter-last : (p : Slot → Bool) (xs : List Slot) (s : Slot) → p s ≡ false → filter p (xs ++ s ∷ []) ≡ filter p xs
 filter-last p [] s fails = ap (λ b. cond b (s ∷ []) []) fails
 filter-last p (x ∷ xs) s fails = ap (λ rest. cond (p x) (x ∷ rest) rest) (filter-last p xs s fails)
-
-not_older : (a n : ℕ) → n ≤ a → nat_lt a n ≡ false
-not_older a n up = grind (arith, nat_tests)
-
-older : (a n : ℕ) → a < n → nat_lt a n ≡ true
-older a n down = grind (arith, nat_tests)
 
 -- without the youngest
 pub youngest_left : (age : ℕ) (ss : List Slot) → InOrder ss → (y : IsYoungest ss age) → filter (is_not_of age) ss ≡ y.before
@@ -336,7 +326,7 @@ pub truncated : (next age : ℕ) (ss new : List Slot) → InOrder ss → next �
     → (filter (is_older next) new ≡ filter (is_older next) ss) × InOrder new
 truncated next age ss new order up y is = (
   ap (filter (is_older next)) is
-      ∙ sym (filter-last (is_older next) y.before y.last (not_older y.last.age next (omega (arith, up, y.same))))
+      ∙ sym (filter-last (is_older next) y.before y.last (le-ltb y.last.age next (omega (arith, up, y.same))))
       ∙ sym (ap (filter (is_older next)) y.split),
   subst InOrder (sym is) (InOrder-front y.before (y.last ∷ []) (subst InOrder y.split order)),
 )
@@ -344,7 +334,7 @@ truncated next age ss new order up y is = (
 pub all_older : (next age : ℕ) (ss : List Slot) → InOrder ss → age < next → (y : IsYoungest ss age) → ss ≡ filter (is_older next) ss
 all_older next age ss order down y =
     sym (filter_all (is_older next) ss
-    (All-weaker (λ s. s.age < next) (λ s. is_older next s ≡ true) (λ s less. older s.age next less) ss
+    (All-weaker (λ s. s.age < next) (λ s. is_older next s ≡ true) (λ s less. lt-ltb s.age next less) ss
     (subst (All (λ s. s.age < next)) (sym y.split)
     (All-push (λ s. s.age < next) y.before y.last
     (All-weaker (λ s. s.age < y.last.age) (λ s. s.age < next) (λ s less. omega (arith, less, down, y.same)) y.before

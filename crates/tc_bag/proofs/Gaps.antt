@@ -1,12 +1,11 @@
 -- Rows in places, and the slots that they give.
 use Rattle.std.proofs.Common.{◌≡◌, ◌≢◌, ◌<◌, ◌≤◌, ◌-◌, ◌+◌, length, slice_get, length-append, nat_lt, is_some, inl, inr, not, ℕ, zero, suc, Bool, true, false, cond, IsTrue, Option, Some, None, List, [], ◌∷◌, ◌++◌, get_or, set, take, drop, map, filter, All, refl, ap, sym, subst, ◌∙◌, arith}
-use Rattle.std.proofs.lemmas.Bool.{eq-eqb, true≢false}
-use Rattle.std.proofs.lemmas.Bool.Decides.{nat_tests}
-use Rattle.std.proofs.lemmas.List.{map-append, take-append-drop, append_assoc, get_or-take, get_or-drop, length-take-le, length-drop, take_all, length-map, length-set, take-set, drop-set-lt, get_or-set_same, set-get_or}
+use Rattle.std.proofs.lemmas.Bool.{eq-eqb, true≢false, cases_lt, ltb-true, lt-ltb, ltb-false}
+use Rattle.std.proofs.lemmas.List.{map-append, take-append-drop, append_assoc, get_or-take, get_or-drop, length-take-le, length-drop, take_all, length-map, set-get_or}
 use Rattle.std.proofs.lemmas.List.Elements.{All-head, All-tail, All-weaker, All-cons, All-nil, All-append, All-filter, filter-append, filter_map-append}
 use Rattle.std.specs.List.Sorted.{IsPartitionPoint, IsPartitionedBy}
 use Rattle.std.specs.List.{cons_option, HoldsAt}
-use Rattle.std.specs.Option.{option_map, IfSome}
+use Rattle.std.specs.Option.{option_map}
 use Rattle.std.proofs.Math.Seq.{take-append_seam}
 use Rattle.tc_term.specs.Tree.{Tree}
 use Rattle.tc_bag.specs.declared.slots.Place.{Place}
@@ -14,20 +13,9 @@ use Rattle.tc_bag.specs.Places.{slot_taken, slot_in, slots_of, slot_at, AgesRise
 use Rattle.tc_bag.specs.Slots.{Slot, InOrder, IsYoungest, is_not_of, with_taken}
 use Rattle.tc_bag.proofs.ByAge.{filter-others, map-others, with_taken-other, slot_at-pass, slot_at-others, slot_at-none, slot_at-all}
 use Rattle.tc_lists.proofs.Elements.{All-append_left, All-append_right}
-use Rattle.tc_lists.proofs.Parts.{drop_read, nil_or_push, split_read}
-use Rattle.tc_bag.proofs.Searching.{less_or}
-
-pub slice_get-seam : {X : Type 0} (xs ys : List X) (x : X) → slice_get (xs ++ x ∷ ys) (length xs) ≡ Some x
-slice_get-seam [] ys x = refl
-slice_get-seam (z ∷ zs) ys x = slice_get-seam zs ys x
-
-pub set_cut : {X : Type 0} (xs : List X) (i : ℕ) (y : X) → i < length xs → set xs i y ≡ take i xs ++ y ∷ drop (i + 1) xs
-set_cut xs i y inside =
-    sym (take-append-drop i (set xs i y))
-    ∙ ap (λ front. front ++ drop i (set xs i y)) (take-set xs i y)
-    ∙ ap (λ rest. take i xs ++ rest)
-    (drop_read (set xs i y) i y (omega (arith, inside, length-set xs i y)) (sym (get_or-set_same xs i y y inside))
-    ∙ ap (λ rest. y ∷ rest) (drop-set-lt (i + 1) xs i y (omega arith)))
+use Rattle.tc_lists.proofs.Parts.{nil_or_push, split_read}
+use Rattle.tc_lists.proofs.Sets.{set_parts}
+use Rattle.tc_lists.proofs.Places.{push_from_last}
 
 not_nil : {X : Type 0} (xs ys : List X) (x : X) → xs ++ x ∷ ys ≡ [] → ⊥
 not_nil xs ys x none = absurd (omega (arith, ap length none, length-append xs (x ∷ ys)))
@@ -235,15 +223,6 @@ rise-filter f (p ∷ ps) rise = go (f p) (All-filter f (λ q. p.age < q.age) ps 
     go true above rest = (above, rest)
     go false above rest = rest
 
-lt_from : (a b : ℕ) → nat_lt a b ≡ true → a < b
-lt_from a b is = grind (arith, nat_tests)
-
-lt_to : (a b : ℕ) → a < b → nat_lt a b ≡ true
-lt_to a b less = grind (arith, nat_tests)
-
-ge_from : (a b : ℕ) → nat_lt a b ≡ false → b ≤ a
-ge_from a b is = grind (arith, nat_tests)
-
 -- where the ages before and behind a place are
 abbrev pub IsPointOf : ℕ → List Place → ℕ → Type 0
 IsPointOf age ps i = IsPartitionPoint (λ p. p.age < age) (λ p. age ≤ p.age) ps i
@@ -254,7 +233,7 @@ module _ (ps : List Place) (age i : ℕ) (rise : AgesRise ps) where
   point_found inside at = (
     λ k d from below. omega (arith, rise_at ps k i d rise below inside, at d),
     λ k d from below.
-        elim (less_or i k) [
+        elim (cases_lt i k) [
           | inl less ↦ omega (arith, rise_at ps i k d rise less below, at d)
           | inr up ↦
               let same : k ≡ i = omega (arith, from, up) in
@@ -266,10 +245,10 @@ module _ (ps : List Place) (age i : ℕ) (rise : AgesRise ps) where
   -- where it has another age, none has this one
   pub point_none : IsPointOf age ps i → ((d : Place) → i < length ps → (get_or ps i d).age ≢ age) → All (λ p. p.age ≢ age) ps
   point_none point other k d inside same =
-      elim (less_or k i) [
+      elim (cases_lt k i) [
         | inl below ↦ absurd (omega (arith, point.0 k d (omega arith) below, same))
         | inr from ↦
-            elim (less_or i k) [
+            elim (cases_lt i k) [
               | inl less ↦
                   let bounds = point.1 i d (omega arith) (omega (arith, less, inside)) in
                   absurd (omega (arith, rise_at ps i k d rise less inside, bounds, same))
@@ -282,10 +261,10 @@ module _ (ps : List Place) (age i : ℕ) (rise : AgesRise ps) where
   -- those below an age come first
   pub parted : IsPartitionedBy (λ p. nat_lt p.age age) ps
   parted j k d up inside passes =
-      elim (less_or j k) [
+      elim (cases_lt j k) [
         | inl less ↦
-            let below : (get_or ps k d).age < age = lt_from (get_or ps k d).age age passes in
-            lt_to (get_or ps j d).age age (omega (arith, rise_at ps j k d rise less inside, below))
+            let below : (get_or ps k d).age < age = ltb-true (get_or ps k d).age age passes in
+            lt-ltb (get_or ps j d).age age (omega (arith, rise_at ps j k d rise less inside, below))
         | inr from ↦
             let same : j ≡ k = omega (arith, up, from) in
             subst (λ n. nat_lt (get_or ps n d).age age ≡ true) (sym same) passes
@@ -295,8 +274,8 @@ module _ (ps : List Place) (age i : ℕ) (rise : AgesRise ps) where
 pub point_of_test : (age : ℕ) (ps : List Place) (i : ℕ)
     → IsPartitionPoint (λ p. nat_lt p.age age ≡ true) (λ p. nat_lt p.age age ≡ false) ps i → IsPointOf age ps i
 point_of_test age ps i point = (
-  λ k d from below. lt_from (get_or ps k d).age age (point.0 k d from below),
-  λ k d from below. ge_from (get_or ps k d).age age (point.1 k d from below),
+  λ k d from below. ltb-true (get_or ps k d).age age (point.0 k d from below),
+  λ k d from below. ltb-false (get_or ps k d).age age (point.1 k d from below),
 )
 
 -- the last place of a list that ends with a row
@@ -344,7 +323,7 @@ module _ (age i : ℕ) (ps : List Place) (p : Place) (rise : AgesRise ps) (at : 
   pub slots-set_taken : (n : ℕ) → slots_of (set ps i (record { age = p.age; taken = n; tuple = p.tuple })) ≡ map (with_taken age n) (slots_of ps)
   slots-set_taken n =
       let q : Place = record { age = p.age; taken = n; tuple = p.tuple } in
-      ap slots_of (set_cut ps i q at.0)
+      ap slots_of (set_parts ps i q at.0)
       ∙ slots-noted (take i ps) p (drop (i + 1) ps) rise_placed q n refl refl refl
       ∙ ap (λ qs. map (with_taken p.age n) (slots_of qs)) (sym placed)
       ∙ ap (λ a. map (with_taken a n) (slots_of ps)) same_age
@@ -352,7 +331,7 @@ module _ (age i : ℕ) (ps : List Place) (p : Place) (rise : AgesRise ps) (at : 
   pub kept-set_taken : (n filled : ℕ) → AreRowPlaces ps filled → AreRowPlaces (set ps i (record { age = p.age; taken = n; tuple = p.tuple })) filled
   kept-set_taken n filled kept =
       let q : Place = record { age = p.age; taken = n; tuple = p.tuple } in
-      let is : set ps i q ≡ take i ps ++ q ∷ drop (i + 1) ps = set_cut ps i q at.0 in
+      let is : set ps i q ≡ take i ps ++ q ∷ drop (i + 1) ps = set_parts ps i q at.0 in
       record {
         rise = subst AgesRise (sym is) (rise-again (take i ps) p q (drop (i + 1) ps) refl rise_placed);
         ends = subst EndsFilled (sym is) (ends-again (take i ps) p q (drop (i + 1) ps) refl (subst EndsFilled placed kept.ends));
@@ -363,12 +342,12 @@ module _ (age i : ℕ) (ps : List Place) (p : Place) (rise : AgesRise ps) (at : 
   pub rise-cleared : AgesRise (set ps i (record { age = p.age; taken = p.taken; tuple = None }))
   rise-cleared =
       let q : Place = record { age = p.age; taken = p.taken; tuple = None } in
-      subst AgesRise (sym (set_cut ps i q at.0)) (rise-again (take i ps) p q (drop (i + 1) ps) refl rise_placed)
+      subst AgesRise (sym (set_parts ps i q at.0)) (rise-again (take i ps) p q (drop (i + 1) ps) refl rise_placed)
 
   pub slots-set_gone : slots_of (set ps i (record { age = p.age; taken = p.taken; tuple = None })) ≡ filter (is_not_of age) (slots_of ps)
   slots-set_gone =
       let q : Place = record { age = p.age; taken = p.taken; tuple = None } in
-      ap slots_of (set_cut ps i q at.0)
+      ap slots_of (set_parts ps i q at.0)
       ∙ slots-cleared (take i ps) p (drop (i + 1) ps) rise_placed q refl
       ∙ ap (λ qs. filter (is_not_of p.age) (slots_of qs)) (sym placed)
       ∙ ap (λ a. filter (is_not_of a) (slots_of ps)) same_age
@@ -379,7 +358,7 @@ module _ (age i : ℕ) (ps : List Place) (p : Place) (rise : AgesRise ps) (at : 
       let q : Place = record { age = p.age; taken = p.taken; tuple = None } in
       ap (λ qs. length (slots_of qs)) placed
       ∙ fewer (take i ps) p q (drop (i + 1) ps) t some refl
-      ∙ ap (λ qs. length (slots_of qs) + 1) (sym (set_cut ps i q at.0))
+      ∙ ap (λ qs. length (slots_of qs) + 1) (sym (set_parts ps i q at.0))
 
   pub same_gone : p.tuple ≡ None → set ps i (record { age = p.age; taken = p.taken; tuple = None }) ≡ ps
   same_gone none =
@@ -441,37 +420,10 @@ module _ (from i : ℕ) (ps : List Place) (rise : AgesRise ps) (inside : i ≤ l
       placed_taken p.age (slots_of ps) p (rise-order ps rise)
       (ap (λ qs. slot_at p.age (slots_of qs)) whole ∙ slot_placed (take i ps ++ gaps) p rest (subst AgesRise whole rise))
 
-last_seam : {X : Type 0} (xs : List X) (x : X) → slice_get (xs ++ x ∷ []) (length (xs ++ x ∷ []) - 1) ≡ Some x
-last_seam xs x =
-    let place : length (xs ++ x ∷ []) - 1 ≡ length xs = omega (arith, length-append xs (x ∷ [])) in
-    ap (slice_get (xs ++ x ∷ [])) place ∙ slice_get-seam xs [] x
-
--- a list by its last place
-pub by_last : {X : Type 0} (xs : List X) (x : X) → slice_get xs (length xs - 1) ≡ Some x → (before : List X) × (xs ≡ before ++ x ∷ [])
-by_last xs x read =
-    elim (nil_or_push xs) [
-      | inl none ↦
-          let nothing : None ≡ Some x = subst (λ ys. slice_get ys (length ys - 1) ≡ Some x) none read in
-          absurd (cc)
-      | inr (before, top, split) ↦
-          let same : Some top ≡ Some x = sym (last_seam before top) ∙ ap (λ ys. slice_get ys (length ys - 1)) (sym split) ∙ read in
-          let is : top ≡ x = cc in
-          (before, split ∙ ap (λ y. before ++ y ∷ []) is)
-    ]
-
-pub no_last : {X : Type 0} (xs : List X) → slice_get xs (length xs - 1) ≡ None → xs ≡ []
-no_last xs read =
-    elim (nil_or_push xs) [
-      | inl none ↦ none
-      | inr (before, top, split) ↦
-          let some : Some top ≡ None = sym (last_seam before top) ∙ ap (λ ys. slice_get ys (length ys - 1)) (sym split) ∙ read in
-          absurd (cc)
-    ]
-
 -- the row in the last place is the youngest
 pub last_youngest : (ps : List Place) (p : Place) → EndsFilled ps → slice_get ps (length ps - 1) ≡ Some p → IsYoungest (slots_of ps) p.age
 last_youngest ps p ends read =
-    let last = by_last ps p read in
+    let last = push_from_last ps p read in
     let before = last.0 in
     go before p.tuple (ap slots_of last.1 ∙ slots-append before (p ∷ [])) (ends-last before p (subst EndsFilled last.1 ends))
   where
@@ -525,15 +477,6 @@ kept-push ps filled p t kept some below = record {
       omega (arith, kept.count, ap length (slots-push ps p t some), length-append (slots_of ps) (slot_taken p.age p.taken t ∷ []));
 }
 
--- what is no row is a gap
-pub none_from : (o : Option Tree) → false ≡ is_some o → o ≡ None
-none_from None none = refl
-none_from (Some t) none = absurd (true≢false (sym none))
-
-pub if_some : {X : Type 0} (P : Type 0) (o : Option X) → ((x : X) → o ≡ Some x → P) → IfSome o (λ x. P)
-if_some P None has = tt
-if_some P (Some x) has = has x refl
-
 -- a slice to the end
 pub sliced : (i : ℕ) (ps : List Place) → take (length ps - i) (drop i ps) ≡ drop i ps
 sliced i ps = take_all (length ps - i) (drop i ps) (omega (arith, length-drop i ps))
@@ -546,7 +489,7 @@ gap-read ps before p split gone = sym (ap slots_of split ∙ slots-gap before p 
 pub popped : (ps new : List Place) (p : Place) (n : ℕ) → slice_get ps (length ps - 1) ≡ Some p → n ≡ length ps → new ≡ take (n - 1) ps
     → p.tuple ≡ None → AgesRise ps → (slots_of new ≡ slots_of ps) × AgesRise new
 popped ps new p n read many is gone rise =
-    let last = by_last ps p read in
+    let last = push_from_last ps p read in
     let before = last.0 in
     let place : n - 1 ≡ length before = omega (arith, many, ap length last.1, length-append before (p ∷ [])) in
     let left : new ≡ before =
@@ -558,5 +501,5 @@ popped ps new p n read many is gone rise =
 -- the last place is a row
 pub ends-read : (ps : List Place) (p : Place) → slice_get ps (length ps - 1) ≡ Some p → IsTrue (is_some p.tuple) → EndsFilled ps
 ends-read ps p read filled =
-    let last = by_last ps p read in
+    let last = push_from_last ps p read in
     subst EndsFilled (sym last.1) (ends-push last.0 p filled)

@@ -1,45 +1,21 @@
 -- The list of the rows that were taken, and bringing them back.
-use Rattle.std.proofs.Common.{◌≡◌, ◌≢◌, ◌<◌, ◌≤◌, ◌+◌, ◌-◌, ◌==◌, ◌&&◌, ◌||◌, ◌⊎◌, not, nat_lt, inl, inr, ℕ, zero, suc, Bool, true, false, cond, Some, List, [], ◌∷◌, ◌++◌, length, get_or, slice_get, take, drop, map, filter, All, refl, ap, sym, subst, ◌∙◌, arith}
-use Rattle.std.proofs.lemmas.Bool.{cases_Bool, eqb-true, eq-eqb, ne_eqb, true≢false}
+use Rattle.std.proofs.Common.{◌≡◌, ◌≢◌, ◌<◌, ◌≤◌, ◌+◌, ◌-◌, ◌==◌, ◌&&◌, ◌||◌, not, nat_lt, inl, inr, ℕ, Bool, true, false, cond, Some, List, [], ◌∷◌, ◌++◌, length, get_or, slice_get, map, filter, All, refl, ap, sym, subst, ◌∙◌, arith}
+use Rattle.std.proofs.lemmas.Bool.{cases_Bool, eqb-true, eq-eqb, ne_eqb, true≢false, cases_lt}
 use Rattle.std.proofs.lemmas.Bool.Decides.{nat_tests}
 use Rattle.std.proofs.lemmas.List.Elements.{All-weaker, All-map, All-filter, filter_passes}
 use Rattle.tc_bag.specs.Slots.{Slot, InOrder, IsLogged, is_there, stays, revived_at, revived}
-use Rattle.std.proofs.lemmas.List.{drop_all}
 use Rattle.tc_bag.proofs.ByAge.{behind_others, map-others, map-alike}
-use Rattle.tc_bag.proofs.Searching.{less_or}
 use Rattle.tc_lists.proofs.Filters.{filter_all}
-use Rattle.tc_lists.proofs.Parts.{split_read}
+use Rattle.tc_lists.proofs.Places.{slice_get_push}
 use Rattle.std.proofs.lemmas.List.Folds.{map_fixed}
-
--- what stands in a list stands within it
-pub read_within : {X : Type 0} (xs : List X) (i : ℕ) (x : X) → slice_get xs i ≡ Some x → i < length xs
-read_within [] i x read = absurd (cc)
-read_within (y ∷ ys) zero x read = omega arith
-read_within (y ∷ ys) (suc i) x read = omega (arith, read_within ys i x read)
-
--- before the last element, and there
-pub read_front : {X : Type 0} (xs : List X) (y x : X) (i : ℕ) → slice_get (xs ++ y ∷ []) i ≡ Some x
-    → (slice_get xs i ≡ Some x) ⊎ ((i ≡ length xs) × (y ≡ x))
-read_front [] y x zero read = inr (refl, cc)
-read_front [] y x (suc i) read = absurd (cc)
-read_front (z ∷ zs) y x zero read = inl read
-read_front (z ∷ zs) y x (suc i) read =
-    elim (read_front zs y x i read) [
-      | inl front ↦ inl front
-      | inr (place, same) ↦ inr (omega (arith, place), same)
-    ]
-
-pub read_more : {X : Type 0} (xs ys : List X) (x : X) (i : ℕ) → slice_get xs i ≡ Some x → slice_get (xs ++ ys) i ≡ Some x
-read_more [] ys x i read = absurd (cc)
-read_more (z ∷ zs) ys x zero read = read
-read_more (z ∷ zs) ys x (suc i) read = read_more zs ys x i read
+use Rattle.std.proofs.lemmas.Option.{slice_get_within}
 
 -- no row was taken after more than the list has
 pub taken_within : (log : List ℕ) (ss : List Slot) → All (IsLogged log) ss → All (λ s. s.taken ≤ length log) ss
 taken_within log ss logged k d inside =
     let s = get_or ss k d in
-    elim (less_or 0 s.taken) [
-      | inl some ↦ omega (arith, some, read_within log (s.taken - 1) s.age (logged k d inside some))
+    elim (cases_lt 0 s.taken) [
+      | inl some ↦ omega (arith, some, slice_get_within log (s.taken - 1) s.age (logged k d inside some))
       | inr none ↦ omega (arith, none)
     ]
 
@@ -103,9 +79,9 @@ logged_back front age n ss within logged =
     let same = back (s.age == age) n s.taken some in
     let positive : 0 < s.taken = omega (arith, some, same) in
     let place : slice_get front (s.taken - 1) ≡ Some s.age =
-    elim (read_front front age s.age (s.taken - 1) (logged k d inside positive)) [
-      | inl read ↦ read
-      | inr (at, is) ↦ absurd (gone s.age age n s.taken (sym is) (omega (arith, at, within, positive)) some)
+    elim (slice_get_push front age (s.taken - 1) s.age (logged k d inside positive)) [
+      | inl (before, read) ↦ read
+      | inr (at, is) ↦ absurd (gone s.age age n s.taken is (omega (arith, at, within, positive)) some)
     ] in
     ap (λ t. slice_get front (t - 1)) same ∙ place)
 
@@ -145,10 +121,6 @@ revived-count age n (s ∷ ss) order =
           (sym head) (cond_both (is_there s) s s (filter is_there (map f ss)) (filter is_there ss) (revived-count age n ss order.1))
     ]
 
--- a row that isn't there is given up
-there_stays : (t : ℕ) (b : Bool) → (t == 0) ≡ true → ((t == 0) || not b) ≡ true
-there_stays t b there = ap (λ c. c || not b) there
-
 pub filter-there-stays : (age : ℕ) (ss : List Slot) → filter is_there (filter (stays age) ss) ≡ filter is_there ss
 filter-there-stays age [] = refl
 filter-there-stays age (s ∷ ss) =
@@ -171,33 +143,15 @@ pub logged_less : (front : List ℕ) (age : ℕ) (ss : List Slot) → All (IsLog
 logged_less front age ss logged k d inside some =
     let s = get_or (filter (stays age) ss) k d in
     let was : IsLogged (front ++ age ∷ []) s = All-filter (stays age) (IsLogged (front ++ age ∷ [])) ss logged k d inside in
-    elim (read_front front age s.age (s.taken - 1) (was some)) [
-      | inl read ↦ read
+    elim (slice_get_push front age (s.taken - 1) s.age (was some)) [
+      | inl (before, read) ↦ read
       | inr (at, is) ↦
           absurd (true≢false (sym (filter_passes (stays age) ss k d inside)
           ∙ ap (λ b. b || not (s.age == age)) (ne_eqb s.taken 0 (λ none. absurd (omega (arith, none, some))))
-          ∙ ap not (eq-eqb s.age age (sym is))))
+          ∙ ap not (eq-eqb s.age age is)))
     ]
 
 pub filter-there-all : (ss : List Slot) → All (λ s. s.taken ≤ 0) ss → ss ≡ filter is_there ss
 filter-there-all ss none =
     sym (filter_all is_there ss
     (All-weaker (λ s. s.taken ≤ 0) (λ s. is_there s ≡ true) (λ s zero_taken. eq-eqb s.taken 0 (omega (arith, zero_taken))) ss none))
-
--- a list and its last element
-pub last_split : {X : Type 0} (xs : List X) (x : X) → 0 < length xs → x ≡ get_or xs (length xs - 1) x
-    → xs ≡ take (length xs - 1) xs ++ x ∷ []
-last_split xs x some read =
-    let i = length xs - 1 in
-    let rest : drop (i + 1) xs ≡ [] = drop_all (i + 1) xs (omega (arith, some)) in
-    split_read xs i x (omega (arith, some)) read ∙ ap (λ ys. take i xs ++ x ∷ ys) rest
-
-pub nil_from : {X : Type 0} (xs : List X) → length xs ≡ 0 → xs ≡ []
-nil_from [] none = refl
-nil_from (x ∷ xs) none = absurd (omega (arith, none))
-
-pub read_take : {X : Type 0} (xs : List X) (n i : ℕ) (x : X) → i < n → slice_get xs i ≡ Some x → slice_get (take n xs) i ≡ Some x
-read_take [] n i x below read = absurd (cc)
-read_take (y ∷ ys) zero i x below read = absurd (omega (arith, below))
-read_take (y ∷ ys) (suc n) zero x below read = read
-read_take (y ∷ ys) (suc n) (suc i) x below read = read_take ys n i x (omega (arith, below)) read

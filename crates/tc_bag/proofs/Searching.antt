@@ -1,9 +1,8 @@
 -- Finding the first row.
-use Rattle.std.proofs.Common.{◌≡◌, ◌<◌, ◌≤◌, ◌==◌, ◌⊎◌, ◌+◌, inl, inr, nat_lt, max, IsTrue, ℕ, Bool, true, cond, Option, Some, None, List, [], ◌∷◌, get_or, All, refl, ap, sym, subst, ◌∙◌, arith}
-use Rattle.std.proofs.lemmas.Bool.{cases_Bool, eqb-true, eq-eqb, ne_eqb}
+use Rattle.std.proofs.Common.{◌≡◌, ◌<◌, ◌≤◌, ◌==◌, ◌+◌, inl, inr, max, IsTrue, ℕ, Bool, true, cond, Option, Some, None, List, [], ◌∷◌, get_or, All, refl, ap, sym, subst, ◌∙◌, arith}
+use Rattle.std.proofs.lemmas.Bool.{cases_Bool, eqb-true, eq-eqb, ne_eqb, cases_lt}
 use Rattle.std.proofs.lemmas.List.Elements.{All-head, All-tail, All-cons, All-nil}
-use Rattle.std.specs.Option.{IfSome, IfNone}
-use Rattle.std.proofs.lemmas.Bool.Decides.{nat_tests}
+use Rattle.std.specs.Option.{IfSome}
 use Rattle.tc_lists.specs.Firsts.{IsFirst}
 use Rattle.tc_term.specs.Tree.{Tree, Variable, Atomic, Number, Compound}
 use Rattle.tc_bag.specs.declared.index.Index.{Index}
@@ -97,20 +96,13 @@ like_has index key first s known indexed (inl any, has) = absurd (known any)
 like_has index key None s known indexed (inr own, has) = subst (λ k. Has index (key_code k) s.age) (sym own) indexed.0
 like_has index key (Some f) s known indexed (inr own, has) = code_first index s.age key s.tuple f own has indexed.1
 
-pub less_or : (a b : ℕ) → (a < b) ⊎ (b ≤ a)
-less_or a b =
-    elim (cases_Bool (nat_lt a b)) [
-      | inl less ↦ inl (grind (arith, nat_tests))
-      | inr not_less ↦ inr (grind (arith, nat_tests))
-    ]
-
 module _ (key : Key) (first : Option Tree) (from at age : ℕ) (ss : List Slot) where
   -- what was passed over up to an age
   pub passed_to : All (λ s. s.age < at → IsThereLike key first from s → ⊥) ss
       → All (λ s. at ≤ s.age → s.age < age → IsThereLike key first at s → ⊥) ss
       → All (λ s. s.age < age → IsThereLike key first from s → ⊥) ss
   passed_to before between k d inside below has =
-      elim (less_or (get_or ss k d).age at) [
+      elim (cases_lt (get_or ss k d).age at) [
         | inl less ↦ before k d inside less has
         | inr up ↦ between k d inside up below (has.0, up, has.2)
       ]
@@ -121,20 +113,12 @@ module _ (key : Key) (first : Option Tree) (from at age : ℕ) (ss : List Slot) 
       → All (λ s. s.age < age + 1 → IsThereLike key first from s → ⊥) ss
   passed_with order before none k d inside below has =
       let s = get_or ss k d in
-      elim (less_or s.age age) [
+      elim (cases_lt s.age age) [
         | inl less ↦ before k d inside less has
         | inr up ↦
             let same : s.age ≡ age = omega (arith, up, below) in
             none s.tuple (subst (λ a. tuple_there a ss ≡ Some s.tuple) same (there_found ss order k d inside has.0)) has.2
       ]
-
-pub IfSome-weaker : {X : Type 0} (P Q : X → Type 0) (o : Option X) → ((x : X) → P x → Q x) → IfSome o P → IfSome o Q
-IfSome-weaker P Q None weaker has = tt
-IfSome-weaker P Q (Some x) weaker has = weaker x has
-
-pub IfNone-weaker : {X : Type 0} (P Q : Type 0) (o : Option X) → (P → Q) → IfNone o P → IfNone o Q
-IfNone-weaker P Q None weaker has = weaker has
-IfNone-weaker P Q (Some x) weaker has = tt
 
 most : (a b m n : ℕ) → m ≡ max a b → a ≤ n → b ≤ n → m ≤ n
 most a b m n is left right = omega (arith, is, left, right)
@@ -160,7 +144,7 @@ module _ (start : ℕ) (whole : Bool) (index : Index) (ss : List Slot) (findable
   pub findable_from : (age : ℕ) → All (λ s. start ≤ s.age → s.age < age → ⊥) ss → All (IsFindable age whole index) ss
   findable_from age none k d inside there =
       let has = findable k d inside there in
-      elim (less_or (get_or ss k d).age age) [
+      elim (cases_lt (get_or ss k d).age age) [
         | inl less ↦ absurd (none k d inside has.0 less)
         | inr up ↦ (up, has.1)
       ]

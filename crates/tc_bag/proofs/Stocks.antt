@@ -1,8 +1,8 @@
 -- A bag after each change of its slots, its list and its marks.
-use Rattle.std.proofs.Common.{Result, Ok, Err, OnErr, is_ok, ◌≡◌, ◌≢◌, ◌<◌, ◌≤◌, ◌+◌, ◌-◌, ◌==◌, ◌&&◌, ◌||◌, ◌⊎◌, Option, IsTrue, not, nat_lt, is_some, ℕ, Bool, true, false, cond, inl, inr, Some, None, List, [], ◌∷◌, ◌++◌, length, get_or, slice_get, take, map, filter, All, refl, ap, sym, subst, ◌∙◌, length-append, arith}
+use Rattle.std.proofs.Common.{◌≡◌, ◌≢◌, ◌<◌, ◌≤◌, ◌+◌, ◌-◌, ◌==◌, ◌&&◌, ◌||◌, ◌⊎◌, Option, IsTrue, not, nat_lt, is_some, ℕ, Bool, true, false, cond, inl, inr, Some, None, List, [], ◌∷◌, ◌++◌, length, get_or, slice_get, take, map, filter, All, refl, ap, sym, subst, ◌∙◌, length-append, arith}
 use Rattle.std.proofs.lemmas.Bool.{cases_Bool, ltb-true, eqb-true, eq-eqb, ne_eqb, true≢false}
 use Rattle.std.proofs.lemmas.Bool.Decides.{nat_tests}
-use Rattle.std.proofs.lemmas.List.{map-append, append-nil, same_from_push, length-take}
+use Rattle.std.proofs.lemmas.List.{map-append, append-nil, same_from_push, length-take, nil_from_length}
 use Rattle.std.proofs.lemmas.List.Elements.{All-nil, All-head, All-tail, All-weaker, All-cons, All-map, All-filter, All-push, filter-append, filter_passes}
 use Rattle.tc_term.specs.Tree.{Tree, IsTuple}
 use Rattle.tc_lists.specs.Firsts.{NoneOf, IsFirst}
@@ -14,10 +14,10 @@ use Rattle.tc_bag.proofs.Ages.{IsOther, without_age-none, tuple_at-none}
 use Rattle.tc_lists.specs.Marks.{IsBack, IsGivenUp, Climbs}
 use Rattle.tc_lists.proofs.Marks.{Climbs-more, Climbs-push, Climbs-pop}
 use Rattle.tc_bag.proofs.ByAge.{behind_others, map-others, filter-others}
-use Rattle.tc_bag.proofs.Gaps.{slice_get-seam}
-use Rattle.tc_bag.proofs.Logged.{InOrder-map, InOrder-filter, read_more, read_take, taken_within, nil_from}
+use Rattle.tc_bag.proofs.Logged.{InOrder-map, InOrder-filter, taken_within}
 use Rattle.tc_lists.proofs.Filters.{IsTold, filter_all, map-filter-append, map-filter_alike, map-filter_at, map-filter_changed, map-filter_fail}
 use Rattle.tc_lists.proofs.Firsts.{All-from_NoneOf, NoneOf-from_All}
+use Rattle.tc_lists.proofs.Places.{slice_get-take, slice_get_longer, slice_get_pushed}
 
 -- rows of slots of other ages have other ages
 pub rows-others : (age : ℕ) (ss : List Slot) → All (λ s. s.age ≢ age) ss → All (IsOther age) (rows_now ss)
@@ -405,11 +405,11 @@ module _ (slots : List Slot) (next : ℕ) (log : List ℕ) (room : ℕ) (marks :
         noted s logged taken =
             elim (taken_logged (s.age == age) (length log + 1) s.taken taken) [
               | inl (same, positive) ↦
-                  ap (λ n. slice_get (log ++ age ∷ []) (n - 1)) same ∙ read_more log (age ∷ []) s.age (s.taken - 1) (logged positive)
+                  ap (λ n. slice_get (log ++ age ∷ []) (n - 1)) same ∙ slice_get_longer log (age ∷ []) (s.taken - 1) s.age (logged positive)
               | inr (here, is) ↦
                   ap (λ n. slice_get (log ++ age ∷ []) (n - 1)) is
                   ∙ ap (slice_get (log ++ age ∷ [])) (omega arith)
-                  ∙ slice_get-seam log [] age ∙ ap Some (sym (eqb-true s.age age here))
+                  ∙ slice_get_pushed log age ∙ ap Some (sym (eqb-true s.age age here))
             ]
 
     pub stock-taken : stock_of left next marks ≡ record (stock_of slots next marks) { now = without_age age (rows_now slots) }
@@ -488,15 +488,6 @@ module _ (slots : List Slot) (next : ℕ) (log : List ℕ) (room : ℕ) (marks :
     stock-kept new then older saved split =
         then ∙ (same_from_push (map (saved_at slots) before) older (saved_at slots top) saved (sym saved_last ∙ split)).0
 
--- a result that is no error
-pub ok_from : {A B : Type 0} (P : Type 0) (r : Result A B) → OnErr r P → (P → ⊥) → is_ok r ≡ true
-ok_from P (Ok x) fails never = refl
-ok_from P (Err y) fails never = absurd (never fails)
-
-pub nil_marks : {X : Type 0} (xs : List X) → (xs ≡ [] → ⊥) → 0 < length xs
-nil_marks [] some = absurd (some refl)
-nil_marks (x ∷ xs) some = omega arith
-
 -- once a mark is given up, and others stand
 pub sound-kept : (slots : List Slot) (next : ℕ) (log : List ℕ) (room : ℕ) (marks before : List Mark) (top : Mark)
     → IsSound slots next log room marks → marks ≡ before ++ top ∷ [] → 0 < length before → IsSound slots next log room before
@@ -551,7 +542,7 @@ sound-undone slots next log room more marks before top sound last fits =
       logged = All-map (IsLogged (take top.taken log)) f older_slots
           (All-filter (is_older top.next) (λ s. IsLogged (take top.taken log) (f s)) slots
           (All-weaker (IsLogged log) (λ s. IsLogged (take top.taken log) (f s)) still slots sound.logged));
-      unmarked = λ none. nil_from (take top.taken log) (size ∙ starts_only before top none (subst StartsEmpty last sound.starts));
+      unmarked = λ none. nil_from_length (take top.taken log) (size ∙ starts_only before top none (subst StartsEmpty last sound.starts));
       starts = starts_front before top (subst StartsEmpty last sound.starts);
       fits = fits;
     }
@@ -569,10 +560,7 @@ sound-undone slots next log room more marks before top sound last fits =
     still s logged some =
         let few = revived_few top.taken s.taken some in
         ap (λ t. slice_get (take top.taken log) (t - 1)) few.0
-        ∙ read_take log top.taken (s.taken - 1) s.age (omega (arith, few.1, few.2)) (logged few.2)
-
-pub some_from : (n : ℕ) → false ≡ (n == 0) → 0 < n
-some_from n some = grind (arith, nat_tests)
+        ∙ slice_get-take log top.taken (s.taken - 1) s.age (omega (arith, few.1, few.2)) (logged few.2)
 
 pub filter_fewer : (p : Slot → Bool) (ss : List Slot) → length (filter p ss) ≤ length ss
 filter_fewer p [] = omega arith

@@ -1,5 +1,5 @@
 -- Walks through places in order.
-use Rattle.std.proofs.Common.{◌≡◌, ◌≤◌, ◌+◌, ◌-◌, ◌==◌, ℕ, suc, Bool, true, false, cond, Option, Some, None, List, [], ◌∷◌, length, map, filter, All, refl, ap, sym, subst, ◌∙◌, arith}
+use Rattle.std.proofs.Common.{◌≡◌, ◌≤◌, ◌+◌, ◌-◌, ◌==◌, ℕ, Bool, true, false, cond, Option, Some, None, List, [], ◌∷◌, length, map, filter, All, refl, ap, sym, subst, ◌∙◌, arith}
 use Rattle.std.proofs.lemmas.Bool.{true≢false}
 use Rattle.std.proofs.lemmas.List.Elements.{All-cons}
 use Rattle.std.specs.List.{cons_option}
@@ -89,9 +89,6 @@ tuples_there-none p ps = go (p.taken == 0) refl p.tuple
         absurd (cc)
     go false is (Some u) none =
         ap (λ b. tuples_of (map row_of (cond b (slot_taken p.age p.taken u ∷ filter is_there (slots_of ps)) (filter is_there (slots_of ps))))) is
-
-pub one_less : (n : ℕ) → (n ≡ 0 → ⊥) → n ≡ suc (n - 1)
-one_less n some = omega (arith, some)
 
 pub count_most : (ps : List Place) → count_there ps ≤ length ps
 count_most [] = omega arith

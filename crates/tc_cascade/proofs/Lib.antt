@@ -1,4 +1,3 @@
-pub mod Rooms
 pub mod Triggering
 pub mod Waves
 pub mod Passing

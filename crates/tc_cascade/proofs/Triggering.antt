@@ -2,11 +2,11 @@
 use Rattle.std.proofs.Common.{◌≡◌, ℕ, ◌-◌, List, [], ◌∷◌, ◌++◌, All, Contains, length, take, refl, sym, ap, subst, ◌∙◌, arith, length-append, append_assoc, append-nil}
 use Rattle.std.proofs.Math.Seq.{take-nil}
 use Rattle.std.proofs.lemmas.List.Elements.{All-nil, All-append, All-map, All-weaker, All-contains_itself}
+use Rattle.tc_lists.proofs.Parts.{take-append_room}
 use Rattle.tc_model.specs.Events.{Occurrence}
 use Rattle.tc_model.specs.Reactions.{Rule}
 use Rattle.tc_model.specs.Triggers.{Member, AreTriggered, Triggers, members}
 use Rattle.tc_cascade.specs.Adding.{Adds, Stands}
-use Rattle.tc_cascade.proofs.Rooms.{take_grow}
 
 module _ (clauses : List Rule) where
   -- the clauses of triggered members stand in the list
@@ -59,5 +59,5 @@ module _ (clauses : List Rule) where
         triggers = triggers_append es fs some.more more.more some.triggers more.triggers;
         added = more.added ∙ (ap (λ ms. ms ++ take (room - length now) more.more) some.added
             ∙ (append_assoc old (take n some.more) (take (room - length now) more.more)
-            ∙ ap (λ ms. old ++ ms) (ap (λ k. take n some.more ++ take k more.more) left ∙ take_grow n some.more more.more)));
+            ∙ ap (λ ms. old ++ ms) (ap (λ k. take n some.more ++ take k more.more) left ∙ take-append_room n some.more more.more)));
       }

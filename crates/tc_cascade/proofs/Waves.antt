@@ -16,8 +16,7 @@ use Rattle.tc_model.proofs.Following.{cascade-tuples}
 use Rattle.tc_body.specs.Left.{IsLeft}
 use Rattle.tc_cascade.specs.Adding.{Adds, Stands}
 use Rattle.tc_cascade.specs.Reached.{IsAt}
-use Rattle.tc_lists.proofs.Parts.{cons_head, cons_tail}
-use Rattle.tc_cascade.proofs.Rooms.{take_grow}
+use Rattle.tc_lists.proofs.Parts.{cons_head, cons_tail, take-append_room}
 use Rattle.tc_cascade.proofs.Triggering.{triggered_stand}
 
 left_after : (item : Item) (old new : Stock) → IsLeft item old new → tuples_of new.now ≡ after_item item (tuples_of old.now)
@@ -124,7 +123,7 @@ module _ (clauses : List Rule) (setting : Setting) where
             let front : passed ≡ take more_room split.0 =
             gone ∙ (split.2 ∙ ap (λ k. take k split.0) (omega (arith, er))) in
             adds.added ∙ (ap (λ ms. ms ++ take (more_room - length ms) adds.more) front
-            ∙ take_grow more_room split.0 adds.more);
+            ∙ take-append_room more_room split.0 adds.more);
       }
 
   -- nothing is left: the cascade is whole, and the tuples are those after its items

@@ -1,18 +1,12 @@
 -- Lists of lines, cell by cell.
 use Rattle.std.proofs.Common.{◌≡◌, ℕ, ℤ, Bool, true, not, List, [], ◌∷◌, ◌++◌, codes, refl, sym, ap, ap₂, ◌∙◌}
 use Rattle.std.specs.Str.{bytes_eq}
-use Rattle.std.proofs.lemmas.Slice.Eq.{bytes_eq-Decides}
+use Rattle.std.proofs.lemmas.Bool.{not-true}
+use Rattle.tc_lists.proofs.Bools.{bytes_eq-false}
 use Rattle.tc_term.specs.Tree.{Tree, Trees, Variable, Atomic, Number, Compound, Last, More}
 use Rattle.tc_model.specs.Reactions.{of_two}
 use Rattle.tc_config.specs.Forms.{line_term, lines_term}
 use Rattle.tc_config.specs.declared.forms.Line.{Line}
-
--- a name that isn't this one
-not_by : (a b : List ℕ) → not (bytes_eq a b) ≡ true → a ≡ b → ⊥
-not_by a b other e =
-    let same : bytes_eq a b ≡ true = (bytes_eq-Decides a b).1 e in
-    let never : not true ≡ true = ap not (sym same) ∙ other in
-    cc
 
 -- by the test that was made of it
 pub differ : (x y a b : List ℕ) (r : Bool) → x ≡ a → y ≡ b → r ≡ not (bytes_eq x y) → r ≡ true
@@ -21,13 +15,13 @@ differ x y a b r left right told so = sym (ap₂ (λ v w. not (bytes_eq v w)) le
 
 -- a list is its end or a cell
 pub end_name : (name : List ℕ) (ls : List Line) → not (bytes_eq name (codes "[]")) ≡ true → Atomic name ≡ lines_term ls → ⊥
-end_name name [] other e = not_by name (codes "[]") other (cc)
+end_name name [] other e = bytes_eq-false name (codes "[]") (not-true (bytes_eq name (codes "[]")) other) (cc)
 end_name name (l ∷ ls) other e = cc
 
 pub cell_name : (name : List ℕ) (args : Trees) (ls : List Line) → not (bytes_eq name (codes ".")) ≡ true
     → Compound name args ≡ lines_term ls → ⊥
 cell_name name args [] other e = cc
-cell_name name args (l ∷ ls) other e = not_by name (codes ".") other (cc)
+cell_name name args (l ∷ ls) other e = bytes_eq-false name (codes ".") (not-true (bytes_eq name (codes ".")) other) (cc)
 
 pub cell_two : (name : List ℕ) (args : Trees) (ls : List Line) → ((a b : Tree) → args ≡ More a (Last b) → ⊥)
     → Compound name args ≡ lines_term ls → ⊥

@@ -1,7 +1,8 @@
 -- Drafts in which a centre, a role or an agent is declared.
-use Rattle.std.proofs.Common.{◌≡◌, ◌<◌, ◌≤◌, ◌+◌, ℕ, false, is_some, Option, Some, None, IfSome, List, [], ◌∷◌, ◌++◌, length, map, sum_by, unwrap_or, Global, Vec, refl, sym, subst, ap, ◌∙◌, arith}
+use Rattle.std.proofs.Common.{◌≡◌, ◌<◌, ◌≤◌, ◌+◌, ℕ, Option, Some, None, IfSome, List, [], ◌∷◌, ◌++◌, length, map, sum_by, unwrap_or, Global, Vec, refl, sym, subst, ap, ◌∙◌, arith}
 use Rattle.std.proofs.lemmas.List.Elements.{All-nil}
 use Rattle.std.proofs.lemmas.List.Sums.{sum_by-append}
+use Rattle.std.proofs.lemmas.List.{map_push}
 use Rattle.tc_term.specs.Tree.{Tree, IsTuple}
 use Rattle.tc_model.specs.Reactions.{IsRule, Rule}
 use Rattle.tc_model.specs.Scripts.{Lines}
@@ -16,12 +17,7 @@ use Rattle.tc_config.specs.declared.configs.CentreConf.{CentreConf}
 use Rattle.tc_config.specs.declared.draft.Draft.{Draft}
 use Rattle.tc_config.specs.declared.limits.TheConstants.{MOST_CENTRES, MOST_ROLES, MOST_AGENTS, USUAL_BUDGET}
 use Rattle.tc_config.proofs.Declared.{place-within}
-use Rattle.tc_config.proofs.Growth.{config-agent, config-centre, config-role, map-push}
-
--- a name that was sought, and isn't known
-pub unknown_by : (o p : Option ℕ) → p ≡ o → is_some p ≡ false → o ≡ None
-unknown_by o None told fails = sym told
-unknown_by o (Some k) told fails = absurd (cc)
+use Rattle.tc_config.proofs.Growth.{config-agent, config-centre, config-role}
 
 -- a centre as it is declared is one
 IsCentre-centre : (name : List ℕ) (b : Option ℕ) → IsName name → IfSome b (λ n. (1 ≤ n) × (n ≤ MOST_BUDGET))
@@ -61,7 +57,7 @@ draft-centre d centres known name b h is range new few more grown =
           (config-centre (config_of d) (centre name b) h.config (IsCentre-centre name b is range) unknown few);
       centres =
           more ∙ ap (λ names. names ++ name ∷ []) h.centres
-          ∙ sym (map-push (λ (x : CentreConf). x.name) d.centres.items (centre name b))
+          ∙ sym (map_push (λ (x : CentreConf). x.name) d.centres.items (centre name b))
           ∙ ap (map (λ (x : CentreConf). x.name)) (sym grown);
       roles = h.roles;
       agents = h.agents;
@@ -100,7 +96,7 @@ draft-agent d agents known name role k h is at new few more grown =
       roles = h.roles;
       agents =
           more ∙ ap (λ names. names ++ name ∷ []) h.agents
-          ∙ sym (map-push (λ (x : AgentConf). x.name) d.agents.items (agent name k))
+          ∙ sym (map_push (λ (x : AgentConf). x.name) d.agents.items (agent name k))
           ∙ ap (map (λ (x : AgentConf). x.name)) (sym grown);
       items = omega (arith, h.items, ap (sum_by items_of) grown, sum_by-append items_of d.agents.items (agent name k ∷ []));
     }

@@ -1,6 +1,6 @@
 -- Configurations that grow.
-use Rattle.std.proofs.Common.{◌≡◌, ◌≢◌, ◌<◌, ◌≤◌, ◌+◌, ℕ, None, Some, List, [], ◌∷◌, ◌++◌, All, AllPairs, length, map, sum_by, slice_get, refl, sym, subst, ap, ◌∙◌, length-append, arith}
-use Rattle.std.proofs.lemmas.List.{length-map, map-append}
+use Rattle.std.proofs.Common.{◌≡◌, ◌≢◌, ◌<◌, ◌≤◌, ◌+◌, ℕ, None, Some, List, [], ◌∷◌, ◌++◌, All, AllPairs, length, sum_by, slice_get, refl, sym, subst, ap, ◌∙◌, arith}
+use Rattle.std.proofs.lemmas.List.{length-map, map_push, length_push}
 use Rattle.std.proofs.lemmas.List.Elements.{All-nil, All-push, All-weaker}
 use Rattle.std.proofs.lemmas.List.Sums.{sum_by-append}
 use Rattle.tc_lists.proofs.Elements.{All-slice_get}
@@ -36,30 +36,23 @@ IsAgent-longer c e centres roles a h = record {
       (λ (i : ScriptItem). i.centre < length e.centres) (λ i inside. omega (arith, inside)) s.items items) a.scripts h.scripts;
 }
 
--- a name behind those of a list
-pub map-push : {X Y : Type 0} (f : X → Y) (xs : List X) (x : X) → map f (xs ++ x ∷ []) ≡ map f xs ++ f x ∷ []
-map-push f xs x = map-append f xs (x ∷ [])
-
-length-push : {X : Type 0} (xs : List X) (x : X) → length (xs ++ x ∷ []) ≡ length xs + 1
-length-push xs x = length-append xs (x ∷ [])
-
 -- one more centre
 pub config-centre : (c : Configuration) (s : CentreConf) → IsConfig c → IsCentre s → place_of (centre_names c) s.name ≡ None
     → length c.centres < MOST_CENTRES → IsConfig (record c { centres = c.centres ++ s ∷ [] })
 config-centre c s h centre new few =
     let e : Configuration = record c { centres = c.centres ++ s ∷ [] } in
-    let longer : length c.centres ≤ length e.centres = omega (arith, length-push c.centres s) in
+    let longer : length c.centres ≤ length e.centres = omega (arith, length_push c.centres s) in
     record {
       centres = All-push IsCentre c.centres s h.centres centre;
       roles = h.roles;
       grants = All-weaker (IsGrant c) (IsGrant e) (IsGrant-longer c e longer (omega arith)) c.roles h.grants;
       agents = All-weaker (IsAgent c) (IsAgent e) (IsAgent-longer c e longer (omega arith)) c.agents h.agents;
       centres_differ =
-          subst (AllPairs ◌≢◌) (sym (map-push (λ (x : CentreConf). x.name) c.centres s))
+          subst (AllPairs ◌≢◌) (sym (map_push (λ (x : CentreConf). x.name) c.centres s))
           (differ-push (centre_names c) s.name h.centres_differ new);
       roles_differ = h.roles_differ;
       agents_differ = h.agents_differ;
-      few_centres = omega (arith, length-push c.centres s, few);
+      few_centres = omega (arith, length_push c.centres s, few);
       few_roles = h.few_roles;
       few_agents = h.few_agents;
       few_items = h.few_items;
@@ -70,7 +63,7 @@ pub config-role : (c : Configuration) (name : List ℕ) → IsConfig c → IsNam
     → length c.role_names < MOST_ROLES → IsConfig (record c { role_names = c.role_names ++ name ∷ [] })
 config-role c name h is new few =
     let e : Configuration = record c { role_names = c.role_names ++ name ∷ [] } in
-    let longer : length c.role_names ≤ length e.role_names = omega (arith, length-push c.role_names name) in
+    let longer : length c.role_names ≤ length e.role_names = omega (arith, length_push c.role_names name) in
     record {
       centres = h.centres;
       roles = All-push IsName c.role_names name h.roles is;
@@ -80,7 +73,7 @@ config-role c name h is new few =
       roles_differ = differ-push c.role_names name h.roles_differ new;
       agents_differ = h.agents_differ;
       few_centres = h.few_centres;
-      few_roles = omega (arith, length-push c.role_names name, few);
+      few_roles = omega (arith, length_push c.role_names name, few);
       few_agents = h.few_agents;
       few_items = h.few_items;
     }
@@ -122,11 +115,11 @@ config-agent c name role h is inside new few =
       centres_differ = h.centres_differ;
       roles_differ = h.roles_differ;
       agents_differ =
-          subst (AllPairs ◌≢◌) (sym (map-push (λ (x : AgentConf). x.name) c.agents (agent name role)))
+          subst (AllPairs ◌≢◌) (sym (map_push (λ (x : AgentConf). x.name) c.agents (agent name role)))
           (differ-push (agent_names c) name h.agents_differ new);
       few_centres = h.few_centres;
       few_roles = h.few_roles;
-      few_agents = omega (arith, length-push c.agents (agent name role), few);
+      few_agents = omega (arith, length_push c.agents (agent name role), few);
       few_items = omega (arith, items-agent c name role, h.few_items);
     }
   where
@@ -170,7 +163,7 @@ config-tuple c t k h is room =
       budget = centre.budget;
       clauses = centre.clauses;
       tuples = All-push IsTuple s.tuples t centre.tuples is;
-      few_tuples = omega (arith, length-push s.tuples t, less);
+      few_tuples = omega (arith, length_push s.tuples t, less);
     })
 
 -- it has one more clause
@@ -184,7 +177,7 @@ config-clause c r k h is room =
       budget = centre.budget;
       clauses = record {
         rules = All-push IsRule s.clauses r centre.clauses.rules is;
-        few = omega (arith, length-push s.clauses r, room s at);
+        few = omega (arith, length_push s.clauses r, room s at);
       };
       tuples = centre.tuples;
       few_tuples = centre.few_tuples;

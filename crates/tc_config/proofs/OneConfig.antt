@@ -1,5 +1,5 @@
 -- A text spells one configuration or has one first fault, and not both.
-use Rattle.std.proofs.Common.{◌≡◌, ◌<◌, ◌≤◌, ◌+◌, ◌⊎◌, ℕ, List, [], ◌∷◌, ◌++◌, Option, Some, Result, Ok, Err, IfOk, IfErr, true, drop, length, slice_get, inl, inr, refl, ap, ap₂, sym, subst, ◌∙◌, arith}
+use Rattle.std.proofs.Common.{◌≡◌, ◌<◌, ◌≤◌, ◌+◌, ◌⊎◌, ℕ, List, [], ◌∷◌, ◌++◌, Option, Some, Result, Ok, Err, IfOk, IfErr, length, slice_get, inl, inr, refl, ap, ap₂, sym, subst, ◌∙◌, arith}
 use Rattle.std.proofs.lemmas.Option.{same_Some}
 use Rattle.tc_term.specs.Faults.{Answer, Found, Nothing, TooBig, TooMany, WideInt}
 use Rattle.tc_term.specs.Faults as answer
@@ -10,9 +10,9 @@ use Rattle.tc_model.specs.Reactions.{Rule}
 use Rattle.tc_model.specs.declared.asks.Ask.{Ask}
 use Rattle.tc_model.specs.declared.scripts.ScriptItem.{ScriptItem}
 use Rattle.tc_policy.specs.Places.{grant}
-use Rattle.tc_read.proofs.OneReading.{one_reading}
 use Rattle.tc_spec.proofs.Decoding.{one_rule}
 use Rattle.tc_spec.specs.Texts.{Reads}
+use Rattle.tc_spec.proofs.OneText.{one_answer, found_ends, same_place, same_term}
 use Rattle.tc_config.specs.Answers.{IsConfigFault, IsThisFault, IsWant}
 use Rattle.tc_config.specs.Causes.{HasCause, IsFirstCause, rank}
 use Rattle.tc_config.specs.Configurations.{Configuration, agent_names, centre_names, nothing}
@@ -29,19 +29,6 @@ use Rattle.tc_config.specs.declared.forms.Line.{Line}
 use Rattle.tc_config.specs.declared.limits.TheConstants.{MOST_BYTES}
 use Rattle.tc_config.proofs.FirstCauses.{fault-cause}
 use Rattle.tc_config.proofs.OneForm.{one_form}
-
--- the reader answers one thing at a place
-one_answer : (text : List ℕ) (from : ℕ) (a b : Answer) → Reads text from a → Reads text from b → a ≡ b
-one_answer text from a b x y = one_reading true (length text) (drop from text) a b x y
-
-same_term : (t u : Tree) (m n : ℕ) → Found t m ≡ Found u n → t ≡ u
-same_term t u m n same = cc
-
-same_behind : (t u : Tree) (m n : ℕ) → Found t m ≡ Found u n → m ≡ n
-same_behind t u m n same = cc
-
-found_ends : (text : List ℕ) (from : ℕ) (t : Tree) (n : ℕ) → Reads text from (Found t n) → Reads text from Nothing → ⊥
-found_ends text from t n x y = let same = one_answer text from (Found t n) Nothing x y in cc
 
 -- which cause the reader's answer has, if any
 abbrev cause_told : Answer → ConfigCause
@@ -162,7 +149,7 @@ one_step : (text : List ℕ) (from : ℕ) (c : Configuration) (t u : Tree) (m n 
 one_step text from c t u m n d e found means there meant =
     let same = one_answer text from (Found t m) (Found u n) found there in
     let term = same_term t u m n same in
-    (term, same_behind t u m n same, one_meaning c u d e (subst (λ (v : Tree). Means c v d) term means) meant)
+    (term, same_place t u m n same, one_meaning c u d e (subst (λ (v : Tree). Means c v d) term means) meant)
 
 one_fault_at : (text : List ℕ) (from : ℕ) (c : Configuration) (a b : ConfigCause) → IsFaultyAt text from c a
     → IsFaultyAt text from c b → a ≡ b

@@ -1,10 +1,9 @@
 -- A term is written as one form at most.
 use Rattle.std.proofs.Common.{◌≡◌, ℕ, pos, List, [], ◌∷◌, Option, Some, None, if◌then◌else◌, codes, refl, ap, ap₂, sym, ◌∙◌}
 use Rattle.std.specs.Str.{bytes_eq}
-use Rattle.tc_term.specs.Tree.{Tree, Variable, Atomic, Number, Compound, Last, More}
-use Rattle.tc_term.specs.TreeView.{tree_of}
+use Rattle.tc_term.specs.Tree.{Tree, Atomic, Number, Compound, Last, More}
 use Rattle.tc_term.specs.declared.terms.Term.{Term}
-use Rattle.tc_term.specs.declared.terms.Term.TheVariants.{Var, Atom, Int, Comp}
+use Rattle.tc_term.proofs.TreeTerms.{term_of, term_of-tree_of}
 use Rattle.tc_model.specs.declared.asks.Ask.{Ask}
 use Rattle.tc_model.specs.declared.asks.Ask.TheVariants as ask
 use Rattle.tc_model.specs.declared.asks.Primitive.{Primitive}
@@ -13,19 +12,6 @@ use Rattle.tc_config.specs.Forms.{IsFormOf, ask_term, form_term, line_term, line
 use Rattle.tc_config.specs.declared.forms.Form.{Form}
 use Rattle.tc_config.specs.declared.forms.Form.TheVariants.{Centre, Tuple, Spec, Role, Grant, Agent, Script}
 use Rattle.tc_config.specs.declared.forms.Line.{Line}
-
--- the term of a tree
-abbrev term_of : Tree → Term
-term_of (Variable n) = Var n
-term_of (Atomic name) = Atom name
-term_of (Number z) = Int z
-term_of (Compound name args) = Comp name args
-
-term_of-tree : (t : Term) → term_of (tree_of t) ≡ t
-term_of-tree (Var n) = refl
-term_of-tree (Atom name) = refl
-term_of-tree (Int z) = refl
-term_of-tree (Comp name args) = refl
 
 -- the name and the number of a tree
 abbrev name_at : Tree → List ℕ
@@ -69,12 +55,12 @@ ask_at (Compound name (Last t)) = ask_on name (term_of t)
 ask_at _ = ask.GetSpec
 
 ask_at-term : (a : Ask) → ask_at (ask_term a) ≡ a
-ask_at-term (ask.Out t) = ap ask.Out (term_of-tree t)
-ask_at-term (ask.In t) = ap ask.In (term_of-tree t)
-ask_at-term (ask.Rd t) = ap ask.Rd (term_of-tree t)
-ask_at-term (ask.Inp t) = ap ask.Inp (term_of-tree t)
-ask_at-term (ask.Rdp t) = ap ask.Rdp (term_of-tree t)
-ask_at-term (ask.SetSpec t) = ap ask.SetSpec (term_of-tree t)
+ask_at-term (ask.Out t) = ap ask.Out (term_of-tree_of t)
+ask_at-term (ask.In t) = ap ask.In (term_of-tree_of t)
+ask_at-term (ask.Rd t) = ap ask.Rd (term_of-tree_of t)
+ask_at-term (ask.Inp t) = ap ask.Inp (term_of-tree_of t)
+ask_at-term (ask.Rdp t) = ap ask.Rdp (term_of-tree_of t)
+ask_at-term (ask.SetSpec t) = ap ask.SetSpec (term_of-tree_of t)
 ask_at-term ask.GetSpec = refl
 
 -- the lines of a tree
@@ -117,8 +103,8 @@ form_at _ = Role []
 form_at-term : (x : Form) → form_at (form_term x) ≡ x
 form_at-term (Centre c None) = refl
 form_at-term (Centre c (Some b)) = refl
-form_at-term (Tuple c t) = ap (Tuple c) (term_of-tree t)
-form_at-term (Spec c t) = ap (Spec c) (term_of-tree t)
+form_at-term (Tuple c t) = ap (Tuple c) (term_of-tree_of t)
+form_at-term (Spec c t) = ap (Spec c) (term_of-tree_of t)
 form_at-term (Role r) = refl
 form_at-term (Grant r c p) = ap (Grant r c) (primitive_at-name p)
 form_at-term (Agent a r) = refl

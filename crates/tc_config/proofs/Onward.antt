@@ -1,5 +1,5 @@
 -- Clauses that are read one behind another, and what they set up.
-use Rattle.std.proofs.Common.{◌≡◌, ◌<◌, ◌≤◌, ◌+◌, ℕ, Option, Some, None, IfSome, IfErr, IsErrAnd, Result, Ok, Err, inl, inr, List, [], ◌∷◌, ◌++◌, All, length, length-append, refl, sym, subst, ap, ◌∙◌, arith}
+use Rattle.std.proofs.Common.{◌≡◌, ◌<◌, ◌≤◌, ◌+◌, ℕ, None, IfErr, IsErrAnd, Result, Ok, Err, inl, inr, List, [], ◌∷◌, ◌++◌, All, length, length-append, refl, sym, subst, ap, ◌∙◌, arith}
 use Rattle.std.proofs.lemmas.List.Elements.{All-nil, All-push, All-weaker}
 use Rattle.tc_lists.proofs.Elements.{All-slice_get}
 use Rattle.tc_term.specs.Faults.{Found, Nothing}
@@ -23,10 +23,6 @@ use Rattle.tc_config.specs.declared.forms.Form.{Form}
 use Rattle.tc_config.specs.declared.forms.Form.TheVariants.{Centre, Tuple, Spec, Role, Grant, Agent, Script}
 use Rattle.tc_config.specs.declared.limits.TheConstants.{MOST_BYTES}
 use Rattle.tc_config.proofs.Changed.{All-changed}
-
--- what was found
-pub if_some : {X : Type 0} (o : Option X) (x : X) (P : X → Type 0) → o ≡ Some x → IfSome o P → P x
-if_some {X} o x P is told = subst (λ (p : Option X). IfSome p P) is told
 
 -- what is true of a fault is true of the answer that hands it on
 pub handed_on : {X : Type 0} (r : Result X ConfigFault) (P : ConfigFault → Type 0) (fault : ConfigFault)

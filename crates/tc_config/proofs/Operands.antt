@@ -1,50 +1,16 @@
 -- What stands in a clause is within its limits.
-use Rattle.std.proofs.Common.{◌≡◌, ◌≤◌, ◌+◌, ℕ, max, IfSome, List, [], ◌∷◌, All, Option, Some, None, codes, arith}
+use Rattle.std.proofs.Common.{◌≡◌, ◌≤◌, ◌+◌, ℕ, max, IfSome, List, [], ◌∷◌, All, Option, Some, None, codes}
 use Rattle.std.proofs.lemmas.List.Elements.{All-cons, All-nil}
-use Rattle.tc_term.specs.Tree.{Tree, Fits, Compound, Last, More, Atomic}
+use Rattle.tc_term.specs.Tree.{Fits, Compound, Last, More, Atomic}
 use Rattle.tc_term.specs.TreeView.{tree_of}
 use Rattle.tc_term.specs.Variables.{var_bound}
 use Rattle.tc_model.specs.Asks.{operand_of}
-use Rattle.tc_model.specs.Reactions.{of_one, of_two}
 use Rattle.tc_model.specs.Within.{HasVarsBelow}
 use Rattle.tc_model.specs.declared.asks.Ask.{Ask}
 use Rattle.tc_model.specs.declared.asks.Ask.TheVariants.{Out, In, Rd, Inp, Rdp, SetSpec, GetSpec}
+use Rattle.tc_model.proofs.Rules.{HasVarsBelow-one, HasVarsBelow-first, HasVarsBelow-second}
 use Rattle.tc_config.specs.Forms.{ask_term, line_term, lines_term}
 use Rattle.tc_config.specs.declared.forms.Line.{Line}
-
--- so is each argument
-HasVarsBelow-one : (vars : ℕ) (name : List ℕ) (t : Tree) → HasVarsBelow vars (of_one name t) → HasVarsBelow vars t
-HasVarsBelow-one vars name t h = record {
-  bound = h.bound;
-  fits = record {
-    nodes = omega (arith, h.fits.nodes);
-    depth = omega (arith, h.fits.depth);
-    name_bytes = omega (arith, h.fits.name_bytes);
-    integers = h.fits.integers;
-  };
-}
-
-HasVarsBelow-first : (vars : ℕ) (name : List ℕ) (s t : Tree) → HasVarsBelow vars (of_two name s t) → HasVarsBelow vars s
-HasVarsBelow-first vars name s t h = record {
-  bound = omega (arith, h.bound);
-  fits = record {
-    nodes = omega (arith, h.fits.nodes);
-    depth = omega (arith, h.fits.depth);
-    name_bytes = omega (arith, h.fits.name_bytes);
-    integers = h.fits.integers.0;
-  };
-}
-
-pub HasVarsBelow-second : (vars : ℕ) (name : List ℕ) (s t : Tree) → HasVarsBelow vars (of_two name s t) → HasVarsBelow vars t
-HasVarsBelow-second vars name s t h = record {
-  bound = omega (arith, h.bound);
-  fits = record {
-    nodes = omega (arith, h.fits.nodes);
-    depth = omega (arith, h.fits.depth);
-    name_bytes = omega (arith, h.fits.name_bytes);
-    integers = h.fits.integers.1;
-  };
-}
 
 operand-within : (vars : ℕ) (a : Ask) → HasVarsBelow vars (ask_term a) → IfSome (operand_of a) (HasVarsBelow vars)
 operand-within vars (Out t) h = HasVarsBelow-one vars (codes "out") (tree_of t) h

@@ -1,22 +1,19 @@
 -- Scripts ask one thing at each place.
 use Rattle.std.proofs.Common.{◌≡◌, ℕ, List, get_or, take, slice_get, Option, Some, None, refl, ap, subst, sym, ◌∙◌, arith}
 use Rattle.std.proofs.lemmas.List.{same_lists}
-use Rattle.std.proofs.lemmas.Option.{slice_get-get_or}
+use Rattle.std.proofs.lemmas.Option.{slice_get-get_or, same_Some}
 use Rattle.tc_term.proofs.Solutions.{HasValue-unique}
 use Rattle.tc_term.specs.Equations.{Equation}
-use Rattle.tc_term.specs.Tree.{Tree, Variable, Atomic, Number, Compound}
+use Rattle.tc_term.specs.Tree.{Tree, Variable}
 use Rattle.tc_term.specs.TreeView.{tree_of}
 use Rattle.tc_term.specs.declared.terms.Term.{Term}
-use Rattle.tc_term.specs.declared.terms.Term.TheVariants.{Var, Atom, Int, Comp}
+use Rattle.tc_term.proofs.TreeTerms.{term_of, term_of-tree_of}
 use Rattle.tc_model.specs.Asks.{primitive_of}
 use Rattle.tc_model.specs.Scripts.{Lines}
 use Rattle.tc_model.specs.declared.asks.Ask.{Ask}
 use Rattle.tc_model.specs.declared.asks.Ask.TheVariants.{Out, In, Rd, Inp, Rdp, SetSpec, GetSpec}
 use Rattle.tc_desk.specs.Asks.{ScriptStep, steps_of, equations, AreValues, with_values, IsFilled, IsAsk}
 use Rattle.tc_desk.specs.declared.rows.LogResult.{LogResult}
-
-some_same : {X : Type 0} (x y : X) → Some x ≡ Some y → x ≡ y
-some_same x y e = cc
 
 value_at : (vars : ℕ) (es : List Equation) (v w : List (Option Tree)) (k : ℕ) (a b : Option Tree)
     → AreValues vars es v → AreValues vars es w → slice_get v k ≡ Some a → slice_get w k ≡ Some b → a ≡ b
@@ -33,19 +30,6 @@ AreValues-unique vars es v w h i =
     same_lists v w (h.whole ∙ sym i.whole) (λ k d inside.
     value_at vars es v w k (get_or v k d) (get_or w k d) h i (slice_get-get_or v k d inside)
     (slice_get-get_or w k d (omega (arith, inside, h.whole, i.whole))))
-
--- the term of a tree
-abbrev pub term_of : Tree → Term
-term_of (Variable n) = Var n
-term_of (Atomic name) = Atom name
-term_of (Number n) = Int n
-term_of (Compound name args) = Comp name args
-
-term_of-tree_of : (t : Term) → term_of (tree_of t) ≡ t
-term_of-tree_of (Var n) = refl
-term_of-tree_of (Atom name) = refl
-term_of-tree_of (Int n) = refl
-term_of-tree_of (Comp name args) = refl
 
 -- the ask with each variable replaced that has a value
 abbrev pub filled : List (Option Tree) → Ask → Ask
@@ -81,7 +65,7 @@ filled-primitive values GetSpec = refl
 
 pub one_step : (scripts : List Lines) (k : ℕ) (results : List LogResult) (step other : ScriptStep) (ask asked : Ask)
     → IsAsk scripts k results step ask → IsAsk scripts k results other asked → step ≡ other
-one_step scripts k results step other ask asked h i = some_same step other (sym h.stands ∙ i.stands)
+one_step scripts k results step other ask asked h i = same_Some step other (sym h.stands ∙ i.stands)
 
 pub one_ask : (scripts : List Lines) (k : ℕ) (results : List LogResult) (step other : ScriptStep) (ask asked : Ask)
     → IsAsk scripts k results step ask → IsAsk scripts k results other asked → ask ≡ asked

@@ -1,18 +1,19 @@
 -- In a run each call has a reply that its operation may have.
-use Rattle.std.proofs.Common.{◌≡◌, ℕ, zero, suc, ◌+◌, ◌<◌, ◌≤◌, ◌⊎◌, inl, inr, Bool, true, false, if◌then◌else◌, List, [], ◌∷◌, ◌++◌, Option, Some, None, All, Contains, length, get_or, take, drop, refl, sym, ap, ◌∙◌, subst, arith, ⊎_elim}
+use Rattle.std.proofs.Common.{◌≡◌, ℕ, ◌+◌, ◌<◌, ◌≤◌, ◌⊎◌, inl, inr, Bool, true, false, if◌then◌else◌, List, [], ◌∷◌, ◌++◌, Option, Some, None, All, Contains, length, get_or, take, drop, refl, sym, ap, ◌∙◌, subst, arith, ⊎_elim}
 use Rattle.std.specs.List.{slice_get}
 use mathlib.Core.List.{IsPrefix}
 use Rattle.std.proofs.lemmas.Bool.{cases_Bool, cases_eq, cases_lt, true≢false}
 use Rattle.std.proofs.lemmas.List.{take-append-drop, take_more}
 use Rattle.std.proofs.lemmas.List.Elements.{All-nil, All-cons, All-tail, All-push, All-weaker, All-contains, Contains-append_left, Contains-append_right, Contains-push}
-use Rattle.std.proofs.lemmas.Option.{none-some, same_Some, slice_get-get_or, slice_get_within, get_or_from_slice_get}
+use Rattle.std.proofs.lemmas.Option.{none-some, same_Some}
+use Rattle.tc_lists.proofs.Places.{slice_get-take, Contains-slice_get, slice_get-Contains}
 use Rattle.tc_term.specs.Tree.{Tree}
 use Rattle.tc_term.specs.TreeView.{tree_of}
 use Rattle.tc_model.specs.Calls.{id_of, calls_of, same_id}
 use Rattle.tc_model.specs.Choices.{AnyOne}
 use Rattle.tc_model.specs.Replies.{reply_of, reply_in, outcome_in, outcome_given, or_given}
 use Rattle.tc_model.specs.Run.{HasCall, IsAnswered, IsFirstRun, IsLegal, IsRun}
-use Rattle.tc_model.specs.State.{State, Origin, opening, without_request, reached_by, after_call, after_answer, after_entry, after_history}
+use Rattle.tc_model.specs.State.{State, Origin, opening, without_request, reached_by, after_call, after_entry, after_history}
 use Rattle.tc_model.specs.Tables.{IsServed, IsGiven}
 use Rattle.tc_model.specs.declared.asks.Ask.{Ask}
 use Rattle.tc_model.specs.declared.asks.Ask.TheVariants as ask
@@ -30,6 +31,7 @@ use Rattle.tc_model.specs.declared.entries.Entry.TheVariants.{Called, Gave, Look
 use Rattle.tc_model.proofs.Histories.{same_id-self, reply_in-IsPrefix}
 use Rattle.tc_model.proofs.NextEntry.{same_id-true, HasCall-other, reply_in-called}
 use Rattle.tc_model.proofs.Runs.{EachEntry-IsPrefix, EachEntry-keeps, IsRun-first, after_history-push}
+use Rattle.tc_model.proofs.WaitingCalls.{pending-answered}
 use Rattle.tc_desk.specs.Fits.{FitsPut, FitsRequest, FitsSearch, FitsReplacing, FitsReading, FitsReply, MayWait}
 use Rattle.tc_desk.specs.Operands.{Operand, OpOf, Sound, TooBig, NotGround, Faulty}
 use Rattle.tc_desk.specs.Served.{IsCalled}
@@ -119,17 +121,14 @@ module _ (origin : Origin) (s : State) (id : CallId) (items : List Item) (r : Re
   given-fits q Pending given e = absurd given
   given-fits q (Spec text) given e = absurd given
 
-some≢none : {X : Type 0} (x : X) → Some x ≡ None → ⊥
-some≢none x e = none-some x (sym e)
-
 -- a call that has no reply at once waits
 served-waits : (origin : Origin) (s : State) (id : CallId) (items : List Item) (op : Op) (result : Outcome)
     → IsServed AnyOne origin s id op result items → reply_of result ≡ None → MayWaitOp op
-served-waits origin s id items op Done served e = absurd (some≢none reply.Done e)
-served-waits origin s id items op (Took u) served e = absurd (some≢none (reply.Tuple u) e)
-served-waits origin s id items op NoTuple served e = absurd (some≢none reply.NoTuple e)
-served-waits origin s id items op (Spec text) served e = absurd (some≢none (reply.Spec text) e)
-served-waits origin s id items op (Over phase tuple) served e = absurd (some≢none (reply.OverBudget phase) e)
+served-waits origin s id items op Done served e = absurd (none-some reply.Done (sym e))
+served-waits origin s id items op (Took u) served e = absurd (none-some (reply.Tuple u) (sym e))
+served-waits origin s id items op NoTuple served e = absurd (none-some reply.NoTuple (sym e))
+served-waits origin s id items op (Spec text) served e = absurd (none-some (reply.Spec text) (sym e))
+served-waits origin s id items op (Over phase tuple) served e = absurd (none-some (reply.OverBudget phase) (sym e))
 served-waits origin s id items (In t) Pending served e = tt
 served-waits origin s id items (Rd t) Pending served e = tt
 served-waits origin s id items (Out t) Pending served e = absurd served
@@ -194,20 +193,12 @@ module _ (history : List Entry) (id : CallId) (items : List Item) (s : State) wh
   call-asked op Pending all = reached-asked op Pending all
   call-asked op (Spec text) all = reached-asked op (Spec text) all
 
-answered-pending : (id : CallId) (result : Outcome) (items : List Item) (s : State) → (after_answer id result items s).pending ≡ without_request id s.pending
-answered-pending id (Took u) items s = refl
-answered-pending id Done items s = refl
-answered-pending id NoTuple items s = refl
-answered-pending id Pending items s = refl
-answered-pending id (Spec text) items s = refl
-answered-pending id (Over phase tuple) items s = refl
-
 entry-asked : (history : List Entry) (s : State) (e : Entry) → All (Asked (history ++ e ∷ [])) s.pending
     → All (Asked (history ++ e ∷ [])) (after_entry e s).pending
 entry-asked history s (Called id op result items) all = call-asked history id items s op result all
 entry-asked history s (Gave id result items) all =
     let P : Request → Type 0 = Asked (history ++ Gave id result items ∷ []) in
-    subst (All P) (sym (answered-pending id result items s)) (without-all P id s.pending all)
+    subst (All P) (sym (pending-answered id result items s)) (without-all P id s.pending all)
 entry-asked history s (Looked id asked told) all = all
 
 -- in a run each request that waits is of a call that waits for its template
@@ -292,19 +283,6 @@ no-reply : (o : Option Reply) → ((r : Reply) → o ≡ Some r → ⊥) → o �
 no-reply None never = refl
 no-reply (Some r) never = absurd (never r refl)
 
--- what stands at a place stands there in a longer beginning
-slice_get-take : {X : Type 0} (xs : List X) (n k : ℕ) (x : X) → k < n → slice_get xs k ≡ Some x → slice_get (take n xs) k ≡ Some x
-slice_get-take [] n k x before at = absurd (none-some x at)
-slice_get-take (y ∷ ys) zero k x before at = absurd (omega (arith, before))
-slice_get-take (y ∷ ys) (suc n) zero x before at = at
-slice_get-take (y ∷ ys) (suc n) (suc k) x before at = slice_get-take ys n k x (omega (arith, before)) at
-
-Contains-at : {X : Type 0} (xs : List X) (k : ℕ) (x : X) → slice_get xs k ≡ Some x → Contains xs x
-Contains-at xs k x at = (k, slice_get_within xs k x at, get_or_from_slice_get xs k x x at)
-
-at-place : {X : Type 0} (xs : List X) (x : X) (h : Contains xs x) → slice_get xs h.0 ≡ Some x
-at-place xs x h = slice_get-get_or xs h.0 x h.1 ∙ ap Some h.2
-
 abbrev op_in : Entry → Op
 op_in (Called id op result items) = op
 op_in (Gave id result items) = GetSpec
@@ -319,7 +297,7 @@ module _ (origin : Origin) (history : List Entry) (run : IsRun origin history) (
       let legal : IsLegal AnyOne origin so_far (after_history (opening origin) so_far) (Called id other told more) = run k (Called id other told more) second in
       let has : HasCall id so_far = record {
         entry = Called id op result items;
-        stands = Contains-at so_far j (Called id op result items) (slice_get-take history k j (Called id op result items) before first);
+        stands = Contains-slice_get so_far j (Called id op result items) (slice_get-take history k j (Called id op result items) before first);
         call = refl;
       } in
       true≢false (sym (same_id-self id) ∙ HasCall-other so_far id id legal.1.number has)
@@ -327,8 +305,8 @@ module _ (origin : Origin) (history : List Entry) (run : IsRun origin history) (
   called-once : (op other : Op) (result told : Outcome) (items more : List Item) → Contains history (Called id op result items)
       → Contains history (Called id other told more) → op ≡ other
   called-once op other result told items more first second =
-      let a = at-place history (Called id op result items) first in
-      let b = at-place history (Called id other told more) second in
+      let a = slice_get-Contains history (Called id op result items) first in
+      let b = slice_get-Contains history (Called id other told more) second in
       ⊎_elim
       (λ (same : first.0 ≡ second.0).
       ap op_in (same_Some (Called id op result items) (Called id other told more) (sym a ∙ ap (slice_get history) same ∙ b)))
@@ -358,7 +336,7 @@ module _ (origin : Origin) (history : List Entry) (run : IsRun origin history) (
         let j : ℕ = gave.0 in
         let so_far : List Entry = take j history in
         let s : State = after_history (opening origin) so_far in
-        let legal : IsAnswered AnyOne origin s id told more = run j (Gave id told more) (at-place history (Gave id told more) gave) in
+        let legal : IsAnswered AnyOne origin s id told more = run j (Gave id told more) (slice_get-Contains history (Gave id told more) gave) in
         let q : Request = legal.request in
         let asked : Asked so_far q = All-contains (Asked so_far) s.pending q (asked-run origin so_far (take-run j)) legal.chosen.0 in
         let early : Contains so_far (Called id asked.op asked.result asked.items) =
@@ -376,7 +354,7 @@ module _ (origin : Origin) (history : List Entry) (run : IsRun origin history) (
         let k : ℕ = called.3.0 in
         let so_far : List Entry = take k history in
         let legal : IsLegal AnyOne origin so_far (after_history (opening origin) so_far) (Called id called.0 called.1 called.2) =
-        run k (Called id called.0 called.1 called.2) (at-place history (Called id called.0 called.1 called.2) called.3) in
+        run k (Called id called.0 called.1 called.2) (slice_get-Contains history (Called id called.0 called.1 called.2) called.3) in
         subst (λ o. FitsOp o r) (called-once called.0 op called.1 result called.2 items called.3 stands)
         (served-fits origin (after_history (opening origin) so_far) id called.2 r called.0 called.1 legal.2 called.4))
         (λ (gave : IsGivenBy history id r). gave-fits r gave.0 gave.1 gave.2 gave.3)
@@ -389,14 +367,15 @@ module _ (origin : Origin) (history : List Entry) (run : IsRun origin history) (
         let e : Entry = Called id op result items in
         let so_far : List Entry = take k history in
         let s : State = after_history (opening origin) so_far in
-        let legal : IsLegal AnyOne origin so_far s e = run k e (at-place history e stands) in
+        let legal : IsLegal AnyOne origin so_far s e = run k e (slice_get-Contains history e stands) in
         let grown : take (k + 1) history ≡ so_far ++ e ∷ [] = take_more history k e stands.1 ∙ ap (λ x. so_far ++ x ∷ []) stands.2 in
         served-waits origin s id items op result legal.2
         (no-reply (reply_of result)
         (λ r some.
-        some≢none r
-        (sym (reply_in-IsPrefix (take (k + 1) history) history id r (drop (k + 1) history, take-append-drop (k + 1) history)
-        (ap (λ es. reply_in es id) grown ∙ reply_in-called so_far id op result items legal.1.number ∙ some)) ∙ none)))
+        none-some r
+        (sym none
+        ∙ reply_in-IsPrefix (take (k + 1) history) history id r (drop (k + 1) history, take-append-drop (k + 1) history)
+        (ap (λ es. reply_in es id) grown ∙ reply_in-called so_far id op result items legal.1.number ∙ some))))
 
 abbrev sound_or : Operand → Op
 sound_or (Sound o) = o

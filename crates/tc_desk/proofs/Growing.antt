@@ -14,7 +14,7 @@ use Rattle.tc_desk.specs.declared.rows.LogRow.{LogRow}
 use Rattle.tc_desk.specs.declared.rows.Refusal.{Refusal}
 use Rattle.tc_desk.specs.declared.rows.Refusal.TheVariants as refusal
 use Rattle.tc_desk.proofs.Histories.{IsServedAs-append, WasFull-append}
-use Rattle.tc_lists.proofs.Places.{slice_get_longer, slice_get_push, slice_get_pushed}
+use Rattle.tc_lists.proofs.Places.{slice_get_longer, slice_get_push, slice_get_pushed, slice_get_shorter}
 use Rattle.tc_model.specs.Calls.{id_of, calls_of}
 use Rattle.tc_model.specs.Replies.{reply_in}
 use Rattle.tc_model.specs.State.{Origin}
@@ -38,12 +38,6 @@ pub record AreLike (k : ℕ) (log log' : List LogRow) : Type 0 where
 
 IsLike-same : (x : LogRow) → IsLike x x
 IsLike-same x = record { number = refl; centre = refl; served = refl }
-
--- what stood before in a log that has become longer
-pub slice_get_shorter : {X : Type 0} (xs more : List X) (k : ℕ) (x : X) → k < length xs → slice_get (xs ++ more) k ≡ Some x → slice_get xs k ≡ Some x
-slice_get_shorter [] more k x within at = absurd (omega (arith, within))
-slice_get_shorter (y ∷ ys) more zero x within at = at
-slice_get_shorter (y ∷ ys) more (suc k) x within at = slice_get_shorter ys more k x (omega (arith, within)) at
 
 pub AreLike-longer : (k : ℕ) (log more : List LogRow) → k ≤ length log → AreLike k log (log ++ more)
 AreLike-longer k log more within = record {

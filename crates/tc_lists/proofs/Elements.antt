@@ -22,6 +22,10 @@ module _ {X : Type 0} (P : X → Type 0) where
   All-slice_get xs i x all at =
       subst P (get_or_from_slice_get xs i x x at) (all i x (slice_get_within xs i x at))
 
+  pub All-from_slice_get : (xs : List X) → ((k : ℕ) (x : X) → slice_get xs k ≡ Some x → P x) → All P xs
+  All-from_slice_get [] each = All-nil P
+  All-from_slice_get (x ∷ xs) each = All-cons P x xs (each 0 x refl) (All-from_slice_get xs (λ k. each (suc k)))
+
   -- one more element, once it was read; and when all are read
   pub All-take_read : (xs : List X) (i : ℕ) (x : X) → i < length xs → x ≡ get_or xs i x
       → All P (take i xs) → P x → All P (take (i + 1) xs)

@@ -6,6 +6,7 @@ pub mod Prefixes
 pub mod Places
 pub mod Elements
 pub mod Pairs
+pub mod Zips
 pub mod Filters
 pub mod Firsts
 pub mod Reversals

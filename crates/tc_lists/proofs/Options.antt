@@ -1,5 +1,5 @@
 -- Optional values, by what they hold.
-use Rattle.std.proofs.Common.{◌≡◌, Bool, true, false, if◌then◌else◌, Option, Some, None, IfSome, IfNone, MatchOption, option_map, refl, subst}
+use Rattle.std.proofs.Common.{◌≡◌, Bool, true, false, if◌then◌else◌, Option, Some, None, is_some, IfSome, IfNone, MatchOption, option_map, refl, subst}
 
 pub some_same : {X : Type 0} (x y : X) → Some x ≡ Some y → x ≡ y
 some_same x y e = cc
@@ -28,6 +28,28 @@ IfNone-at N o is told = subst (λ p. IfNone p N) is told
 pub some_pair_same : {X Y : Type 0} (x u : X) (y v : Y) → ◌≡◌ {A = Option (X × Y)} (Some (x, y)) (Some (u, v))
     → ◌≡◌ {A = X × Y} (x, y) (u, v)
 some_pair_same x u y v e = cc
+
+-- what holds of whichever value there is, and what holds anyhow
+pub IfSome-from : {X : Type 0} (P : X → Type 0) (o : Option X) → ((x : X) → o ≡ Some x → P x) → IfSome o P
+IfSome-from P None each = tt
+IfSome-from P (Some x) each = each x refl
+
+pub IfNone-always : {X : Type 0} (o : Option X) (N : Type 0) → N → IfNone o N
+IfNone-always None N holds = holds
+IfNone-always (Some x) N holds = tt
+
+pub IfNone-weaker : {X : Type 0} (o : Option X) (M N : Type 0) → (M → N) → IfNone o M → IfNone o N
+IfNone-weaker None M N weaker told = weaker told
+IfNone-weaker (Some x) M N weaker told = tt
+
+-- whether something is there
+pub is_some-option_map : {X Y : Type 0} (f : X → Y) (o : Option X) → is_some (option_map f o) ≡ is_some o
+is_some-option_map f None = refl
+is_some-option_map f (Some x) = refl
+
+pub none_from_is_some : {X : Type 0} (o : Option X) → is_some o ≡ false → o ≡ None
+none_from_is_some None fails = refl
+none_from_is_some (Some x) fails = absurd (cc)
 
 -- nothing is there
 pub none_from_never : {X : Type 0} (o : Option X) → ((x : X) → o ≡ Some x → ⊥) → o ≡ None

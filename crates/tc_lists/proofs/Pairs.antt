@@ -1,12 +1,12 @@
 -- What holds of all pairs of a list, and what a removal leaves.
 use Rattle.std.proofs.Common.{◌≡◌, ◌≢◌, ◌⊎◌, ⊎_elim, ℕ, suc, ◌+◌, ◌-◌, ◌<◌, ◌≤◌, Bool, true, false, cond, Some}
-use Rattle.std.proofs.Common.{List, [], ◌∷◌, ◌++◌, All, AllPairs, Contains, length, get_or, slice_get, take, remove, take_all, length-take, get_or-take}
+use Rattle.std.proofs.Common.{List, [], ◌∷◌, ◌++◌, All, AllPairs, Contains, length, get_or, slice_get, take, drop, insert, remove, take_all, take_at, drop_at, length-take-le, length-take, get_or-take}
 use Rattle.std.proofs.Common.{refl, sym, ap, ◌∙◌, subst, append-nil, arith}
 use Rattle.std.proofs.lemmas.Bool.{cases_lt, cases_order}
 use Rattle.std.proofs.lemmas.List.Edits.{length-remove, get_or-remove_below, get_or-remove_above}
 use Rattle.std.proofs.lemmas.List.Quantifiers.{all_pairs_push}
 use Rattle.std.proofs.lemmas.Option.{slice_get_within, slice_get-get_or, get_or_from_slice_get}
-use Rattle.tc_lists.proofs.Parts.{take_read}
+use Rattle.tc_lists.proofs.Parts.{split_read, take_read}
 
 -- what holds of all pairs of a list holds of those behind its first element
 pub AllPairs-tail : {X : Type 0} (R : X → X → Type 0) (x : X) (xs : List X) → AllPairs R (x ∷ xs) → AllPairs R xs
@@ -49,6 +49,31 @@ AllPairs-removed R xs n x back at pairs k d inside =
     rw (get_or-remove_below xs n d k below within) (back (get_or xs k d) (get_or xs n d) (pairs k n d below within)))
     (λ (above : n ≤ k). rw (get_or-remove_above xs n d k above within) (pairs n (k + 1) d (omega arith) (omega arith)))
     (cases_lt k n))
+
+-- an element stands at one place of a list whose elements differ
+pub AllPairs-one_place : {X : Type 0} (xs : List X) (i j : ℕ) (x : X) → AllPairs ◌≢◌ xs
+    → slice_get xs i ≡ Some x → slice_get xs j ≡ Some x → i ≡ j
+AllPairs-one_place xs i j x differ here there =
+    let apart : (m n : ℕ) → m < n → slice_get xs m ≡ Some x → slice_get xs n ≡ Some x → ⊥ =
+    λ m n before first second.
+    differ m n x before (slice_get_within xs n x second)
+    (get_or_from_slice_get xs m x x first ∙ sym (get_or_from_slice_get xs n x x second)) in
+    ⊎_elim
+    (λ (same : i ≡ j). same)
+    (λ (other : (i < j) ⊎ (j < i)).
+    ⊎_elim (λ (less : i < j). absurd (apart i j less here there)) (λ (more : j < i). absurd (apart j i more there here)) other)
+    (cases_order i j)
+
+-- what is removed and put back
+pub insert-remove : {X : Type 0} (xs : List X) (place : ℕ) (x : X) → place < length xs
+    → x ≡ get_or xs place x → insert (remove xs place) place x ≡ xs
+insert-remove xs place x inside is =
+    let front : length (take place xs) ≡ place = length-take-le place xs (omega arith) in
+    let one : place + 1 ≡ suc place = omega arith in
+    ap (λ ys. ys ++ x ∷ drop place (remove xs place)) (take_at (take place xs) (drop (suc place) xs) place front)
+    ∙ ap (λ ys. take place xs ++ x ∷ ys) (drop_at (take place xs) (drop (suc place) xs) place front)
+    ∙ ap (λ n. take place xs ++ x ∷ drop n xs) (sym one)
+    ∙ sym (split_read xs place x inside is)
 
 -- what is not removed is left
 pub Contains-remove : {X : Type 0} (xs : List X) (n : ℕ) (x y : X)

@@ -1,7 +1,7 @@
 -- Parts of a list: its first and its last element, what stands before and behind a place.
 use Rattle.std.proofs.Common.{◌≡◌, ◌⊎◌, ℕ, zero, suc, ◌+◌, ◌-◌, ◌<◌, ◌≤◌, List, [], ◌∷◌, ◌++◌, length, get_or, slice_get, take, drop, Some, inl, inr, refl, sym, ap, ◌∙◌, length-append, length-take, length-drop, take_all, arith}
 use Rattle.std.proofs.Math.Seq.{take-append_seam, drop-append_seam}
-use Rattle.std.proofs.lemmas.List.{take_more, drop_more, take-append-drop}
+use Rattle.std.proofs.lemmas.List.{append_assoc, take_at, take_more, drop_all, drop_more, take-append-drop}
 use Rattle.std.proofs.lemmas.Option.{same_Some}
 
 -- two lists that are one
@@ -32,6 +32,13 @@ nil_or_push (x ∷ xs) =
       | inr (front, last, split) ↦ inr (x ∷ front, last, ap (λ ys. x ∷ ys) split)
     ]
 
+pub push_from_length : {X : Type 0} (xs : List X) (n : ℕ) → length xs ≡ n + 1 → (front : List X) × (last : X) × (xs ≡ front ++ last ∷ [])
+push_from_length xs n some =
+    elim (nil_or_push xs) [
+      | inl none ↦ absurd (omega (arith, some, ap length none))
+      | inr push ↦ push
+    ]
+
 -- a list of one element
 pub singleton_read : {X : Type 0} (xs : List X) (x : X) → 1 ≤ length xs → length xs < 2 → x ≡ get_or xs 0 x → xs ≡ x ∷ []
 singleton_read [] x some one is = absurd (omega arith)
@@ -52,6 +59,14 @@ pub split_read : {X : Type 0} (xs : List X) (i : ℕ) (x : X) → i < length xs 
     → xs ≡ take i xs ++ x ∷ drop (i + 1) xs
 split_read xs i x inside at =
     sym (take-append-drop i xs) ∙ ap (λ ys. take i xs ++ ys) (drop_read xs i x inside at)
+
+-- a list and the last element that was read
+pub split_last_read : {X : Type 0} (xs : List X) (x : X) → 0 < length xs → x ≡ get_or xs (length xs - 1) x
+    → xs ≡ take (length xs - 1) xs ++ x ∷ []
+split_last_read xs x some at =
+    let i = length xs - 1 in
+    split_read xs i x (omega (arith, some)) at
+    ∙ ap (λ ys. take i xs ++ x ∷ ys) (drop_all (i + 1) xs (omega (arith, some)))
 
 pub split_slice_get : {X : Type 0} (xs : List X) (i : ℕ) (x : X) → slice_get xs i ≡ Some x
     → xs ≡ take i xs ++ x ∷ drop (suc i) xs
@@ -89,3 +104,23 @@ pub take-append_all : {X : Type 0} (new old : List X) (n : ℕ) → length new �
     → take n (new ++ drop (length new) old) ≡ new
 take-append_all new old n same long =
     ap (λ m. take m (new ++ drop (length new) old)) (long ∙ sym same) ∙ take-append_seam new (drop (length new) old)
+
+-- a list without the element that was pushed
+pub take_pushed : {X : Type 0} (xs : List X) (x : X) → take (length (xs ++ x ∷ []) - 1) (xs ++ x ∷ []) ≡ xs
+take_pushed xs x =
+    take_at xs (x ∷ []) (length (xs ++ x ∷ []) - 1) (omega (arith, length-append xs (x ∷ [])))
+
+-- more is taken of a longer list, where there is room behind what was taken
+pub take-append_room : {X : Type 0} (n : ℕ) (xs ys : List X)
+    → take n xs ++ take (n - length (take n xs)) ys ≡ take n (xs ++ ys)
+take-append_room zero xs ys = refl
+take-append_room (suc n) [] ys = let same : suc n - 0 ≡ suc n = omega arith in ap (λ k. take k ys) same
+take-append_room (suc n) (x ∷ xs) ys =
+    let same : suc n - length (x ∷ take n xs) ≡ n - length (take n xs) = omega arith in
+    ap (λ zs. x ∷ zs) (ap (λ k. take n xs ++ take k ys) same ∙ take-append_room n xs ys)
+
+-- what was gone through and what is left, one element on
+pub append_onward : {X : Type 0} (all so_far rest : List X) (x : X) (next : List X) → all ≡ so_far ++ rest → rest ≡ x ∷ next
+    → all ≡ (so_far ++ x ∷ []) ++ next
+append_onward all so_far rest x next from is =
+    from ∙ ap (λ ys. so_far ++ ys) is ∙ sym (append_assoc so_far (x ∷ []) next)

@@ -1,8 +1,9 @@
 -- The place of the first element that passes a test.
-use Rattle.std.proofs.Common.{◌≡◌, ℕ, ◌+◌, ◌<◌, Bool, cond, not, List, [], ◌∷◌, map, length, position, Some, refl, ap, arith}
+use Rattle.std.proofs.Common.{◌≡◌, ℕ, ◌+◌, ◌<◌, Bool, true, false, cond, not, nat_lt, List, [], ◌∷◌, All, map, length, position, Some, None, refl, ap, arith}
 use Rattle.std.specs.List.{position_or_len}
 use Rattle.std.proofs.lemmas.Bool.Decides.{nat_tests}
 use Rattle.std.proofs.lemmas.List.{length-map}
+use Rattle.std.proofs.lemmas.List.Sums.{fails_before_first}
 
 pub position_or_len-map : {X Y : Type 0} (f : X → Y) (p : Y → Bool) (xs : List X)
     → position_or_len p (map f xs) ≡ position_or_len (λ x. p (f x)) xs
@@ -17,3 +18,13 @@ position-map f p xs = let e = position_or_len-map f p xs in let n = length-map x
 
 pub position_within : {X : Type 0} (p : X → Bool) (xs : List X) (i : ℕ) → position p xs ≡ Some i → i < length xs
 position_within p xs i e = grind (arith, nat_tests)
+
+-- where none passes, each fails
+pub position_none : {X : Type 0} (p : X → Bool) (xs : List X) → position p xs ≡ None → All (λ x. p x ≡ false) xs
+position_none p xs none k d inside =
+    fails_before_first p xs k d (by_test (nat_lt (position_or_len p xs) (length xs)) refl none)
+  where
+    by_test : (b : Bool) → nat_lt (position_or_len p xs) (length xs) ≡ b
+        → cond b (Some (position_or_len p xs)) None ≡ None → k < position_or_len p xs
+    by_test true is e = absurd (cc)
+    by_test false is e = grind (arith, nat_tests)

@@ -1,5 +1,5 @@
 -- What is told of an answer, whichever it is.
-use Rattle.std.proofs.Common.{◌≡◌, Result, Ok, Err, Option, Some, None, OnOk, OnErr, IfOk, IfSome, ok_or, ap, sym, subst, ◌∙◌}
+use Rattle.std.proofs.Common.{◌≡◌, true, Result, Ok, Err, is_ok, Option, Some, None, OnOk, OnErr, IfOk, IfSome, ok_or, refl, ap, sym, subst, ◌∙◌}
 
 -- what holds anyhow
 pub OnOk-always : {T E : Type 0} (r : Result T E) (P : Type 0) → P → OnOk r P
@@ -29,3 +29,13 @@ IfOk-IfSome_at r o x P is found told = subst (λ q. IfOk q (λ found. IfSome fou
 pub ok_or_some : {T E : Type 0} (o : Option T) (e : E) (x : T) → ok_or o e ≡ Ok x → o ≡ Some x
 ok_or_some None e x same = absurd (cc)
 ok_or_some (Some y) e x same = cc
+
+-- what follows of two facts of the value
+pub IfOk-both : {T E : Type 0} (r : Result T E) (P Q R : T → Type 0) → ((x : T) → P x → Q x → R x) → IfOk r P → IfOk r Q → IfOk r R
+IfOk-both (Ok x) P Q R follows first second = follows x first second
+IfOk-both (Err e) P Q R follows first second = tt
+
+-- an answer whose failure would tell what isn't so
+pub is_ok-from_OnErr : {T E : Type 0} (r : Result T E) (P : Type 0) → OnErr r P → (P → ⊥) → is_ok r ≡ true
+is_ok-from_OnErr (Ok x) P failed never = refl
+is_ok-from_OnErr (Err e) P failed never = absurd (never failed)

@@ -1,6 +1,8 @@
 -- Lists in which one element is replaced, and what stands at the places of a list.
-use Rattle.std.proofs.Common.{◌≡◌, ℕ, zero, suc, ◌<◌, List, [], ◌∷◌, Some, length, map, refl, ap, ◌∙◌, sym, arith}
+use Rattle.std.proofs.Common.{◌≡◌, ℕ, zero, suc, ◌+◌, ◌<◌, true, false, cond, eqb, List, [], ◌∷◌, ◌++◌, Some, length, get_or, take, drop, map, refl, ap, ◌∙◌, sym, subst, ⊎_elim, add-one, arith}
 use Rattle.std.proofs.Math.ListN.{set}
+use Rattle.std.proofs.lemmas.Bool.{cases_Bool, eqb-true, eqb-false}
+use Rattle.std.proofs.lemmas.List.{get_or-set_same, get_or-set_other, set_split}
 use Rattle.std.specs.List.{slice_get}
 use Rattle.std.specs.Option.{option_map}
 use Rattle.std.proofs.lemmas.Option.{none-some, same_Some, slice_get-map}
@@ -51,3 +53,25 @@ pub map-set_both : {X Y : Type 0} (f : X → Y) (xs : List X) (k : ℕ) (u v : X
 map-set_both f [] k u v same = refl
 map-set_both f (y ∷ ys) zero u v same = ap (λ z. z ∷ map f ys) same
 map-set_both f (y ∷ ys) (suc k) u v same = ap (λ zs. f y ∷ zs) (map-set_both f ys k u v same)
+
+-- an element that is written where it stands changes nothing
+pub set-slice_get : {X : Type 0} (xs : List X) (k : ℕ) (x : X) → slice_get xs k ≡ Some x → set xs k x ≡ xs
+set-slice_get [] k x at = absurd (none-some x at)
+set-slice_get (y ∷ ys) zero x at = ap (λ z. z ∷ ys) (sym (same_Some y x at))
+set-slice_get (y ∷ ys) (suc k) x at = ap (λ zs. y ∷ zs) (set-slice_get ys k x at)
+
+-- a list round the element that was set
+pub set_parts : {X : Type 0} (xs : List X) (i : ℕ) (y : X) → i < length xs → set xs i y ≡ take i xs ++ y ∷ drop (i + 1) xs
+set_parts xs i y inside = set_split xs i y inside ∙ ap (λ n. take i xs ++ y ∷ drop n xs) (sym (add-one i))
+
+-- what is read at any place, where one element is set
+pub get_or-set_cases : {X : Type 0} (xs : List X) (i j : ℕ) (x d : X) → i < length xs
+    → get_or (set xs i x) j d ≡ cond (eqb i j) x (get_or xs j d)
+get_or-set_cases xs i j x d inside =
+    ⊎_elim
+    (λ (own : eqb i j ≡ true).
+    subst (λ k. get_or (set xs i x) k d ≡ x) (eqb-true i j own) (get_or-set_same xs i x d inside)
+    ∙ ap (λ b. cond b x (get_or xs j d)) (sym own))
+    (λ (other : eqb i j ≡ false).
+    get_or-set_other xs i j x d (λ same. eqb-false i j other (sym same)) ∙ ap (λ b. cond b x (get_or xs j d)) (sym other))
+    (cases_Bool (eqb i j))

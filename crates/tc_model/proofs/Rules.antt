@@ -18,8 +18,8 @@ AreClauses-push clauses r are rule room = record {
   few = omega (arith, length-append clauses (r ∷ []));
 }
 
-within_one : (n : ℕ) (name : List ℕ) (t : Tree) → HasVarsBelow n (of_one name t) → HasVarsBelow n t
-within_one n name t h = record {
+pub HasVarsBelow-one : (n : ℕ) (name : List ℕ) (t : Tree) → HasVarsBelow n (of_one name t) → HasVarsBelow n t
+HasVarsBelow-one n name t h = record {
   bound = h.bound;
   fits = record {
     nodes = omega (arith, h.fits.nodes);
@@ -29,8 +29,8 @@ within_one n name t h = record {
   };
 }
 
-within_left : (n : ℕ) (name : List ℕ) (s t : Tree) → HasVarsBelow n (of_two name s t) → HasVarsBelow n s
-within_left n name s t h = record {
+pub HasVarsBelow-first : (n : ℕ) (name : List ℕ) (s t : Tree) → HasVarsBelow n (of_two name s t) → HasVarsBelow n s
+HasVarsBelow-first n name s t h = record {
   bound = omega (arith, h.bound);
   fits = record {
     nodes = omega (arith, h.fits.nodes);
@@ -40,8 +40,8 @@ within_left n name s t h = record {
   };
 }
 
-within_right : (n : ℕ) (name : List ℕ) (s t : Tree) → HasVarsBelow n (of_two name s t) → HasVarsBelow n t
-within_right n name s t h = record {
+pub HasVarsBelow-second : (n : ℕ) (name : List ℕ) (s t : Tree) → HasVarsBelow n (of_two name s t) → HasVarsBelow n t
+HasVarsBelow-second n name s t h = record {
   bound = omega (arith, h.bound);
   fits = record {
     nodes = omega (arith, h.fits.nodes);
@@ -53,11 +53,11 @@ within_right n name s t h = record {
 
 within_both : (n : ℕ) (name : List ℕ) (s t : Tree) → HasVarsBelow n (of_two name s t) → All (HasVarsBelow n) (s ∷ t ∷ [])
 within_both n name s t h =
-    All-cons (HasVarsBelow n) s (t ∷ []) (within_left n name s t h)
-    (All-cons (HasVarsBelow n) t [] (within_right n name s t h) (All-nil (HasVarsBelow n)))
+    All-cons (HasVarsBelow n) s (t ∷ []) (HasVarsBelow-first n name s t h)
+    (All-cons (HasVarsBelow n) t [] (HasVarsBelow-second n name s t h) (All-nil (HasVarsBelow n)))
 
 within_only : (n : ℕ) (name : List ℕ) (t : Tree) → HasVarsBelow n (of_one name t) → All (HasVarsBelow n) (t ∷ [])
-within_only n name t h = All-cons (HasVarsBelow n) t [] (within_one n name t h) (All-nil (HasVarsBelow n))
+within_only n name t h = All-cons (HasVarsBelow n) t [] (HasVarsBelow-one n name t h) (All-nil (HasVarsBelow n))
 
 pub within_terms : (n : ℕ) (g : Goal) → HasVarsBelow n (goal_term g) → All (HasVarsBelow n) (terms_of g)
 within_terms n (OutR t) h = within_only n _ (tree_of t) h
@@ -84,8 +84,8 @@ within_goals n (g ∷ []) h =
     All-cons (λ g. All (HasVarsBelow n) (terms_of g)) g [] (within_terms n g h) (All-nil (λ g. All (HasVarsBelow n) (terms_of g)))
 within_goals n (g ∷ f ∷ gs) h =
     All-cons (λ g. All (HasVarsBelow n) (terms_of g)) g (f ∷ gs)
-    (within_terms n g (within_left n _ (goal_term g) (body_term (f ∷ gs)) h))
-    (within_goals n (f ∷ gs) (within_right n _ (goal_term g) (body_term (f ∷ gs)) h))
+    (within_terms n g (HasVarsBelow-first n _ (goal_term g) (body_term (f ∷ gs)) h))
+    (within_goals n (f ∷ gs) (HasVarsBelow-second n _ (goal_term g) (body_term (f ∷ gs)) h))
 
 within_clause : (r : Rule) → IsRule r → HasVarsBelow r.vars (clause_term r)
 within_clause r h = record {
@@ -97,13 +97,13 @@ within_clause r h = record {
 pub rule_goals : (r : Rule) → IsRule r → All (λ g. All (HasVarsBelow r.vars) (terms_of g)) r.goals
 rule_goals r h =
     within_goals r.vars r.goals
-    (within_right r.vars _ (of_one (op_name r.op) r.head) (body_term r.goals) (within_clause r h))
+    (HasVarsBelow-second r.vars _ (of_one (op_name r.op) r.head) (body_term r.goals) (within_clause r h))
 
 -- and so has its head
 pub rule_head : (r : Rule) → IsRule r → HasVarsBelow r.vars r.head
 rule_head r h =
-    within_one r.vars _ r.head
-    (within_left r.vars _ (of_one (op_name r.op) r.head) (body_term r.goals) (within_clause r h))
+    HasVarsBelow-one r.vars _ r.head
+    (HasVarsBelow-first r.vars _ (of_one (op_name r.op) r.head) (body_term r.goals) (within_clause r h))
 
 -- few variables
 pub rule_vars : (r : Rule) → IsRule r → r.vars ≤ 256

@@ -188,7 +188,7 @@ waiting-gives history requests r result items waiting well stands answer =
           (HasCall-push_cases id history e has);
     })
 
-pending-answered : (id : CallId) (result : Outcome) (items : List Item) (s : State)
+pub pending-answered : (id : CallId) (result : Outcome) (items : List Item) (s : State)
     → (after_answer id result items s).pending ≡ without_request id s.pending
 pending-answered id (Took u) items s = refl
 pending-answered id _ items s = refl

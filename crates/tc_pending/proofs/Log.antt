@@ -1,12 +1,12 @@
 -- A list of requests with its log, after each change.
-use Rattle.std.proofs.Common.{◌≡◌, ◌<◌, ◌≤◌, ◌+◌, ◌-◌, ◌==◌, if◌then◌else◌, ℕ, zero, suc, Bool, true, false, not, List, [], ◌∷◌, ◌++◌, length, get_or, take, drop, refl, ap, sym, subst, ◌∙◌, length-append, arith}
-use Rattle.std.specs.List.{All, remove, insert}
-use Rattle.std.proofs.lemmas.Bool.{ne_eqb, true≢false}
-use Rattle.std.proofs.lemmas.List.{take-append-drop, length-take, length-take-le, take_at, drop_at, drop_all, drop_more, drop-append-le, take-append-le, nil_from_length, same_from_push, map_push}
+use Rattle.std.proofs.Common.{◌≡◌, ◌<◌, ◌≤◌, ◌+◌, ◌-◌, ◌==◌, if◌then◌else◌, ℕ, suc, Bool, true, false, not, List, [], ◌∷◌, ◌++◌, length, get_or, take, drop, refl, ap, sym, subst, ◌∙◌, length-append, arith}
+use Rattle.std.specs.List.{All, remove}
+use Rattle.std.proofs.lemmas.Bool.{true≢false}
+use Rattle.std.proofs.lemmas.List.{take-append-drop, length-take, length-take-le, drop_all, drop-append-le, take-append-le, nil_from_length, same_from_push, map_push}
 use Rattle.std.proofs.lemmas.List.Edits.{length-insert}
 use Rattle.std.proofs.lemmas.List.Elements.{All-head, All-tail}
 use Rattle.tc_lists.specs.Marks.{Climbs}
-use Rattle.tc_lists.proofs.Marks.{Climbs-below, Climbs-more, Climbs-push, Climbs-pop}
+use Rattle.tc_lists.proofs.Marks.{Climbs-below, Climbs-more, Climbs-push, Climbs-pop, get_or_first-push}
 use Rattle.tc_lists.proofs.Bools.{length-none_false}
 use Rattle.tc_model.specs.declared.calls.Request.{Request}
 use Rattle.tc_pending.specs.declared.changes.Change.{Change}
@@ -22,28 +22,6 @@ waiting now saved = record { now = now; saved = saved }
 pub same_waiting : (now new : List Request) (saved kept : List (List Request)) → now ≡ new → saved ≡ kept
     → waiting now saved ≡ waiting new kept
 same_waiting now new saved kept p q = cc
-
--- an element that was added, or removed, is taken back
-pub take-pushed : {X : Type 0} (xs : List X) (x : X) → take (length (xs ++ x ∷ []) - 1) (xs ++ x ∷ []) ≡ xs
-take-pushed xs x =
-    take_at xs (x ∷ []) (length (xs ++ x ∷ []) - 1) (omega (arith, length-append xs (x ∷ [])))
-
-pub insert-removed : {X : Type 0} (xs : List X) (place : ℕ) (x : X) → place < length xs
-    → x ≡ get_or xs place x → insert (remove xs place) place x ≡ xs
-insert-removed xs place x inside is =
-    let front : length (take place xs) ≡ place = length-take-le place xs (omega arith) in
-    let before : take place (remove xs place) ≡ take place xs =
-    take_at (take place xs) (drop (suc place) xs) place front in
-    let behind : drop place (remove xs place) ≡ drop (suc place) xs =
-    drop_at (take place xs) (drop (suc place) xs) place front in
-    let rest : drop place xs ≡ get_or xs place x ∷ drop (place + 1) xs = drop_more xs place x inside in
-    let one : place + 1 ≡ suc place = omega arith in
-    ap (λ ys. ys ++ x ∷ drop place (remove xs place)) before
-    ∙ ap (λ ys. take place xs ++ x ∷ ys) behind
-    ∙ ap (λ y. take place xs ++ y ∷ drop (suc place) xs) is
-    ∙ ap (λ n. take place xs ++ get_or xs place x ∷ drop n xs) (sym one)
-    ∙ ap (λ ys. take place xs ++ ys) (sym rest)
-    ∙ take-append-drop place xs
 
 pub Fits-removed : (requests : List Request) (place : ℕ) (r : Request) (serial : ℕ) → place < length requests
     → Fits (Removed place r serial) (remove requests place)
@@ -122,22 +100,11 @@ saved-noted (m ∷ ms) changes c requests new below back =
     saved-noted ms changes c requests new (All-tail Below m ms below) back in
     cc
 
--- the oldest mark stays, whatever comes behind it
-pub oldest-push : (marks : List ℕ) (n more : ℕ) → get_or (marks ++ n ∷ []) 0 more ≡ get_or marks 0 n
-oldest-push [] n more = refl
-oldest-push (m ∷ ms) n more = refl
-
 -- one change more at most is noted
 pub length-noted : (changes noted : List Change) (c : Change) (empty : Bool)
     → noted ≡ (if not empty then changes ++ c ∷ [] else changes) → length noted ≤ length changes + 1
 length-noted changes noted c true is = omega (arith, ap length is)
 length-noted changes noted c false is = omega (arith, ap length is, length-append changes (c ∷ []))
-
--- the test for no mark, and what it says where it holds
-pub none_from_test : (n : ℕ) (none : Bool) → none ≡ (n == 0) → none ≡ true → n ≡ 0
-none_from_test zero none is holds = refl
-none_from_test (suc n) none is holds =
-    absurd (true≢false (sym holds ∙ is ∙ ne_eqb (suc n) 0 (λ same. absurd (omega (arith, same)))))
 
 -- a change that is noted where there is a mark
 pub IsLog-noted : (requests new : List Request) (changes noted : List Change) (marks : List ℕ) (c : Change) (empty : Bool)
@@ -178,7 +145,7 @@ pub IsLog-marked : (requests : List Request) (changes : List Change) (marks new 
 IsLog-marked requests changes marks new log is = record {
   fit = log.fit;
   climbs = subst (λ ms. Climbs ms (length changes)) (sym is) (Climbs-push marks (length changes) log.climbs);
-  oldest = ap (λ ms. get_or ms 0 (length changes)) is ∙ oldest-push marks (length changes) (length changes) ∙ log.oldest;
+  oldest = ap (λ ms. get_or ms 0 (length changes)) is ∙ get_or_first-push marks (length changes) (length changes) ∙ log.oldest;
 }
 
 pub saved-marked : (requests : List Request) (changes : List Change) (marks new : List ℕ)
@@ -220,7 +187,7 @@ module _ (requests : List Request) (changes : List Change) (marks before : List 
 
   oldest_last : get_or before 0 top ≡ 0
   oldest_last =
-      sym (oldest-push before top (length changes)) ∙ ap (λ ms. get_or ms 0 (length changes)) (sym last) ∙ log.oldest
+      sym (get_or_first-push before top (length changes)) ∙ ap (λ ms. get_or ms 0 (length changes)) (sym last) ∙ log.oldest
 
   -- the log with the changes behind the latest mark taken back
   log_undone : IsLog (rewound (drop top changes) requests) (take top changes) before

@@ -4,6 +4,7 @@ use Rattle.std.specs.List.{Contains}
 use Rattle.std.specs.Option.{IfSome, IfNone}
 use Rattle.std.proofs.lemmas.List.Elements.{All-contains, Contains-get_or}
 use Rattle.tc_lists.specs.Firsts.{NoneOf, IsFirst}
+use Rattle.tc_lists.proofs.Places.{Contains-take_longer, Contains-slice_get, slice_get-take}
 use Rattle.tc_term.specs.Tree.{Tree}
 use Rattle.tc_term.specs.Variables.{var_bound}
 use Rattle.tc_bag.specs.declared.key.Key.TheVariants.{Any}
@@ -14,7 +15,6 @@ use Rattle.tc_search.proofs.Passing.{IsPassed, IsKey, passed_more, passed_all, f
 use Rattle.tc_model.specs.State.{IsMatch, IsAnswerable}
 use Rattle.tc_model.specs.declared.calls.Request.{Request}
 use Rattle.tc_pending.specs.Answers.{IsNextAnswer, IsKnown, AsksFor, IsOldestAsking}
-use Rattle.tc_pending.proofs.Next.{contains-earlier, contains-at}
 
 -- the request at this place is answered by the tuple of this age
 pub record IsAnsweredBy (rows : List Row) (requests : List Request) (place age : ℕ) : Type 0 where
@@ -48,7 +48,7 @@ module _ (rows : List Row) (requests : List Request) (count from : ℕ)
         let P : Tree → Type 0 = IsMatch q.template in
         let more : IsPassed P (row.age + 1) rows =
         passed_more P (Agrees Any) from next rows row rises (any P rows)
-        (passed q (contains-earlier requests fewer count q less stands)) first (none q stands) in
+        (passed q (Contains-take_longer requests fewer count q less stands)) first (none q stands) in
         All-contains (λ (s : Row). s.age < row.age + 1 → P s.tuple → ⊥) rows r more there younger match
 
     pub answered-by : (place : ℕ) → place < count → IsOldestAsking row.tuple requests place
@@ -61,7 +61,7 @@ module _ (rows : List Row) (requests : List Request) (count from : ℕ)
           stands = oldest.stands;
           tuple = row.tuple;
           found = found_row (var_bound q.template) [] q.template (Agrees Any) from next rows row rises (any P rows)
-              (passed q (contains-at requests place count q inside oldest.stands)) first oldest.asks;
+              (passed q (Contains-slice_get (take count requests) place q (slice_get-take requests count place q inside oldest.stands))) first oldest.asks;
         }
 
   -- where no row is left, none of the requests can be answered

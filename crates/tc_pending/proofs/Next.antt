@@ -1,10 +1,10 @@
 -- Which request is next, of those that a search has come past.
-use Rattle.std.proofs.Common.{◌≡◌, ◌<◌, ◌≤◌, ◌+◌, ℕ, List, [], ◌∷◌, ◌++◌, Some, Contains, length, get_or, slice_get, take, sym, ap, subst, ◌∙◌, ⊎_elim, arith}
+use Rattle.std.proofs.Common.{◌≡◌, ◌<◌, ◌≤◌, ◌+◌, ℕ, List, [], ◌∷◌, ◌++◌, Some, Contains, length, get_or, take, sym, ap, subst, ◌∙◌, ⊎_elim, arith}
 use Rattle.std.specs.List.{remove}
 use Rattle.std.proofs.lemmas.Bool.{cases_lt}
 use Rattle.std.proofs.lemmas.List.Edits.{length-remove, get_or-remove_below, get_or-remove_above}
 use Rattle.std.proofs.lemmas.List.{take_more, take_all, length-take, get_or-take}
-use Rattle.std.proofs.lemmas.Option.{slice_get-get_or, slice_get_within, get_or_from_slice_get}
+use Rattle.std.proofs.lemmas.Option.{slice_get-get_or}
 use Rattle.tc_lists.specs.Firsts.{NoneOf}
 use Rattle.tc_lists.proofs.Firsts.{NoneOf-push}
 use Rattle.tc_term.specs.Tree.{Tree}
@@ -15,25 +15,6 @@ use Rattle.tc_model.specs.State.{IsMatch, IsAnswerable}
 use Rattle.tc_model.specs.declared.calls.Request.{Request}
 use Rattle.tc_pending.specs.Answers.{IsNextAnswer, IsKnown}
 use Rattle.tc_pending.specs.declared.answering.Known.{Known}
-
--- what stands before a place stands before a later one
-pub contains-earlier : {X : Type 0} (xs : List X) (m n : ℕ) (x : X) → m ≤ n → Contains (take m xs) x → Contains (take n xs) x
-contains-earlier xs m n x less stands =
-    let k : ℕ = stands.0 in
-    let low : k < m = omega (arith, stands.1, length-take m xs) in
-    let high : k < length xs = omega (arith, stands.1, length-take m xs) in (
-      k,
-      omega (arith, low, high, less, length-take n xs),
-      get_or-take n xs k x (omega (arith, low, less)) ∙ sym (get_or-take m xs k x low) ∙ stands.2,
-    )
-
-pub contains-at : {X : Type 0} (xs : List X) (i n : ℕ) (x : X) → i < n → slice_get xs i ≡ Some x → Contains (take n xs) x
-contains-at xs i n x inside at =
-    let within : i < length xs = slice_get_within xs i x at in (
-      i,
-      omega (arith, inside, within, length-take n xs),
-      get_or-take n xs i x inside ∙ get_or_from_slice_get xs i x x at,
-    )
 
 module _ (rows : List Row) (requests : List Request) (place : ℕ) (r : Request) where
   pub is_next : (age : ℕ) (u : Tree) → place < length requests → r ≡ get_or requests place r

@@ -1,15 +1,12 @@
 -- Indexes of grants: where a grant is appended, and where the first of some is removed.
 use Rattle.std.proofs.Common.{◌≡◌, ◌<◌, ℕ, Bool, true, false, if◌then◌else◌, Option, Some, None, is_some, List, [], ◌∷◌, ◌++◌, length, remove, slice_get, get_or, take, Contains, inl, inr, refl, sym, ap, ◌∙◌, subst}
-use Rattle.std.specs.Option.{IfNone, option_map}
+use Rattle.std.specs.Option.{option_map}
 use Rattle.std.proofs.lemmas.Option.{slice_get_within, get_or_from_slice_get, same_Some}
+use Rattle.tc_lists.proofs.Options.{none_from_is_some}
 use Rattle.tc_policy.specs.Places.{IsFirstAt, IsIndex, IsWithoutFirst, first_place, lowered}
 use Rattle.tc_policy.specs.Same.{same_grant}
 use Rattle.tc_policy.specs.declared.grants.Grant.{Grant}
 use Rattle.tc_policy.proofs.FirstPlaces.{same_tells, first_place-absent, first_place-from, first_place-is, first_place-none, first_place-push_known, first_place-push_new, first_place-remove}
-
-none_by : {X : Type 0} (o : Option X) → is_some o ≡ false → o ≡ None
-none_by None e = refl
-none_by (Some x) e = absurd (cc)
 
 -- another grant keeps its place, or has none still
 push_other : (g h : Grant) (grants : List Grant) (o : Option ℕ) → first_place h grants ≡ o → same_grant g h ≡ false
@@ -26,7 +23,7 @@ index-noted p q grants g place none put end index h =
     elim (same_tells g h) [
       | inl same ↦
           let absent : first_place h grants ≡ None =
-          sym (index h) ∙ ap p (sym same.1) ∙ none_by (p g) none in
+          sym (index h) ∙ ap p (sym same.1) ∙ none_from_is_some (p g) none in
           put h ∙ ap (λ b. if b then Some place else p h) same.0 ∙ ap Some (sym end)
           ∙ sym (first_place-push_new h g grants absent ∙ ap (λ b. if b then Some (length grants) else None) same.0)
       | inr other ↦
@@ -95,8 +92,3 @@ without-first g items old new place same first left = record {
       left ∙ ap (λ xs. remove xs place) same ∙ ap (remove old) here;
   same = λ none. absurd (none (contains_first g old place first));
 }
-
--- what is said where nothing is found
-pub if_none_by : {X : Type 0} (o : Option X) (P : Type 0) → P → IfNone o P
-if_none_by None P holds = holds
-if_none_by (Some x) P holds = tt

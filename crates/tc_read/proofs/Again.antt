@@ -22,8 +22,7 @@ use Rattle.tc_read.specs.Budget.{numbered, paid, spent, spent_all, then_in}
 use Rattle.tc_read.specs.Canonical.{EndsTerm}
 use Rattle.tc_read.specs.Front.{argument, arguments, atom, barred, before, called, cell, cell_of, compound, element, is_barred, is_cell, leaf, list, name_at, named, named_or_number, nil, node, number, quoted_at, reads, tail, unplain, variable, word_at}
 use Rattle.tc_read.specs.declared.budget.Budget.{Budget}
-use Rattle.std.proofs.lemmas.Bool.{eqb-true, lt-ltb, ne_eqb}
-use Rattle.tc_lists.proofs.Bools.{and_parts}
+use Rattle.std.proofs.lemmas.Bool.{eqb-true, lt-ltb, ne_eqb, and_parts}
 
 -- no word byte stands here
 abbrev pub NoWord : List ℕ → Type 0

@@ -3,7 +3,7 @@ use Rattle.std.proofs.Common.{◌≡◌, ◌∙◌, ◌≤◌, ◌+◌, ◌-◌,
 use Rattle.tc_term.specs.Bytes.{is_word, is_name_start}
 use Rattle.tc_term.specs.Tree.{HasIntegers}
 use Rattle.std.proofs.lemmas.Fmt.{decimal_digit}
-use Rattle.std.proofs.lemmas.Bool.{cond_both, false_from_ne_true}
+use Rattle.std.proofs.lemmas.Bool.{cond_both, false_from_ne_true, and_parts}
 use Rattle.std.proofs.lemmas.Slice.Eq.{bytes_eq-Decides}
 use Rattle.std.specs.Char.{is_ascii_lowercase}
 use Rattle.std.specs.Fmt.{decimal, signed_decimal}
@@ -28,7 +28,6 @@ use Rattle.tc_read.specs.Canonical.{EndsTerm, IsCanonicalAt, IsLongestCanonicalA
 use Rattle.tc_read.specs.Front.{Read, arguments, atom, called, canonical_at, compound, head, is_cell, leaf, name_at, named, number, or_head, quoted_at, reads, unplain, word_at}
 use Rattle.tc_read.specs.declared.budget.Budget.{Budget}
 use Rattle.std.proofs.lemmas.Option.{same_Some}
-use Rattle.tc_lists.proofs.Bools.{and_parts}
 
 -- the text of this template stands at the front
 pub record Stands (bytes : List ℕ) (t : Tree) (rest : List ℕ) : Type 0 where

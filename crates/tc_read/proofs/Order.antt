@@ -1,18 +1,16 @@
-use Rattle.std.proofs.Common.{◌≡◌, ℕ, zero, suc, ◌+◌, ◌<◌, ◌≤◌, Bool, true, false, ◌==◌, if◌then◌else◌, nat_le, List, [], ◌∷◌, ◌++◌, length, Option, Some, None, refl, sym, ◌∙◌, ap, arith}
+use Rattle.std.proofs.Common.{◌≡◌, ℕ, suc, ◌+◌, ◌≤◌, Bool, true, false, if◌then◌else◌, nat_le, List, [], ◌∷◌, ◌++◌, length, Option, Some, None, refl, sym, ◌∙◌, ap, arith, add-one}
 use Rattle.std.specs.List.{range_with_len, position}
 use Rattle.std.specs.Str.{bytes_eq}
-use Rattle.std.proofs.lemmas.Bool.{eq-eqb, ne_eqb}
 use Rattle.std.proofs.lemmas.Bool.Decides.{nat_tests}
 use Rattle.std.proofs.lemmas.List.{length-append}
-use Rattle.std.proofs.lemmas.List.FromFn.{length-range_with_len}
-use Rattle.tc_term.specs.Variables.{place_in, with_number, variables_after, variables_after_all, variables}
+use Rattle.tc_read.proofs.Ranges.{with_number-old, with_number-new}
+use Rattle.tc_term.specs.Variables.{with_number, variables_after, variables_after_all, variables}
 use Rattle.tc_term.specs.Tokens.{Lexeme, Word, Variable, Number, Quoted, Symbol, Punctuation, Mark}
 use Rattle.tc_term.specs.Tokens as spelled
 use Rattle.tc_term.specs.Layouts.{At}
 use Rattle.tc_term.specs.Grammar.{Token, Operator, infix_of, functor_of, Derives, operand, prefix, infix_term, Operand, variable, integer, negative, atom, compound, no_items, items, group, Arguments, last_argument, more_arguments, Items, last_item, list_tail, more_items, IsTerm}
 use Rattle.tc_term.specs.Grammar as grammar
 use Rattle.tc_term.specs.Faults.{Reading, reading, trees, terms, all_known, known_behind, known_after, known_by, learned, is_anonymous, number_of, number_by, numbered, token_of, mark_of}
-use Rattle.tc_lists.proofs.Ranges.{range_with_len_suc}
 use Rattle.tc_lists.proofs.Positions.{position_within}
 
 -- The variables of a term appear in the order of its tokens.
@@ -74,45 +72,6 @@ mutual
 
 -- Numbered by first appearance, they are 0, 1, ..
 
-place_below : (a k n : ℕ) → n < k → place_in (range_with_len a k) (a + n) ≡ n
-place_below a zero n h = absurd (omega arith)
-place_below a (suc k) zero h = by (a == a + 0) refl
-  where
-    by : (b : Bool) → (a == a + 0) ≡ b → (if b then 0 else place_in (range_with_len (a + 1) k) (a + 0) + 1) ≡ 0
-    by true e = refl
-    by false e = absurd (grind (arith, nat_tests))
-place_below a (suc k) (suc n) h = by (a == a + suc n) refl (place_below (a + 1) k n (omega arith))
-  where
-    by : (b : Bool) → (a == a + suc n) ≡ b → place_in (range_with_len (a + 1) k) (a + 1 + n) ≡ n → (if b then 0 else place_in (range_with_len (a + 1) k) (a + suc n) + 1) ≡ suc n
-    by true e ih = absurd (grind (arith, nat_tests))
-    by false e ih = let same : a + suc n ≡ a + 1 + n = omega arith in omega (arith, ih, ap (place_in (range_with_len (a + 1) k)) same)
-
-place_beyond : (a k n : ℕ) → k ≤ n → place_in (range_with_len a k) (a + n) ≡ k
-place_beyond a zero n h = refl
-place_beyond a (suc k) zero h = absurd (omega arith)
-place_beyond a (suc k) (suc n) h = by (a == a + suc n) refl (place_beyond (a + 1) k n (omega arith))
-  where
-    by : (b : Bool) → (a == a + suc n) ≡ b → place_in (range_with_len (a + 1) k) (a + 1 + n) ≡ k → (if b then 0 else place_in (range_with_len (a + 1) k) (a + suc n) + 1) ≡ suc k
-    by true e ih = absurd (grind (arith, nat_tests))
-    by false e ih = let same : a + suc n ≡ a + 1 + n = omega arith in omega (arith, ih, ap (place_in (range_with_len (a + 1) k)) same)
-
-place_of : (k n m : ℕ) → place_in (range_with_len 0 k) (0 + n) ≡ m → place_in (range_with_len 0 k) n ≡ m
-place_of k n m e = let z : n ≡ 0 + n = omega arith in ap (place_in (range_with_len 0 k)) z ∙ e
-
-with_known : (k n : ℕ) → n < k → with_number (range_with_len 0 k) n ≡ range_with_len 0 k
-with_known k n h =
-    ap (λ b. if b then range_with_len 0 k ++ n ∷ [] else range_with_len 0 k)
-    (ne_eqb (place_in (range_with_len 0 k) n) (length (range_with_len 0 k))
-    (λ same. absurd (omega (arith, same, place_of k n n (place_below 0 k n h), length-range_with_len 0 k, h))))
-
-with_new : (k : ℕ) → with_number (range_with_len 0 k) k ≡ range_with_len 0 (suc k)
-with_new k =
-    ap (λ b. if b then range_with_len 0 k ++ k ∷ [] else range_with_len 0 k)
-    (eq-eqb (place_in (range_with_len 0 k) k) (length (range_with_len 0 k))
-    (place_of k k k (place_beyond 0 k k (omega arith)) ∙ sym (length-range_with_len 0 k)))
-    ∙ ap (λ n. range_with_len 0 k ++ n ∷ []) (let z : k ≡ 0 + k = omega arith in z)
-    ∙ sym (range_with_len_suc 0 k)
-
 learned_length : (known : List (List ℕ)) (name : List ℕ) → length (learned known name) ≤ 256 → length (learned known name) ≡ suc (length known)
 learned_length known name h = by (nat_le (length known) 256) refl h
   where
@@ -151,11 +110,11 @@ all_known_grows known [] = omega arith
 all_known_grows known (t ∷ ts) = omega (arith, known_behind_grows known t.lexeme, all_known_grows (known_behind known t.lexeme) ts)
 
 new_variable : (known : List (List ℕ)) (name : List ℕ) → length (learned known name) ≤ 256 → with_number (range_with_len 0 (length known)) (length known) ≡ range_with_len 0 (length (learned known name))
-new_variable known name h = with_new (length known) ∙ ap (range_with_len 0) (sym (learned_length known name h))
+new_variable known name h = with_number-new (length known) ∙ ap (range_with_len 0) (add-one (length known) ∙ sym (learned_length known name h))
 
 by_position : (known : List (List ℕ)) (name : List ℕ) (o : Option ℕ) → position (bytes_eq name) known ≡ o → length (known_by known name o) ≤ 256
     → with_number (range_with_len 0 (length known)) (number_by known o) ≡ range_with_len 0 (length (known_by known name o))
-by_position known name (Some i) e h = with_known (length known) i (position_within (bytes_eq name) known i e)
+by_position known name (Some i) e h = with_number-old (length known) i (position_within (bytes_eq name) known i e)
 by_position known name None e h = new_variable known name h
 
 number_step : (known : List (List ℕ)) (name : List ℕ) → length (known_after known name) ≤ 256 → with_number (range_with_len 0 (length known)) (number_of known name) ≡ range_with_len 0 (length (known_after known name))

@@ -8,6 +8,7 @@ use Rattle.std.proofs.lemmas.Slice.Eq.{bytes_eq-Decides}
 use Rattle.std.specs.Char.{is_ascii_digit, is_ascii_lowercase}
 use Rattle.std.specs.Fmt.{decimal, signed_decimal}
 use Rattle.std.specs.List.{list_all}
+use Rattle.std.proofs.lemmas.Bool.{and_parts}
 use mir.Syntax.{w64}
 use Rattle.tc_lists.proofs.Decimals.{decimal-first, decimal-not_nil}
 use Rattle.tc_term.specs.Faults.{Reading, all_known, first_wide, is_wide, known_after, most_open, number_of, numbered, open_behind, or_else, reading, terms, trees, wide_at, wide_of_all}
@@ -30,7 +31,6 @@ use Rattle.tc_read.specs.Lexing.{Begins}
 use Rattle.tc_term.specs.NameBytes.{has_read_names, have_read_names}
 use Rattle.tc_term.specs.Readable.{opened, opened_in_all}
 use Rattle.tc_read.specs.declared.budget.Budget.{Budget}
-use Rattle.tc_lists.proofs.Bools.{and_parts}
 
 -- a term that is read, with no integer too wide
 abbrev pub plain : Tree → Reading

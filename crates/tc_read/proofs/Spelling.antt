@@ -4,7 +4,7 @@ use Rattle.tc_term.specs.Bytes.{is_word, is_name_byte}
 use Rattle.std.specs.Char.{is_ascii_digit}
 use Rattle.std.proofs.Math.Seq.{take-append_seam, drop-append_seam}
 use Rattle.std.proofs.lemmas.Bool.Decides.{eqb_tells, nat_tests}
-use Rattle.std.proofs.lemmas.Bool.{cases_lt, false_from_ne_true, ne_eqb}
+use Rattle.std.proofs.lemmas.Bool.{cases_lt, false_from_ne_true, ne_eqb, and_parts}
 use Rattle.std.proofs.lemmas.Fmt.{decimal_is_IsNumeral, decimal_injective}
 use Rattle.std.proofs.lemmas.Slice.Eq.{bytes_eq-Decides}
 use Rattle.std.proofs.lemmas.List.{length-map, map-append}
@@ -31,7 +31,6 @@ use Rattle.tc_lists.proofs.Ranges.{range_with_len_more}
 use Rattle.tc_read.specs.Lexing.{Begins, at_backslash, at_quote, further, or_one, quoted_end}
 use Rattle.tc_read.specs.Views.{unquoted, unquoted_from}
 use Rattle.tc_lists.proofs.Parts.{cons_tail}
-use Rattle.tc_lists.proofs.Bools.{and_parts}
 use Rattle.tc_lists.proofs.Runs.{split-prefix_len}
 
 -- nothing stands here that goes on a token of a term: no word byte and no quote

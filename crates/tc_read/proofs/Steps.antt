@@ -1,12 +1,11 @@
 use Rattle.std.proofs.Common.{◌≡◌, ℕ, ◌+◌, ◌*◌, ◌<◌, ◌≤◌, Bool, true, false, if◌then◌else◌, ◌&&◌, nat_le, List, [], ◌∷◌, length, Option, Some, None, refl, sym, ◌∙◌, ap, subst, arith, ◌↔◌}
-use Rattle.std.proofs.lemmas.Bool.{leb-true}
+use Rattle.std.proofs.lemmas.Bool.{leb-true, and_parts}
 use Rattle.std.proofs.lemmas.Bool.Decides.{nat_tests}
 use Rattle.tc_term.specs.Tokens.{Sign, Minus, sign_bytes}
 use Rattle.tc_term.specs.Grammar.{Token, Variable, Integer, Name, Symbol, Open, Close, OpenList, CloseList, Comma, Bar, Operator, infix_of, NotCalled, Meaning, nil, cell, between, Derives, Arguments, last_argument, more_arguments, Items, last_item, list_tail, more_items}
 use Rattle.tc_read.specs.Machine.{Frame, Between, Negated, Group, Args, Elements, Tail, limit, Standing, Awaits, Holds, Ends, Move, Refused, Goes_to, turned, applied, cells, named, minus, unbracketed, signed, listed, close_group, close_argument, close_element, close_tail, close_all, close, fitting_operator, go_on_by, go_on, start}
 use Rattle.tc_read.proofs.Grammar.{IsSound, table, apart, Goes, stop, on, Wants, Has, MoreArguments, no_more, one_more, MoreItems, no_more_items, tail_only, one_more_item, InBetween, InNegated, InGroup, InArgs, InElements, InTail, none_empty, none_close, none_close_list, none_comma, none_bar, none_sign, at_variable, at_integer, at_atom, at_negative, at_prefix, at_compound, at_group, at_no_items, at_list, at_nothing, at_infix, at_end}
 use Rattle.std.proofs.lemmas.Option.{same_Some}
-use Rattle.tc_lists.proofs.Bools.{and_parts}
 use Rattle.tc_lists.proofs.Parts.{cons_head}
 
 fits_not : (a b c d : ℕ) → (nat_le a b && nat_le c d) ≡ false → a ≤ b → c ≤ d → ⊥

@@ -15,8 +15,7 @@ use Rattle.tc_read.proofs.Texts.{text_in-Variable, text_in-Number, text_in-nil, 
 use Rattle.tc_read.specs.Budget.{numbered, paid, spent, spent_all, then_in, whole}
 use Rattle.tc_read.specs.Front.{Read, argument, arguments, atom, barred, before, called, cell, cell_of, compound, element, head, is_barred, is_cell, leaf, list, name_at, named, named_or_number, nil, node, number, quoted_at, reads, tail, unplain, variable, word_at}
 use Rattle.tc_read.specs.declared.budget.Budget.{Budget}
-use Rattle.std.proofs.lemmas.Bool.{cond_both, eqb-true}
-use Rattle.tc_lists.proofs.Bools.{and_parts}
+use Rattle.std.proofs.lemmas.Bool.{cond_both, eqb-true, and_parts}
 
 pub record Took (d : ℕ) (place : Place) (budget : Budget) (bytes : List ℕ) (t : Tree) (left : Budget) (rest : List ℕ) : Type 0 where
   pub text : bytes ≡ text_in place t ++ rest

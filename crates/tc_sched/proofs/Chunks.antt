@@ -1,6 +1,6 @@
 -- What holds of chunks, of the whole.
-use Rattle.std.proofs.Common.{◌≡◌, ℕ, zero, suc, ◌+◌, ◌-◌, ◌*◌, ◌<◌, ◌≤◌, List, [], ◌∷◌, ◌++◌, length, take, drop, refl, sym, ap, ◌∙◌, subst, arith, length-drop}
-use Rattle.std.proofs.lemmas.List.{take-append-drop}
+use Rattle.std.proofs.Common.{◌≡◌, ℕ, zero, suc, ◌+◌, ◌-◌, ◌*◌, ◌<◌, ◌≤◌, List, [], ◌∷◌, ◌++◌, length, take, drop, sym, ap, ◌∙◌, subst, arith, length-drop}
+use Rattle.std.proofs.lemmas.List.{take-append-drop, drop-drop}
 use Rattle.std.proofs.lemmas.List.Sums.{sum_by-append, sum_by-take-le}
 use Rattle.std.proofs.Math.Nat.{suc-mul}
 use Rattle.std.specs.Fork.{slice_chunk}
@@ -8,14 +8,8 @@ use Rattle.tc_desk.specs.Desks.{DeskState}
 use Rattle.tc_sched.specs.Clients.{Client}
 use Rattle.tc_sched.specs.Steps.{left_in, left_of}
 
-drop-none : {A : Type 0} (n : ℕ) → drop n (let none : List A = [] in none) ≡ []
-drop-none zero = refl
-drop-none (suc n) = refl
-
 pub drop-more : {A : Type 0} (n m : ℕ) (xs : List A) → drop n (drop m xs) ≡ drop (n + m) xs
-drop-more n zero xs = let e : n ≡ n + 0 = omega arith in ap (λ k. drop k xs) e
-drop-more n (suc m) [] = drop-none n ∙ sym (drop-none (n + suc m))
-drop-more n (suc m) (x ∷ xs) = let e : suc (n + m) ≡ n + suc m = omega arith in drop-more n m xs ∙ ap (λ k. drop k (x ∷ xs)) e
+drop-more n m xs = drop-drop n m xs ∙ ap (λ k. drop k xs) (omega arith)
 
 pub roomy : (n size : ℕ) → 0 < size → n ≤ n * size
 roomy zero size some = omega arith

@@ -1,9 +1,9 @@
 -- What the calls of a desk make of the rows of scripts.
-use Rattle.std.proofs.Common.{◌≡◌, ◌≢◌, ℕ, ◌+◌, ◌<◌, ◌≤◌, Bool, true, false, ◌||◌, cond, List, [], ◌∷◌, Option, Some, IfSome, length, refl, sym, ap, ◌∙◌, subst, arith, ⊎_elim, slice_index}
-use Rattle.std.specs.List.{slice_get, Contains}
+use Rattle.std.proofs.Common.{◌≡◌, ◌≢◌, ℕ, ◌+◌, ◌<◌, ◌≤◌, true, false, ◌||◌, cond, List, [], ◌∷◌, Option, Some, IfSome, length, refl, sym, ap, ◌∙◌, subst, arith, ⊎_elim, slice_index}
+use Rattle.std.specs.List.{slice_get}
 use Rattle.std.proofs.lemmas.Bool.{false≢true}
 use Rattle.std.proofs.lemmas.List.{length-append}
-use Rattle.std.proofs.lemmas.Option.{get_or_from_slice_get, slice_get_within}
+use Rattle.std.proofs.lemmas.Option.{slice_get_within}
 use Rattle.tc_asks.specs.Nexts.{IsNextAsk}
 use Rattle.tc_asks.specs.Progress.{HasTaken, Progress}
 use Rattle.tc_asks.specs.declared.next.Next.{Next}
@@ -18,6 +18,8 @@ use Rattle.tc_desk.specs.declared.rows.LogResult.TheVariants.{Refused}
 use Rattle.tc_desk.specs.declared.rows.Refusal.{Refusal}
 use Rattle.tc_desk.specs.declared.rows.Refusal.TheVariants as refusal
 use Rattle.tc_lists.proofs.Options.{IfSome-at}
+use Rattle.tc_lists.proofs.Places.{Contains-slice_get}
+use Rattle.tc_lists.proofs.Bools.{cond-le_one}
 use Rattle.tc_model.specs.Scripts.{Lines}
 use Rattle.tc_model.specs.declared.asks.Ask.{Ask}
 use Rattle.tc_model.specs.declared.outcomes.Reply.{Reply}
@@ -40,13 +42,9 @@ turn-left d centre turns spent =
     let some = turns spent.place within in
     omega (arith, some, spent.none)
 
-has-name : (names : List (List ℕ)) (place : ℕ) (centre : List ℕ) → slice_get names place ≡ Some centre → Contains names centre
-has-name names place centre at =
-    (place, slice_get_within names place centre at, get_or_from_slice_get names place centre centre at)
-
 refused-item : (d e : DeskState) (centre : List ℕ) (place : ℕ) (ask : Ask) (why : Refusal) → HasTurns d → any_pending d.log ≡ false
     → slice_get d.names place ≡ Some centre → why ≢ refusal.NoMemory → MayRefuse d centre ask why e → IsItemResult (Refused why)
-refused-item d e centre place ask refusal.UnknownCentre can idle named some may = absurd (may.0 (has-name d.names place centre named))
+refused-item d e centre place ask refusal.UnknownCentre can idle named some may = absurd (may.0 (Contains-slice_get d.names place centre named))
 refused-item d e centre place ask refusal.Waiting can idle named some may = absurd (false≢true (sym idle ∙ may.1))
 refused-item d e centre place ask refusal.Denied can idle named some may = tt
 refused-item d e centre place ask refusal.TooBig can idle named some may = tt
@@ -95,10 +93,6 @@ can-ask state names c v next centre same r idle is named =
       named = ap (λ (ns : List (List ℕ)). slice_get ns next.centre) r.names ∙ named;
     })
 
-cond-least : (b : Bool) → cond b 1 0 ≤ 1
-cond-least true = omega arith
-cond-least false = omega arith
-
 -- the next ask was made
 module _ {D : Type 0} (state : D → DeskState) (c : Client D) (next : Next) (centre : List ℕ) (e : DeskState) (can : CanAsk state c next centre)
     (call : IsCall (state c.desk) centre next.ask e) where
@@ -145,7 +139,7 @@ module _ {D : Type 0} (state : D → DeskState) (c : Client D) (next : Next) (ce
 
   pub asked-left : left e c.scripts < left_of state c
   asked-left =
-      let most = cond-least (any_pending e.log) in
+      let most = cond-le_one (any_pending e.log) in
       let none : ◌≡◌ {A = ℕ} (cond (any_pending d.log) 1 0) 0 = ap (λ b. cond b 1 0) can.idle in
       let within = slice_get_within (steps_of c.scripts) (length d.log) can.is.step can.is.asks.stands in
       let long : length e.log ≡ length d.log + 1 = ap length has-row.log ∙ length-append d.log (row ∷ []) in

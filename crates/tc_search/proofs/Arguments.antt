@@ -1,10 +1,10 @@
 -- The arguments of a compound: smaller, with no further variables, and ground where it is.
 use Rattle.std.proofs.Common.{◌≡◌, ◌<◌, ◌≤◌, ℕ, zero, suc, IsTrue, List, [], ◌∷◌, length, get_or, All, ap, sym, subst, arith}
+use Rattle.std.proofs.lemmas.Bool.{and_parts}
 use Rattle.tc_term.specs.declared.terms.Term.{Term}
 use Rattle.tc_term.specs.Tree.{Compound, Trees, depth, depth_of_all, is_ground, are_ground}
 use Rattle.tc_term.specs.TreeView.{tree_of, trees_of}
 use Rattle.tc_term.specs.Variables.{raised, var_bound}
-use Rattle.tc_lists.proofs.Bools.{and_parts}
 use Rattle.tc_term.proofs.Instances.{raised-zero}
 use Rattle.tc_unify.proofs.Copied.{args_fit}
 

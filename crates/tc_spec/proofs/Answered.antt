@@ -1,5 +1,5 @@
 -- What the parts of a clause say of it.
-use Rattle.std.proofs.Common.{◌≡◌, ◌≤◌, ◌++◌, List, [], All, Bool, true, false, IsTrue, Option, Some, None, IfSome, IfNone, map, refl, ap, sym, subst, ◌∙◌}
+use Rattle.std.proofs.Common.{◌≡◌, ◌≤◌, ◌++◌, List, [], All, Bool, true, false, IsTrue, Option, Some, IfSome, map, refl, ap, sym, subst, ◌∙◌}
 use Rattle.tc_term.specs.Limits.{most_brackets}
 use Rattle.tc_term.specs.Readable.{IsReadable, opened}
 use Rattle.tc_term.specs.Text.{Alone}
@@ -43,10 +43,6 @@ not_small u small r leaf fails due is goals read =
     (subst (λ (v : Tree). opened Alone v ≤ most_brackets) (sym same) read.few_open) in
     let never : false ≡ true = sym fails ∙ holds in
     absurd (cc)
-
--- what is said of the goals that were found, or of there being none
-pub none_says : {X : Type 0} (x : Option X) (P : Type 0) → x ≡ None → IfNone x P → P
-none_says {X} x P is told = subst (λ (o : Option X). IfNone o P) is told
 
 pub some_says : {X : Type 0} (f : X → List Goal) (x : Option X) (y : X) (ts : List Tree) → x ≡ Some y
     → IfSome x (λ z. map goal_term (f z) ≡ ts) → map goal_term (f y) ≡ ts

@@ -1,12 +1,12 @@
 -- A goal is told by the term that it is written as, and a rule by its clause.
 use Rattle.std.proofs.Common.{◌≡◌, ℕ, List, [], ◌∷◌, Result, Ok, Err, IfOk, if◌then◌else◌, length, map, refl, ap, ap₂, sym, ◌∙◌, codes}
 use Rattle.std.specs.Str.{bytes_eq}
-use Rattle.tc_term.specs.Tree.{Tree, Variable, Atomic, Number, Compound, Last, More}
+use Rattle.tc_term.specs.Tree.{Tree, Atomic, Compound, Last, More}
 use Rattle.tc_term.specs.TreeView.{tree_of}
 use Rattle.tc_term.specs.Variables.{variables}
 use Rattle.tc_term.specs.declared.comparison.Cmp.TheVariants as cmp
 use Rattle.tc_term.specs.declared.terms.Term.{Term}
-use Rattle.tc_term.specs.declared.terms.Term.TheVariants.{Var, Atom, Int, Comp}
+use Rattle.tc_term.proofs.TreeTerms.{term_of, term_of-tree_of}
 use Rattle.tc_model.specs.Events.{op_name}
 use Rattle.tc_model.specs.Reactions.{Rule, goal_term, of_one}
 use Rattle.tc_model.specs.declared.events.EventOp.{EventOp}
@@ -16,19 +16,6 @@ use Rattle.tc_spec.proofs.Exact.{one_head, same_clause, same_goals}
 use Rattle.tc_spec.specs.Written.{IsWrittenAs}
 use Rattle.tc_spec.specs.declared.faults.ReactionFault.{ReactionFault}
 use Rattle.tc_model.specs.declared.goals.Goal.TheVariants.{OutR, InR, RdR, NoR, Pre, Post, Success, Failure, True, Agent, Centre, Operation, Tuple, Equal, Differ, Is, Compare}
-
--- the term of a tree
-abbrev term_of : Tree → Term
-term_of (Variable n) = Var n
-term_of (Atomic name) = Atom name
-term_of (Number z) = Int z
-term_of (Compound name args) = Comp name args
-
-term_of-tree : (t : Term) → term_of (tree_of t) ≡ t
-term_of-tree (Var n) = refl
-term_of-tree (Atom name) = refl
-term_of-tree (Int z) = refl
-term_of-tree (Comp name args) = refl
 
 -- the goal of a name, of a name and one term, of a name and two
 abbrev atom_goal : List ℕ → Goal
@@ -66,22 +53,22 @@ goal_of (Compound name (More s (Last t))) = two_goal name (term_of s) (term_of t
 goal_of _ = True
 
 two_terms : (f : Term → Term → Goal) (s t : Term) → f (term_of (tree_of s)) (term_of (tree_of t)) ≡ f s t
-two_terms f s t = ap (λ x. f x (term_of (tree_of t))) (term_of-tree s) ∙ ap (f s) (term_of-tree t)
+two_terms f s t = ap (λ x. f x (term_of (tree_of t))) (term_of-tree_of s) ∙ ap (f s) (term_of-tree_of t)
 
 goal_of-term : (g : Goal) → goal_of (goal_term g) ≡ g
-goal_of-term (OutR t) = ap OutR (term_of-tree t)
-goal_of-term (InR t) = ap InR (term_of-tree t)
-goal_of-term (RdR t) = ap RdR (term_of-tree t)
-goal_of-term (NoR t) = ap NoR (term_of-tree t)
+goal_of-term (OutR t) = ap OutR (term_of-tree_of t)
+goal_of-term (InR t) = ap InR (term_of-tree_of t)
+goal_of-term (RdR t) = ap RdR (term_of-tree_of t)
+goal_of-term (NoR t) = ap NoR (term_of-tree_of t)
 goal_of-term Pre = refl
 goal_of-term Post = refl
 goal_of-term Success = refl
 goal_of-term Failure = refl
 goal_of-term True = refl
-goal_of-term (Agent t) = ap Agent (term_of-tree t)
-goal_of-term (Centre t) = ap Centre (term_of-tree t)
-goal_of-term (Operation t) = ap Operation (term_of-tree t)
-goal_of-term (Tuple t) = ap Tuple (term_of-tree t)
+goal_of-term (Agent t) = ap Agent (term_of-tree_of t)
+goal_of-term (Centre t) = ap Centre (term_of-tree_of t)
+goal_of-term (Operation t) = ap Operation (term_of-tree_of t)
+goal_of-term (Tuple t) = ap Tuple (term_of-tree_of t)
 goal_of-term (Equal s t) = two_terms Equal s t
 goal_of-term (Differ s t) = two_terms Differ s t
 goal_of-term (Is s t) = two_terms Is s t

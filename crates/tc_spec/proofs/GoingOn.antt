@@ -1,5 +1,5 @@
 -- Clauses that are read one behind another.
-use Rattle.std.proofs.Common.{◌≡◌, ◌<◌, ◌≤◌, ◌++◌, ℕ, Option, Some, IfSome, Ok, List, [], ◌∷◌, length, length-append, refl, sym, subst, arith}
+use Rattle.std.proofs.Common.{◌≡◌, ◌<◌, ◌≤◌, ◌++◌, ℕ, Option, Some, Ok, List, [], ◌∷◌, length, length-append, refl, sym, subst, arith}
 use Rattle.tc_term.specs.Faults.{Answer, Found, Nothing}
 use Rattle.tc_term.specs.Tree.{Tree}
 use Rattle.tc_read.specs.ReadAnswers.{IsClauseAnswer}
@@ -15,10 +15,6 @@ pub record IsReadTo (text : List ℕ) (from : ℕ) (rs : List Rule) : Type 0 whe
   pub spelt : AreClausesAt text 0 rs from
   pub few : length rs ≤ MOST_CLAUSES
   pub inside : from ≤ length text
-
--- what is said of what was found
-pub if_some : {X : Type 0} (x : Option X) (y : X) (P : X → Type 0) → x ≡ Some y → IfSome x P → P y
-if_some {X} x y P is told = subst (λ (o : Option X). IfSome o P) is told
 
 pub found_read : (P : Answer → Type 0) (x : Option (Tree × ℕ)) (t : Tree) (behind : ℕ) → x ≡ Some (t, behind)
     → IsClauseAnswer P (Ok x) → P (Found t behind)

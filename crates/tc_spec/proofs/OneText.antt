@@ -18,13 +18,13 @@ use Rattle.tc_spec.specs.declared.faults.SpecFault.{SpecFault}
 use Rattle.tc_spec.specs.declared.faults.SpecFault.TheVariants.{Bad, NoMemory}
 
 -- the reader answers one thing at a place
-one_answer : (text : List ℕ) (from : ℕ) (a b : Answer) → Reads text from a → Reads text from b → a ≡ b
+pub one_answer : (text : List ℕ) (from : ℕ) (a b : Answer) → Reads text from a → Reads text from b → a ≡ b
 one_answer text from a b x y = one_reading true (length text) (drop from text) a b x y
 
-same_term : (t u : Tree) (m n : ℕ) → Found t m ≡ Found u n → t ≡ u
+pub same_term : (t u : Tree) (m n : ℕ) → Found t m ≡ Found u n → t ≡ u
 same_term t u m n same = cc
 
-same_place : (t u : Tree) (m n : ℕ) → Found t m ≡ Found u n → m ≡ n
+pub same_place : (t u : Tree) (m n : ℕ) → Found t m ≡ Found u n → m ≡ n
 same_place t u m n same = cc
 
 one_found : (text : List ℕ) (from : ℕ) (t u : Tree) (m n : ℕ) → Reads text from (Found t m) → Reads text from (Found u n)
@@ -42,7 +42,7 @@ one_clause text from r q m n x y =
     )
 
 -- where a clause is read, nothing else is
-found_ends : (text : List ℕ) (from : ℕ) (t : Tree) (n : ℕ) → Reads text from (Found t n) → Reads text from Nothing → ⊥
+pub found_ends : (text : List ℕ) (from : ℕ) (t : Tree) (n : ℕ) → Reads text from (Found t n) → Reads text from Nothing → ⊥
 found_ends text from t n x y = let same = one_answer text from (Found t n) Nothing x y in cc
 
 found_read : (text : List ℕ) (from : ℕ) (t : Tree) (n : ℕ) (why : SpecCause) → Reads text from (Found t n) → IsNoClauseAt text from why → ⊥

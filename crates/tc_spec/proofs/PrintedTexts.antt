@@ -1,8 +1,8 @@
 -- The text of clauses spells them.
 use Rattle.std.proofs.Common.{◌≡◌, ◌≤◌, ◌+◌, ◌++◌, ℕ, Bool, true, List, [], ◌∷◌, All, codes, drop, length, map, inr, refl, ap, sym, subst, ◌∙◌, append_assoc, length-append, arith}
-use Rattle.std.proofs.Math.Seq.{drop-append_seam}
 use Rattle.std.specs.Char.{is_ascii_digit}
 use Rattle.std.proofs.lemmas.List.Elements.{All-head, All-tail}
+use Rattle.tc_lists.proofs.Parts.{cons_head, drop_front}
 use Rattle.tc_term.specs.Faults.{Answer, AnswersTokens, Found, ReadsAs, Nothing}
 use Rattle.tc_term.specs.Layouts.{At, Layout, NoPiece, Piece, Scan, Stop, TextEnd, at_clause_end, at_no_token, at_text_end, blank, layout, no_layout, token}
 use Rattle.tc_term.specs.Text as text
@@ -62,17 +62,14 @@ IsPlain (Number n) = ⊥
 IsPlain (Punctuation Open) = ⊥
 IsPlain _ = Unit {0}
 
-first_byte : (b c : ℕ) (s t : List ℕ) → b ∷ s ≡ c ∷ t → b ≡ c
-first_byte b c s t same = cc
-
 plain_letter : (s rest front after : List ℕ) (lexeme : Lexeme) → s ≡ 114 ∷ rest → s ≡ front ++ after → SpellsToken front lexeme → IsPlain lexeme
 plain_letter s rest [] after (Number n) is split spelt = spelt.1
 plain_letter s rest (b ∷ front) after (Number n) is split spelt =
     let digit : is_ascii_digit 114 ≡ true =
-    subst (λ c. is_ascii_digit c ≡ true) (first_byte b 114 (front ++ after) rest (sym split ∙ is)) spelt.1.0 in
+    subst (λ c. is_ascii_digit c ≡ true) (cons_head (sym split ∙ is)) spelt.1.0 in
     cc
 plain_letter s rest front after (Punctuation Open) is split spelt =
-    absurd (omega (arith, first_byte 40 114 after rest (sym (ap (λ f. f ++ after) spelt) ∙ sym split ∙ is)))
+    absurd (omega (arith, cons_head (sym (ap (λ f. f ++ after) spelt) ∙ sym split ∙ is)))
 plain_letter s rest front after (Word w) is split spelt = tt
 plain_letter s rest front after (Variable w) is split spelt = tt
 plain_letter s rest front after (Quoted w) is split spelt = tt
@@ -152,9 +149,6 @@ begins r more = refl
 text_on : (rs : List Rule) (r : Rule) → clauses_text (r ∷ rs) ≡ clause_on r (clauses_text rs)
 text_on rs r = append_assoc (canonical (clause_term r)) (codes ".\n") (clauses_text rs)
 
-rest_from : (text before after : List ℕ) → text ≡ before ++ after → drop (length before) text ≡ after
-rest_from text before after is = ap (drop (length before)) is ∙ drop-append_seam before after
-
 clause_read : (text before more : List ℕ) (r : Rule) → IsRule r → text ≡ before ++ clause_on r more
     → Reads text (length before) (Found (clause_term r) (place_behind (length before) r))
 clause_read text before more r rule is =
@@ -173,9 +167,9 @@ clause_read_behind text before more r rule is =
     let far : length fed ≡ length before + 1 = length-append before (10 ∷ []) in
     let a = Found (clause_term r) (place_behind (length before + 1) r) in
     let read : ReadsAs true (length text) (clause_on r more) a =
-    subst (λ s. ReadsAs true (length text) s a) (rest_from text fed (clause_on r more) there)
+    subst (λ s. ReadsAs true (length text) s a) (drop_front text fed (clause_on r more) (length fed) there refl)
     (subst (λ k. Reads text (length fed) (Found (clause_term r) (place_behind k r))) far (clause_read text fed more r rule there)) in
-    subst (λ s. ReadsAs true (length text) s a) (sym (rest_from text before (10 ∷ clause_on r more) is))
+    subst (λ s. ReadsAs true (length text) s a) (sym (drop_front text before (10 ∷ clause_on r more) (length before) is refl))
     (behind_line_feed (length text) (clause_on r more) (drop 1 (clause_on r more)) a (begins r more) read)
 
 -- the clauses are spelt from a place on, and nothing else
@@ -190,7 +184,7 @@ one_more text from behind r rs rule read rest =
 spelt_behind : (text before : List ℕ) (rs : List Rule) → All IsRule rs → text ≡ before ++ 10 ∷ clauses_text rs
     → AreAllSpelt text (length before) rs
 spelt_behind text before [] rules is =
-    (length before, refl, subst (λ s. ReadsAs true (length text) s Nothing) (sym (rest_from text before (10 ∷ []) is)) (nothing_behind (length text)))
+    (length before, refl, subst (λ s. ReadsAs true (length text) s Nothing) (sym (drop_front text before (10 ∷ []) (length before) is refl)) (nothing_behind (length text)))
 spelt_behind text before (r ∷ rs) rules is =
     let c = canonical (clause_term r) in
     let front = before ++ (10 ∷ c ++ codes ".") in

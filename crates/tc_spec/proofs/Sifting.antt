@@ -76,9 +76,6 @@ clause_at clauses i d inside = record { place = i; at = refl; stands = slice_get
 abbrev pub HasClause : List Rule → (Rule → Type 0) → ℕ → Type 0
 HasClause clauses P n = (r : Rule) × IsClause clauses n r × P r
 
-pub next_number : ℕ → ℕ
-next_number k = k + 1
-
 pub all_numbers : (P : Rule → Type 0) (clauses : List Rule) (found : List ℕ)
     → IsKept (λ k. k + 1) (HasClause clauses P) (length clauses) found → AreThose P clauses found
 all_numbers P clauses found h = record {

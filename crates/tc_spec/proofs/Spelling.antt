@@ -1,8 +1,8 @@
 -- A clause whose body is nested to the right has the variables and the names of the clause as it was.
-use Rattle.std.proofs.Common.{◌≡◌, ◌≤◌, ◌++◌, ◌∷◌, [], ℕ, List, Bool, true, false, ◌&&◌, IsTrue, length, map, refl, ap, sym, subst, ◌∙◌, arith}
+use Rattle.std.proofs.Common.{◌≡◌, ◌≤◌, ◌++◌, ◌∷◌, [], ℕ, List, Bool, true, ◌&&◌, IsTrue, length, map, refl, ap, sym, subst, ◌∙◌, arith}
 use Rattle.std.proofs.lemmas.List.{length-map}
 use Rattle.std.specs.List.{range_with_len, list_all}
-use Rattle.tc_lists.proofs.Bools.{and_parts}
+use Rattle.std.proofs.lemmas.Bool.{and_parts, and_from}
 use Rattle.tc_term.specs.Bytes.{is_name_byte}
 use Rattle.tc_term.specs.Limits.{most_brackets}
 use Rattle.tc_term.specs.NameBytes.{has_read_names}
@@ -49,20 +49,16 @@ abbrev all_named : List Tree → Bool
 all_named [] = true
 all_named (t ∷ ts) = has_read_names t && all_named ts
 
-both_hold : (p q : Bool) → p ≡ true → q ≡ true → (p && q) ≡ true
-both_hold true q refl_p hq = hq
-both_hold false q hp hq = absurd (cc)
-
 all_named-append : (xs ys : List Tree) → all_named xs ≡ true → all_named ys ≡ true → all_named (xs ++ ys) ≡ true
 all_named-append [] ys hx hy = hy
 all_named-append (x ∷ xs) ys hx hy =
     let parts = and_parts (has_read_names x) (all_named xs) hx in
-    both_hold (has_read_names x) (all_named (xs ++ ys)) parts.0 (all_named-append xs ys parts.1 hy)
+    and_from (has_read_names x) (all_named (xs ++ ys)) parts.0 (all_named-append xs ys parts.1 hy)
 
 all_named-leaves : (t : Tree) → has_read_names t ≡ true → all_named (leaves t) ≡ true
 all_named-leaves t =
     by_leaves (λ s xs. has_read_names s ≡ true → all_named xs ≡ true)
-    (λ s h. both_hold (has_read_names s) true h refl)
+    (λ s h. and_from (has_read_names s) true h refl)
     (λ name s u xs ys same hs hu h.
     let parts = and_parts (list_all is_name_byte name) (has_read_names s && has_read_names u) h in
     let sides = and_parts (has_read_names s) (has_read_names u) parts.1 in
@@ -74,14 +70,14 @@ all_named-nested [] h = refl
 all_named-nested (t ∷ []) h = (and_parts (has_read_names t) true h).0
 all_named-nested (t ∷ u ∷ us) h =
     let parts = and_parts (has_read_names t) (all_named (u ∷ us)) h in
-    both_hold (has_read_names t) (has_read_names (nested (u ∷ us))) parts.0 (all_named-nested (u ∷ us) parts.1)
+    and_from (has_read_names t) (has_read_names (nested (u ∷ us))) parts.0 (all_named-nested (u ∷ us) parts.1)
 
 names-nested : (o : EventOp) (a b : Tree) → has_read_names (clause_of_parts o a b) ≡ true
     → has_read_names (clause_of_parts o a (nested (leaves b))) ≡ true
 names-nested o a b h =
     let head = list_all is_name_byte (op_name o) && has_read_names a in
     let parts = and_parts head (has_read_names b) h in
-    both_hold head (has_read_names (nested (leaves b))) parts.0 (all_named-nested (leaves b) (all_named-leaves b parts.1))
+    and_from head (has_read_names (nested (leaves b))) parts.0 (all_named-nested (leaves b) (all_named-leaves b parts.1))
 
 -- nested to the right, it is a clause that can be read back where it is within the limits
 readable : (t a b : Tree) (o : EventOp) → IsPattern t → IsTrue (has_read_names t) → t ≡ clause_of_parts o a b

@@ -1,6 +1,6 @@
 -- Terms with other trees in place of their variables.
 use Rattle.std.proofs.Common.{◌≡◌, ◌<◌, ◌≤◌, ◌+◌, ◌&&◌, ℕ, IsTrue, refl, ap, ◌∙◌, arith}
-use Rattle.tc_lists.proofs.Bools.{and_parts}
+use Rattle.std.proofs.lemmas.Bool.{and_parts}
 use Rattle.tc_term.specs.Tree.{Tree, Variable, Atomic, Number, Compound, Trees, Last, More, is_ground, are_ground}
 use Rattle.tc_term.specs.Variables.{instance, instances, var_bound, var_bound_of_all, all_renamed, raised}
 

@@ -1,4 +1,5 @@
 pub mod Trees
+pub mod TreeTerms
 pub mod Sizes
 pub mod Variables
 pub mod Places

@@ -1,8 +1,7 @@
 -- Terms whose variables are 0, 1, .. by first appearance.
 use Rattle.std.proofs.Common.{◌≡◌, ◌<◌, ◌≤◌, ◌-◌, ◌⊎◌, inl, inr, ℕ, IsTrue, List, [], length, refl, ap, sym, ◌∙◌, subst, arith}
 use Rattle.std.specs.List.{range_with_len}
-use Rattle.std.proofs.lemmas.Bool.{cases_lt}
-use Rattle.tc_lists.proofs.Bools.{and_parts}
+use Rattle.std.proofs.lemmas.Bool.{cases_lt, and_parts}
 use Rattle.tc_term.proofs.Instances.{instance-Variable}
 use Rattle.tc_term.proofs.Places.{Stands, Stands-range, Stands-with_number_back, Stands-with_number_new, place_in-range}
 use Rattle.tc_term.proofs.Renumbering.{Stands-variables_after_all}

@@ -1,6 +1,7 @@
 use Rattle.std.proofs.Common.{◌≡◌, ◌≤◌, [], filter, All, ap, sym, subst, ◌∙◌}
+use Rattle.std.proofs.lemmas.List.{nil_from_length}
 use Rattle.tc_bag.specs.Slots.{Slot, InOrder, IsLogged, is_there, stays}
-use Rattle.tc_bag.proofs.Logged.{InOrder-filter, filter-there-stays, logged_less, filter-there-all, taken_within, nil_from}
+use Rattle.tc_bag.proofs.Logged.{InOrder-filter, filter-there-stays, logged_less, filter-there-all, taken_within}
 use Rattle.tc_bag.proofs.log.discard.Goals as goal
 
 pub loop-age-preserved : goal.loop-age-preserved
@@ -19,8 +20,8 @@ loop-age-preserved c =
 pub returns : goal.returns
 returns c =
     let before = c.loop-age.invariant in
-    let none : c.pop.new.self.items ≡ [] = nil_from c.pop.new.self.items (sym c.pop.new.self.ok.0 ∙ c.in_default.ensures.cases.1) in
-    let empty : c.loop-age.log.items ≡ [] = nil_from c.loop-age.log.items (sym c.loop-age.log.ok.0 ∙ c.in_default.ensures.cases.0) in
+    let none : c.pop.new.self.items ≡ [] = nil_from_length c.pop.new.self.items (sym c.pop.new.self.ok.0 ∙ c.in_default.ensures.cases.1) in
+    let empty : c.loop-age.log.items ≡ [] = nil_from_length c.loop-age.log.items (sym c.loop-age.log.ok.0 ∙ c.in_default.ensures.cases.0) in
     let few : All (λ (s : Slot). s.taken ≤ 0) c.loop-age.rows =
     taken_within [] c.loop-age.rows (subst (λ items. All (IsLogged items) c.loop-age.rows) empty before.2) in
     record {

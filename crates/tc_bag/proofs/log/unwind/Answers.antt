@@ -1,8 +1,9 @@
 use Rattle.std.proofs.Common.{◌≡◌, ◌<◌, ◌≤◌, ◌+◌, ◌-◌, ◌++◌, ◌∷◌, [], length, get_or, map, filter, take, All, refl, ap, sym, subst, ◌∙◌, arith}
 use Rattle.std.proofs.lemmas.List.{take-take, take_all, length-take}
 use Rattle.std.proofs.lemmas.List.Elements.{All-weaker}
+use Rattle.tc_lists.proofs.Parts.{split_last_read}
 use Rattle.tc_bag.specs.Slots.{Slot, InOrder, IsLogged, is_there, revived, revived_at}
-use Rattle.tc_bag.proofs.Logged.{InOrder-map, revived-twice, revived-all, logged_back, revived-count, taken_within, last_split}
+use Rattle.tc_bag.proofs.Logged.{InOrder-map, revived-twice, revived-all, logged_back, revived-count, taken_within}
 use Rattle.tc_bag.proofs.log.unwind.Goals as goal
 
 pub loop-log-preserved : goal.loop-log-preserved
@@ -19,7 +20,7 @@ loop-log-preserved c =
     let some : 0 < length items = omega (arith, c.loop-log-test.true, whole_test) in
     let more : n < length items = omega (arith, c.loop-log-test.true, whole_test) in
     let read : age ≡ get_or items last age = subst (λ k. age ≡ get_or items (k - 1) age) whole c.index-age.ensures in
-    let split : items ≡ front ++ age ∷ [] = last_split items age some read in
+    let split : items ≡ front ++ age ∷ [] = split_last_read items age some read in
     let left : c.truncate.new.self.items ≡ front = c.truncate.ensures.items ∙ ap (λ k. take (k - 1) items) whole in
     let count : length front ≡ last = omega (arith, length-take last items) in
     let is = c.revive.ensures in

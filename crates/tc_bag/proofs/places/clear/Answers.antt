@@ -1,10 +1,11 @@
 use Rattle.std.proofs.Common.{◌≡◌, ◌≢◌, ◌+◌, None, Option, All, length, filter, set, sym, subst}
 use Rattle.std.specs.Option.{IfSome}
+use Rattle.tc_lists.proofs.Options.{IfSome-from}
 use Rattle.tc_term.specs.Tree.{Tree}
 use Rattle.tc_bag.specs.Places.{slots_of, AgesRise}
 use Rattle.tc_bag.specs.Slots.{is_not_of}
 use Rattle.tc_bag.proofs.ByAge.{filter-others}
-use Rattle.tc_bag.proofs.Gaps.{IsPlaceOf, slots-others, rise-cleared, slots-set_gone, fewer_gone, if_some}
+use Rattle.tc_bag.proofs.Gaps.{IsPlaceOf, slots-others, rise-cleared, slots-set_gone, fewer_gone}
 use Rattle.tc_bag.proofs.places.clear.Goals as goal
 
 pub returns-in_err-i-clause-slots : goal.returns-in_err-i-clause-slots
@@ -43,4 +44,4 @@ returns-clause-one c =
     ≡ length (slots_of (set ps i (record { age = p.age; taken = p.taken; tuple = o }))) + 1 in
     subst (λ (o : Option Tree). IfSome o (λ t. Fewer c.take.new.self)) (sym c.take.ensures.value)
     (subst (λ (o : Option Tree). IfSome p.tuple (λ t. Fewer o)) (sym c.take.ensures.after)
-    (if_some (Fewer None) p.tuple (fewer_gone c.args.age i ps p c.requires at c.index_mut.ensures.value)))
+    (IfSome-from (λ _. Fewer None) p.tuple (fewer_gone c.args.age i ps p c.requires at c.index_mut.ensures.value)))

@@ -1,5 +1,6 @@
-use Rattle.std.proofs.Common.{◌≡◌, ◌+◌, ◌-◌, [], ◌∷◌, List, length, drop, refl, sym, ap, subst, ◌∙◌, arith, length-append, Bool, true, ◌==◌}
-use Rattle.std.proofs.lemmas.Bool.Decides.{Decides-eqb}
+use Rattle.std.proofs.Common.{◌+◌, ◌-◌, [], ◌∷◌, List, length, drop, refl, sym, ap, subst, ◌∙◌, arith, length-append, true}
+use Rattle.std.proofs.lemmas.List.{nil_from_length}
+use Rattle.tc_lists.proofs.Bools.{none_from_test}
 use Rattle.tc_model.specs.Reactions.{Rule}
 use Rattle.tc_bag.proofs.Additions.{adds-none-again}
 use Rattle.tc_model.specs.Triggers.{IsClause}
@@ -61,16 +62,12 @@ loop-k-preserved c =
           c.loop-k.invariant.rises c.loop-k.invariant.old c.execute_in.ensures.old;
     }
 
-empty_is : {X : Type 0} (xs : List X) (b : Bool) → b ≡ (length xs == 0) → b ≡ true → xs ≡ []
-empty_is [] b is t = refl
-empty_is (x ∷ xs) b is t = let e = (Decides-eqb (length (x ∷ xs)) 0).0 (sym is ∙ t) in absurd (omega (arith, e))
-
 pub returns-then-is_empty-clause-ends : goal.returns-then-is_empty-clause-ends
 returns-then-is_empty-clause-ends c =
     let end = c.loop-k.auto.k-end in
     let count = c.loop-k.invariant.count in
     at_whole c.args.spec.now c.args.context.now c.args.e.now c.args.bag.now c.loop-k.bag c.loop-k.items.items c.new-then-is_empty.result c.loop-k.triggered
-    (c.args.budget + 1 - c.loop-k.k) c.args.budget c.loop-k.invariant.at (empty_is c.loop-k.triggered c.is_empty.result c.is_empty.ensures c.if-is_empty.true)
+    (c.args.budget + 1 - c.loop-k.k) c.args.budget c.loop-k.invariant.at (nil_from_length c.loop-k.triggered (none_from_test (length c.loop-k.triggered) c.is_empty.result c.is_empty.ensures c.if-is_empty.true))
     (omega (arith, end)) (omega (arith, end, count)) c.new-then-is_empty.ensures
 
 pub returns-in_err-item-clause-old : goal.returns-in_err-item-clause-old

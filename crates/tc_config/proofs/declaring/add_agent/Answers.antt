@@ -1,8 +1,8 @@
 use Rattle.std.proofs.Common.{◌++◌, ◌∷◌, [], Some, ap, subst, sym, ◌∙◌, rules, arith}
+use Rattle.tc_lists.proofs.Options.{none_from_is_some}
 use Rattle.tc_model.specs.State.{IsName}
 use Rattle.tc_config.specs.Configurations.{configuration}
-use Rattle.tc_config.specs.Names.{place_of}
-use Rattle.tc_config.proofs.Declarations.{draft-agent, known_by, pushed-agent, unknown_by}
+use Rattle.tc_config.proofs.Declarations.{draft-agent, known_by, pushed-agent}
 use Rattle.tc_config.proofs.declaring.add_agent.Goals as goal
 
 pub returns-clause-added : goal.returns-clause-added
@@ -22,7 +22,6 @@ returns-clause-added c =
       draft =
           draft-agent d c.push.new.list c.add.new.self c.args.name c.args.role c.in-Some.role c.requires.draft
           (subst IsName c.bytes.ensures c.tell_name.ensures) (sym c.place.ensures ∙ c.in-Some.is)
-          (unknown_by (place_of d.known_agents c.args.name) c.place-2.result c.place-2.ensures
-          (sym c.is_some.ensures ∙ c.if-is_some.false))
+          (sym c.place-2.ensures ∙ none_from_is_some c.place-2.result (sym c.is_some.ensures ∙ c.if-is_some.false))
           (omega arith) (c.in_ok-add.ensures ∙ ap (λ n. d.known_agents ++ n ∷ []) c.in_ok-known.ensures) grown;
     }

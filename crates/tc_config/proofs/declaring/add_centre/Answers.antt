@@ -1,8 +1,8 @@
 use Rattle.std.proofs.Common.{◌++◌, ◌∷◌, [], ap, subst, sym, ◌∙◌, rules, arith}
+use Rattle.tc_lists.proofs.Options.{none_from_is_some}
 use Rattle.tc_model.specs.State.{IsName}
 use Rattle.tc_config.specs.Configurations.{configuration}
-use Rattle.tc_config.specs.Names.{place_of}
-use Rattle.tc_config.proofs.Declarations.{draft-centre, pushed-centre, unknown_by}
+use Rattle.tc_config.proofs.Declarations.{draft-centre, pushed-centre}
 use Rattle.tc_config.proofs.declaring.add_centre.Goals as goal
 
 pub returns-clause-added : goal.returns-clause-added
@@ -17,7 +17,6 @@ returns-clause-added c =
       draft =
           draft-centre d c.push.new.list c.add.new.self c.args.name c.args.budget c.requires.draft
           (subst IsName c.bytes.ensures c.tell_name.ensures) c.requires.budget
-          (unknown_by (place_of d.known_centres c.args.name) c.place.result c.place.ensures
-          (sym c.is_some.ensures ∙ c.if-is_some.false))
+          (sym c.place.ensures ∙ none_from_is_some c.place.result (sym c.is_some.ensures ∙ c.if-is_some.false))
           (omega arith) (c.in_ok-add.ensures ∙ ap (λ n. d.known_centres ++ n ∷ []) c.in_ok-known.ensures) grown;
     }

@@ -1,10 +1,11 @@
 use Rattle.std.proofs.Common.{◌≤◌, ◌<◌, Some, ℕ, length, arith}
+use Rattle.tc_lists.proofs.Options.{IfSome-at}
 use Rattle.tc_term.specs.Faults.{Found}
 use Rattle.tc_term.specs.Tree.{Tree}
 use Rattle.tc_spec.specs.Texts.{Reads}
 use Rattle.tc_config.specs.Answers.{IsConfigFault}
 use Rattle.tc_config.specs.Drafts.{config_of}
-use Rattle.tc_config.proofs.Onward.{handed_on, if_some, read_more, told_refused}
+use Rattle.tc_config.proofs.Onward.{handed_on, read_more, told_refused}
 use Rattle.tc_config.proofs.reading.read_text.Goals as goal
 
 pub returns-in_err-clause-clause-bad : goal.returns-in_err-clause-clause-bad
@@ -18,8 +19,8 @@ pub returns-in-Err-clause-bad : goal.returns-in-Err-clause-bad
 returns-in-Err-clause-bad c =
     let conf = config_of c.loop-draft.draft in
     let found : Reads c.args.text.now c.loop-draft.from (Found c.in-Some.clause c.in-Some.behind) =
-    if_some c.in_ok-clause.field-0 (c.in-Some.clause, c.in-Some.behind) (λ (x : Tree × ℕ). Reads c.args.text.now c.loop-draft.from (Found x.0 x.1))
-    c.in-Some.is c.in_ok-clause.ensures.found in
+    IfSome-at (λ (x : Tree × ℕ). Reads c.args.text.now c.loop-draft.from (Found x.0 x.1))
+    c.in_ok-clause.field-0 (c.in-Some.clause, c.in-Some.behind) c.in-Some.is c.in_ok-clause.ensures.found in
     told_refused c.args.text.now c.loop-draft.from c.loop-draft.count conf c.refused.result
     c.loop-draft.invariant.read (omega (arith, c.if-text-gt-MOST_BYTES.false))
     (c.refused.ensures c.args.text.now c.loop-draft.from c.in-Some.behind conf c.in-Some.clause found
@@ -28,11 +29,11 @@ returns-in-Err-clause-bad c =
 pub loop-draft-preserved : goal.loop-draft-preserved
 loop-draft-preserved c =
     let found : Reads c.args.text.now c.loop-draft.from (Found c.in-Some.clause c.in-Some.behind) =
-    if_some c.in_ok-clause.field-0 (c.in-Some.clause, c.in-Some.behind) (λ (x : Tree × ℕ). Reads c.args.text.now c.loop-draft.from (Found x.0 x.1))
-    c.in-Some.is c.in_ok-clause.ensures.found in
+    IfSome-at (λ (x : Tree × ℕ). Reads c.args.text.now c.loop-draft.from (Found x.0 x.1))
+    c.in_ok-clause.field-0 (c.in-Some.clause, c.in-Some.behind) c.in-Some.is c.in_ok-clause.ensures.found in
     let further : (c.loop-draft.from < c.in-Some.behind) × (c.in-Some.behind ≤ length c.args.text.now) =
-    if_some c.in_ok-clause.field-0 (c.in-Some.clause, c.in-Some.behind) (λ (x : Tree × ℕ). (c.loop-draft.from < x.1) × (x.1 ≤ length c.args.text.now))
-    c.in-Some.is c.in_ok-clause.ensures.behind in
+    IfSome-at (λ (x : Tree × ℕ). (c.loop-draft.from < x.1) × (x.1 ≤ length c.args.text.now))
+    c.in_ok-clause.field-0 (c.in-Some.clause, c.in-Some.behind) c.in-Some.is c.in_ok-clause.ensures.behind in
     let added = c.in_default-add.ensures in
     record {
       draft = added.draft;

@@ -1,9 +1,10 @@
 use Rattle.std.proofs.Common.{◌≡◌, List, All, map, ap, sym, ◌∙◌, arith}
+use Rattle.tc_lists.proofs.Options.{IfNone-at}
 use Rattle.tc_term.specs.Tree.{Tree}
 use Rattle.tc_term.specs.TreeView.{tree_of}
 use Rattle.tc_model.specs.Reactions.{Rule, goal_term}
 use Rattle.tc_spec.specs.Written.{IsGoalTerm, clause_of_parts, nested}
-use Rattle.tc_spec.proofs.Answered.{pushed_only, caused_goal, spelt, not_small, none_says, some_says}
+use Rattle.tc_spec.proofs.Answered.{pushed_only, caused_goal, spelt, not_small, some_says}
 use Rattle.tc_spec.proofs.Spelling.{is_rule}
 use Rattle.tc_spec.proofs.reading.read_reaction.Goals as goal
 
@@ -12,7 +13,7 @@ returns-in_default-clause-fault c =
     caused_goal c.args.p.now (tree_of c.term.result.now) (tree_of c.in-Ok.parts.1.now) (tree_of c.in-Ok.parts.2.now)
     c.in-Ok.parts.0 c.new-leaves.result.items c.deref.result.now c.term.ensures.term c.in-Ok.ensures.parts
     c.new-leaves.ensures.items (ap (map tree_of) c.deref.ensures.value ∙ c.in_ok-push_leaves.ensures)
-    (none_says c.in_ok-found.found (All IsGoalTerm (map tree_of c.deref.result.now) → ⊥) c.in_default.is c.in_ok-found.ensures.none)
+    (IfNone-at (All IsGoalTerm (map tree_of c.deref.result.now) → ⊥) c.in_ok-found.found c.in_default.is c.in_ok-found.ensures.none)
 
 pub returns-then-len-gt-MOST_GOALS-clause-fault : goal.returns-then-len-gt-MOST_GOALS-clause-fault
 returns-then-len-gt-MOST_GOALS-clause-fault c =

@@ -1,13 +1,14 @@
 use Rattle.std.proofs.Common.{All, subst}
 use Rattle.std.specs.Option.{option_map}
 use Rattle.tc_lists.specs.Firsts.{NoneOf, IsFirst}
+use Rattle.tc_lists.proofs.Options.{IfNone-weaker}
 use Rattle.tc_term.specs.Tree.{IsTuple}
 use Rattle.tc_term.specs.TreeView.{tree_of}
 use Rattle.tc_bag.specs.Stock.{Stock, row, AgesRiseBelow, IsCandidateLike}
 use Rattle.tc_bag.specs.Slots.{IsThereLike}
 use Rattle.tc_bag.specs.Lent.{lent_key}
 use Rattle.std.proofs.Common.{vec_capacity}
-use Rattle.tc_bag.proofs.Searching.{IfSome-weaker, IfNone-weaker}
+use Rattle.std.proofs.lemmas.Option.{IfSome_then}
 use Rattle.tc_bag.proofs.Stocks.{sound-rises, sound-tuples, first-like, none-like}
 use Rattle.tc_bag.proofs.bag.Bag.first_candidate.Goals as goal
 
@@ -16,17 +17,17 @@ returns-clause-found c =
     let first = option_map (λ term. tree_of term.now) c.args.first in
     let key = lent_key c.args.key in
     let from = c.args.from in
-    IfSome-weaker _ _ c.first_like.result
+    IfSome_then c.first_like.result c.first_like.ensures.found
     (λ r found. subst (λ (stock : Stock). IsFirst (IsCandidateLike key first from) stock.now (row r.0 r.1.now)) c.self.view_is
-    (first-like key first from c.self.inside.rows r.0 r.1.now found)) c.first_like.ensures.found
+    (first-like key first from c.self.inside.rows r.0 r.1.now found))
 
 pub returns-clause-none : goal.returns-clause-none
 returns-clause-none c =
     let first = option_map (λ term. tree_of term.now) c.args.first in
     let key = lent_key c.args.key in
     let from = c.args.from in
-    IfNone-weaker (NoneOf (IsThereLike key first from) c.self.inside.rows)
-    (NoneOf (IsCandidateLike key first from) c.args.self.now.now) c.first_like.result
+    IfNone-weaker c.first_like.result (NoneOf (IsThereLike key first from) c.self.inside.rows)
+    (NoneOf (IsCandidateLike key first from) c.args.self.now.now)
     (λ none. subst (λ (stock : Stock). NoneOf (IsCandidateLike key first from) stock.now) c.self.view_is
     (none-like key first from c.self.inside.rows none)) c.first_like.ensures.none
 

@@ -1,15 +1,16 @@
-use Rattle.std.proofs.Common.{◌≡◌, ◌<◌, [], vec_capacity, vec_len, ap, sym, subst, ◌∙◌}
+use Rattle.std.proofs.Common.{◌≡◌, ◌<◌, [], vec_capacity, vec_len, ap, sym, subst, ◌∙◌, false, refl}
 use Rattle.std.proofs.lemmas.Bool.{eqb-true}
+use Rattle.std.proofs.lemmas.List.{nil_from_length}
+use Rattle.tc_lists.proofs.Bools.{some_from_test}
 use Rattle.tc_bag.specs.Stock.{Stock}
 use Rattle.tc_bag.specs.Slots.{IsSound, rows_now}
-use Rattle.tc_bag.proofs.Logged.{nil_from}
-use Rattle.tc_bag.proofs.Stocks.{sound-kept, sound-settled, rows-settled, some_from}
+use Rattle.tc_bag.proofs.Stocks.{sound-kept, sound-settled, rows-settled}
 use Rattle.tc_bag.proofs.bag.Bag.keep.Goals as goal
 use Rattle.tc_bag.proofs.bag.Bag.keep.Goals.{After-discard}
 
 last : (c : After-discard) → c.pop.new.self.items ≡ []
 last c =
-    nil_from c.pop.new.self.items
+    nil_from_length c.pop.new.self.items
     (sym c.pop.new.self.ok.0 ∙ eqb-true (vec_len c.pop.new.self) 0 (sym c.if-is_empty.ensures))
 
 pub invariant_of-self : goal.invariant_of-self
@@ -27,7 +28,7 @@ invariant_of-self-else-is_empty c =
     let b = c.self.inside in
     sound-kept b.rows b.next b.log.items (vec_capacity b.log) b.marks.items c.pop.new.self.items c.in-Some._top
     c.self.invariant c.in-Some.ensures.items
-    (subst (λ k. 0 < k) c.pop.new.self.ok.0 (some_from (vec_len c.pop.new.self) c.if-is_empty.ensures))
+    (subst (λ k. 0 < k) c.pop.new.self.ok.0 (some_from_test (vec_len c.pop.new.self) false c.if-is_empty.ensures refl))
 
 pub returns-then-is_empty-clause-rows : goal.returns-then-is_empty-clause-rows
 returns-then-is_empty-clause-rows c =

@@ -1,16 +1,18 @@
-use Rattle.std.proofs.Common.{◌≡◌, ◌<◌, ◌++◌, ◌∷◌, [], ◌+◌, ◌≤◌, cond, true, is_ok, length, map, vec_capacity, vec_len, ap, sym, subst, ◌∙◌, arith}
+use Rattle.std.proofs.Common.{◌≡◌, ◌<◌, ◌++◌, ◌∷◌, [], ◌+◌, ◌≤◌, cond, true, is_ok, length, map, vec_capacity, vec_len, ap, sym, subst, ◌∙◌, arith, false, refl}
 use Rattle.std.proofs.lemmas.Bool.{eqb-true}
+use Rattle.std.proofs.lemmas.List.{nil_from_length}
+use Rattle.tc_lists.proofs.Results.{is_ok-from_OnErr}
+use Rattle.tc_lists.proofs.Bools.{some_from_test}
 use Rattle.tc_bag.specs.Stock.{Stock, without_age}
 use Rattle.tc_bag.specs.Slots.{IsSound, stock_of, taken_at}
 use Rattle.tc_bag.proofs.ByAge.{map-not_taken}
-use Rattle.tc_bag.proofs.Logged.{nil_from}
-use Rattle.tc_bag.proofs.Stocks.{sound-taken, stock-taken, sound-removed, stock-removed, ok_from, some_from, taken-count}
+use Rattle.tc_bag.proofs.Stocks.{sound-taken, stock-taken, sound-removed, stock-removed, taken-count}
 use Rattle.tc_bag.proofs.bag.Bag.take.Goals as goal
 use Rattle.tc_bag.proofs.bag.Bag.take.Goals.{After-remove, After-push, Else-take}
 
 unmarked : (c : After-remove) → c.self.inside.marks.items ≡ []
 unmarked c =
-    nil_from c.self.inside.marks.items
+    nil_from_length c.self.inside.marks.items
     (sym c.self.inside.marks.ok.0 ∙ eqb-true (vec_len c.self.inside.marks) 0 (sym c.if-is_empty.ensures))
 
 pub invariant_of-self : goal.invariant_of-self
@@ -33,7 +35,7 @@ left c =
     ∙ ap (λ k. map (taken_at c.args.age (k + 1)) c.self.inside.rows) (c.len.ensures ∙ c.self.inside.log.ok.0)
 
 marked_some : (c : After-push) → 0 < length c.self.inside.marks.items
-marked_some c = subst (λ k. 0 < k) c.self.inside.marks.ok.0 (some_from (vec_len c.self.inside.marks) c.if-is_empty.ensures)
+marked_some c = subst (λ k. 0 < k) c.self.inside.marks.ok.0 (some_from_test (vec_len c.self.inside.marks) false c.if-is_empty.ensures refl)
 
 -- there was room for its age
 pushed : (c : After-push) → c.push.new.self.items ≡ c.self.inside.log.items ++ c.args.age ∷ []
@@ -42,7 +44,7 @@ pushed c =
     let log = b.log.items in
     let fewer = taken-count c.args.age (length log + 1) b.rows (omega arith) c.self.invariant.order (sym c.if-take.ensures.told) in
     let ok : is_ok c.push.result ≡ true =
-    ok_from (vec_capacity b.log ≤ vec_len b.log) c.push.result c.push.ensures.full
+    is_ok-from_OnErr c.push.result (vec_capacity b.log ≤ vec_len b.log) c.push.ensures.full
     (λ full. absurd (omega (arith, full, b.log.ok.0, c.self.invariant.fits, fewer))) in
     c.push.ensures.items ∙ ap (λ k. cond k (log ++ c.args.age ∷ []) log) ok
 
@@ -76,7 +78,7 @@ invariant_of-self-else-take c =
 pub returns-else-take : goal.returns-else-take
 returns-else-take c =
     let b = c.self.inside in
-    let some = subst (λ k. 0 < k) b.marks.ok.0 (some_from (vec_len b.marks) c.if-is_empty.ensures) in
+    let some = subst (λ k. 0 < k) b.marks.ok.0 (some_from_test (vec_len b.marks) false c.if-is_empty.ensures refl) in
     ap (λ rows. stock_of rows b.next b.marks.items) (c.take.ensures.taken
     ∙ ap (λ k. map (taken_at c.args.age (k + 1)) b.rows) (c.len.ensures ∙ b.log.ok.0))
     ∙ stock-taken b.rows b.next b.log.items (vec_capacity b.log) b.marks.items c.self.invariant c.args.age some

@@ -1,11 +1,13 @@
 use Rattle.std.proofs.Common.{◌≡◌, ◌≤◌, ◌<◌, ℕ, IsTrue, List, IfSome, IfNone, Option, All, get_or, refl, sym, subst}
+use Rattle.std.proofs.lemmas.Option.{IfSome_then}
+use Rattle.tc_lists.proofs.Options.{IfNone-weaker}
 use Rattle.tc_term.specs.Tree.{Tree}
 use Rattle.tc_bag.specs.Ages.{Has}
 use Rattle.tc_bag.specs.Codes.{code_like}
 use Rattle.tc_bag.specs.declared.key.Key.{Key}
 use Rattle.tc_bag.specs.declared.key.Lent.{Lent}
 use Rattle.tc_bag.specs.Slots.{Slot, IsThereLike, is_there}
-use Rattle.tc_bag.proofs.Searching.{like_has, IfSome-weaker, IfNone-weaker}
+use Rattle.tc_bag.proofs.Searching.{like_has}
 use Rattle.tc_bag.specs.Lent.{lent_key}
 use Rattle.tc_bag.proofs.rows.Rows.next_age.Goals as goal
 
@@ -21,17 +23,15 @@ module _ (key : Key) (code from : ℕ) (ss : List Slot) (result : Option ℕ) wh
   found_of : IfSome result (λ (age : ℕ). (from ≤ age) × All (λ (s : Slot). from ≤ s.age → s.age < age → IsTrue (is_there s) → ⊥) ss)
       → IfSome result (λ (age : ℕ). (from ≤ age) × ((first : Option Tree) → code ≡ code_like key first
       → All (λ (s : Slot). from ≤ s.age → s.age < age → IsThereLike key first from s → ⊥) ss))
-  found_of = IfSome-weaker (λ (age : ℕ). (from ≤ age) × All (λ (s : Slot). from ≤ s.age → s.age < age → IsTrue (is_there s) → ⊥) ss)
-      (λ (age : ℕ). (from ≤ age) × ((first : Option Tree) → code ≡ code_like key first
-      → All (λ (s : Slot). from ≤ s.age → s.age < age → IsThereLike key first from s → ⊥) ss)) result
-      (λ age has. (has.0, λ first same k d inside up below like. has.1 k d inside up below like.0))
+  found_of found =
+      IfSome_then result found (λ age has. (has.0, λ first same k d inside up below like. has.1 k d inside up below like.0))
 
   none_of : IfNone result (All (λ (s : Slot). from ≤ s.age → IsTrue (is_there s) → ⊥) ss)
       → IfNone result ((first : Option Tree) → code ≡ code_like key first
       → All (λ (s : Slot). from ≤ s.age → IsThereLike key first from s → ⊥) ss)
-  none_of = IfNone-weaker (All (λ (s : Slot). from ≤ s.age → IsTrue (is_there s) → ⊥) ss)
+  none_of = IfNone-weaker result (All (λ (s : Slot). from ≤ s.age → IsTrue (is_there s) → ⊥) ss)
       ((first : Option Tree) → code ≡ code_like key first → All (λ (s : Slot). from ≤ s.age → IsThereLike key first from s → ⊥) ss)
-      result (λ has first same k d inside up like. has k d inside up like.0)
+      (λ has first same k d inside up like. has k d inside up like.0)
 
 pub returns-in-Any-clause-found : goal.returns-in-Any-clause-found
 returns-in-Any-clause-found c = found_of (lent_key c.args.key) c.args.code c.args.from c.args.self.now c.oldest_from-in-Any.result c.oldest_from-in-Any.ensures.found
@@ -53,18 +53,16 @@ returns-in_default c =
     (like_has own.index key first s (not_any c.args.key c.in_default.not-Any) ((c.self.invariant k d inside like.0).1 c.if-not-self.false) like.2) in
     record {
       found =
-          IfSome-weaker (λ (age : ℕ). (from ≤ age) × ((a : ℕ) → from ≤ a → a < age → Has own.index c.args.code a → ⊥))
-          (λ (age : ℕ). (from ≤ age) × ((first : Option Tree) → c.args.code ≡ code_like key first
-          → All (λ (s : Slot). from ≤ s.age → s.age < age → IsThereLike key first from s → ⊥) c.args.self.now)) c.next.result
+          IfSome_then c.next.result c.next.ensures.found
           (λ age has. (
             has.0,
             λ first same. subst (All (λ (s : Slot). from ≤ s.age → s.age < age → IsThereLike key first from s → ⊥)) c.self.view_is
                 (λ k d inside up below like. has.1 (get_or es k d).age up below (missed first same k d inside like)),
-          )) c.next.ensures.found;
+          ));
       none =
-          IfNone-weaker ((a : ℕ) → from ≤ a → Has own.index c.args.code a → ⊥)
+          IfNone-weaker c.next.result ((a : ℕ) → from ≤ a → Has own.index c.args.code a → ⊥)
           ((first : Option Tree) → c.args.code ≡ code_like key first
-          → All (λ (s : Slot). from ≤ s.age → IsThereLike key first from s → ⊥) c.args.self.now) c.next.result
+          → All (λ (s : Slot). from ≤ s.age → IsThereLike key first from s → ⊥) c.args.self.now)
           (λ has first same. subst (All (λ (s : Slot). from ≤ s.age → IsThereLike key first from s → ⊥)) c.self.view_is
           (λ k d inside up like. has (get_or es k d).age up (missed first same k d inside like))) c.next.ensures.none;
     }

@@ -1,8 +1,9 @@
 use Rattle.std.proofs.Common.{◌≡◌, ◌==◌, ◌∷◌, [], ◌++◌, length, ap, sym, subst, ◌∙◌, length-append, arith}
+use Rattle.tc_lists.proofs.Parts.{take_pushed}
 use Rattle.tc_pending.specs.declared.changes.Change.TheVariants.{Added}
 use Rattle.tc_pending.specs.Changes.{earlier, earlier_serials, saved_at, AreFiled, IsLog}
 use Rattle.tc_pending.specs.Waiting.{Waiting}
-use Rattle.tc_pending.proofs.Log.{same_waiting, IsLog-noted, saved-logged, length-noted, take-pushed}
+use Rattle.tc_pending.proofs.Log.{same_waiting, IsLog-noted, saved-logged, length-noted}
 use Rattle.tc_pending.specs.Codes.{code_of, codes_of}
 use Rattle.tc_pending.proofs.Coded.{code, codes-push}
 use Rattle.tc_pending.specs.Filed.{IsFiled}
@@ -15,12 +16,12 @@ module _ (c : After-note) where
   back : earlier Added c.push.new.self.items ≡ c.self.inside.requests.items
   back =
       ap (earlier Added) c.in_ok-push.ensures.items
-      ∙ take-pushed c.make_room.new.requests.items c.args.request ∙ c.make_room.ensures.requests
+      ∙ take_pushed c.make_room.new.requests.items c.args.request ∙ c.make_room.ensures.requests
 
   before : earlier_serials Added c.append-2.new.numbers.items ≡ c.self.inside.serials.items
   before =
       ap (earlier_serials Added) c.append-2.ensures.items
-      ∙ take-pushed c.make_room.new.serials.items c.in_ok-serial.serial ∙ c.make_room.ensures.serials
+      ∙ take_pushed c.make_room.new.serials.items c.in_ok-serial.serial ∙ c.make_room.ensures.serials
 
   now : IsFiled c.self.inside.index c.self.inside.filed (codes_of c.push.new.self.items) c.append-2.new.numbers.items
   now =

@@ -4,8 +4,8 @@ use Rattle.std.specs.Option.{option_to_list}
 use Rattle.tc_pending.specs.Changes.{saved_at, IsLog}
 use Rattle.tc_lists.specs.Marks.{IsGivenUp}
 use Rattle.tc_pending.specs.Waiting.{Waiting}
-use Rattle.tc_pending.proofs.Log.{IsLog-none, IsLog-kept, waiting-kept, none_from_test}
-use Rattle.tc_lists.proofs.Bools.{some_from_test}
+use Rattle.tc_pending.proofs.Log.{IsLog-none, IsLog-kept, waiting-kept}
+use Rattle.tc_lists.proofs.Bools.{some_from_test, none_from_test}
 use Rattle.tc_pending.specs.Codes.{codes_of}
 use Rattle.tc_pending.specs.Filed.{KeepsAll}
 use Rattle.tc_pending.specs.Rising.{NumbersRise}

@@ -1,6 +1,7 @@
 use Rattle.std.proofs.Common.{◌≡◌, ◌<◌, ◌≤◌, ◌+◌, ◌==◌, length, ap, sym, subst, ◌∙◌, arith}
 use Rattle.std.specs.List.{remove}
 use Rattle.std.proofs.lemmas.List.Edits.{length-remove}
+use Rattle.tc_lists.proofs.Pairs.{insert-remove}
 use Rattle.tc_pending.specs.declared.changes.Change.{Change}
 use Rattle.tc_pending.specs.declared.changes.Change.TheVariants.{Removed}
 use Rattle.tc_pending.specs.Changes.{earlier, earlier_serials, Fits, IsLog}
@@ -8,7 +9,7 @@ use Rattle.tc_pending.specs.Codes.{codes_of}
 use Rattle.tc_pending.specs.Filed.{IsFiled, KeepsAll}
 use Rattle.tc_pending.specs.Rising.{NumbersRise}
 use Rattle.tc_pending.specs.Waiting.{Waiting}
-use Rattle.tc_pending.proofs.Log.{same_waiting, none-noted, IsLog-noted, saved-logged, length-noted, insert-removed, Fits-removed}
+use Rattle.tc_pending.proofs.Log.{same_waiting, none-noted, IsLog-noted, saved-logged, length-noted, Fits-removed}
 use Rattle.tc_pending.proofs.Coded.{codes-remove, length-codes}
 use Rattle.tc_pending.proofs.Filed.{IsFiled-remove, IsFiled-kept, AreFiled-now, AreFiled-length, AreFiled-only, AreFiled-noted}
 use Rattle.tc_pending.proofs.pending.Pending.remove.Goals as goal
@@ -38,12 +39,12 @@ module _ (c : After-note) where
   back : earlier change c.remove-request.new.self.items ≡ c.self.inside.requests.items
   back =
       ap (earlier change) c.remove-request.ensures.items
-      ∙ insert-removed c.self.inside.requests.items c.args.place c.remove-request.result inside c.remove-request.ensures.value
+      ∙ insert-remove c.self.inside.requests.items c.args.place c.remove-request.result inside c.remove-request.ensures.value
 
   before : earlier_serials change c.remove-serial.new.self.items ≡ c.self.inside.serials.items
   before =
       ap (earlier_serials change) c.remove-serial.ensures.items
-      ∙ insert-removed c.self.inside.serials.items c.args.place c.remove-serial.result numbered c.remove-serial.ensures.value
+      ∙ insert-remove c.self.inside.serials.items c.args.place c.remove-serial.result numbered c.remove-serial.ensures.value
 
   fits : Fits change c.remove-request.new.self.items
   fits =

@@ -1,12 +1,13 @@
 use Rattle.std.proofs.Common.{◌<◌, length, sym, ap, ◌∙◌, refl, arith}
 use Rattle.std.specs.Option.{option_copied}
+use Rattle.tc_lists.proofs.Options.{IfNone-always}
 use Rattle.tc_policy.specs.Places.{grant, place_in}
-use Rattle.tc_policy.proofs.Indexes.{if_none_by, index-first, index-none, index-within}
+use Rattle.tc_policy.proofs.Indexes.{index-first, index-none, index-within}
 use Rattle.tc_policy.proofs.roles.Roles.permits.Goals as goal
 
 pub returns-in_err-place-clause-none : goal.returns-in_err-place-clause-none
 returns-in_err-place-clause-none c =
-    if_none_by c.from_residual.result _
+    IfNone-always c.from_residual.result _
     (index-none (place_in c.self.inside.places) c.self.inside.grants.items c.args.self.now
     (grant c.args.role c.args.centre c.args.primitive) c.self.invariant.0 c.self.view_is
     (sym c.get.ensures.value ∙ ap option_copied (c.in_err-place.was)))
