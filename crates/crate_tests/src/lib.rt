@@ -5,9 +5,19 @@
 #![tactic(auto)]
 
 #[cfg(test)]
+mod asking;
+#[cfg(test)]
 mod bells;
 #[cfg(test)]
+mod driving;
+#[cfg(test)]
+mod grants;
+#[cfg(test)]
+mod lines;
+#[cfg(test)]
 mod numbers;
+#[cfg(test)]
+mod pieces;
 #[cfg(test)]
 mod streams;
 #[cfg(test)]
