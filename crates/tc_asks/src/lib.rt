@@ -21,8 +21,6 @@ mod next;
 mod operands;
 mod places;
 mod telling;
-#[cfg(test)]
-mod tests;
 
 pub use asker::Asker;
 pub use laws::asker_stays_fit;

@@ -25,6 +25,3 @@ mod bells;
 pub use bell::Bell;
 pub use bells::Bells;
 pub use tc_lists::NoMemory;
-
-#[cfg(test)]
-mod tests;

@@ -34,6 +34,3 @@ pub use rows::print_row;
 
 /// Memory has run out.
 pub use tc_lists::NoMemory;
-
-#[cfg(test)]
-mod tests;

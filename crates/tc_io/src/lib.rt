@@ -28,6 +28,3 @@ pub use whole::{InputFault, read_all, write_all};
 
 /// Memory has run out.
 pub use tc_lists::NoMemory;
-
-#[cfg(test)]
-mod tests;

@@ -22,6 +22,3 @@ pub use seqs::Seq;
 
 /// Memory has run out.
 pub use std::alloc::AllocError as NoMemory;
-
-#[cfg(test)]
-mod tests;

@@ -20,6 +20,3 @@ pub use grants::{Grant, MOST_GRANTS};
 pub use roles::Roles;
 pub use tc_lists::NoMemory;
 pub use warden::numbers_are_of_grants;
-
-#[cfg(test)]
-mod tests;

@@ -12,8 +12,6 @@
 
 mod actor;
 mod crowd;
-#[cfg(test)]
-mod tests;
 
 pub use actor::{Actor, Step};
 pub use crowd::drive;

@@ -25,6 +25,3 @@ pub use chronicle::Chronicle;
 pub use pass::{Ended, Held, Pass};
 pub use tc_lists::NoMemory;
 pub use turnstile::{TurnsSpent, Turnstile};
-
-#[cfg(test)]
-mod tests;

@@ -19,6 +19,3 @@ pub use history::{write_end, write_history, write_log, write_version};
 
 /// Memory has run out.
 pub use tc_lists::NoMemory;
-
-#[cfg(test)]
-mod tests;

@@ -1,6 +1,7 @@
-use crate::{Grant, Roles};
+//! Which grant permits, and which one is removed.
 use std::test::Fail;
 use tc_model::Primitive;
+use tc_policy::{Grant, Roles};
 
 fn grant(role: u32, centre: u32, primitive: Primitive) -> Grant {
     Grant {

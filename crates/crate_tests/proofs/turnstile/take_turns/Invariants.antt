@@ -1,6 +1,6 @@
 use Rattle.std.proofs.Common.{◌≡◌, false}
 use Rattle.tc_turn.specs.Passes.{IsPassOf}
-use Rattle.tc_turn.proofs.tests.take_turns.Given as goal
+use Rattle.crate_tests.proofs.turnstile.take_turns.Given as goal
 
 abbrev pub invariant-loop : goal.invariant-loop
 invariant-loop g l = record {

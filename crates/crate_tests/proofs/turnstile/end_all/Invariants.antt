@@ -1,7 +1,7 @@
 use Rattle.std.proofs.Common.{◌≡◌, ℕ, ◌+◌, vec_len, vec_capacity, All, false, sum_by}
 use Rattle.tc_turn.specs.Order.{one_if_same}
 use Rattle.tc_turn.specs.Passes.{PassState, EndedState, IsPassOf, ended_count}
-use Rattle.tc_turn.proofs.tests.end_all.Given as goal
+use Rattle.crate_tests.proofs.turnstile.end_all.Given as goal
 
 abbrev pub invariant-loop-one : goal.invariant-loop-one
 invariant-loop-one g l = record {

@@ -1,4 +1,4 @@
-//! Variables have the values that came in the same script, while these can be. Clauses are read.
+//! Variables have the values that came in the same script, while these can be.
 ghost use Rattle.std.specs.Prelude.{◌≡◌, false, IfOk, IfSome};
 ghost use Rattle.tc_model.specs.Asks.{operand_of};
 ghost use Rattle.tc_model.specs.Scripts.{IsScript};
@@ -6,12 +6,12 @@ ghost use Rattle.tc_model.specs.Within.{HasVarsBelow};
 ghost use Rattle.tc_desk.specs.Logs.{any_pending, is_pending};
 ghost use Rattle.tc_asks.specs.Progress.{HasTaken};
 
-use crate::{Asker, asker_stays_fit, op_of};
 use std::alloc::Global;
 use std::test::Fail;
+use tc_asks::{Asker, asker_stays_fit};
 use tc_desk::{LogResult, LogRow};
 use tc_lists::NoMemory;
-use tc_model::{Ask, Op, Reply, Script, ScriptItem};
+use tc_model::{Ask, Reply, Script, ScriptItem};
 use tc_term::{Ground, Name, Term};
 
 // The first items of a script of one variable, and one more.
@@ -96,18 +96,5 @@ fn values_are_those_of_the_same_script(rt: HostRuntime) -> Result<(), Fail> {
     let done = LogResult::Replied(Reply::Done);
     let next = after(alloc, &mut asker, &scripts, &mut log, done)?;
     assert!(rt; next == None);
-    Ok(())
-}
-
-#[test]
-fn clauses_are_read(rt: HostRuntime) -> Result<(), Fail> {
-    let alloc = rt.alloc();
-    let text = Term::Atom(Name::new(alloc, b"reaction(out(a),true).")?);
-    let op = op_of(alloc, Ask::SetSpec(text)).ok().ok_or("an operation")?;
-    let count = match &op {
-        Op::SetSpec(clauses) => clauses.items().len(),
-        _ => 0,
-    };
-    assert!(rt; count == 1);
     Ok(())
 }

@@ -1,12 +1,13 @@
-use crate::{
-    InputFault, MemSink, MemSource, Sink, SinkFault, Source, StdSink, StdSource, SureSink,
-    SureSource, read_all, write_all,
-};
+//! Sources and sinks, in memory and over std's readers and writers, some of which fail.
 use std::alloc::Global;
 use std::io;
 use std::io::{ErrorKind, Read, Write};
 use std::process::Abort;
 use std::test::Fail;
+use tc_io::{
+    InputFault, MemSink, MemSource, Sink, SinkFault, Source, StdSink, StdSource, SureSink,
+    SureSource, read_all, write_all,
+};
 
 const TEXT: &[u8] = b"fork(1)";
 

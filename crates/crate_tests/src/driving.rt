@@ -4,13 +4,13 @@ ghost use Rattle.tc_desk.specs.Desks.{with_row};
 ghost use Rattle.tc_desk.specs.Logs.{any_pending};
 ghost use Rattle.tc_sched.specs.Steps.{IsReady, left_of};
 
-use crate::{Actor, Step, drive};
 use std::alloc::Global;
 use std::sync::Wait;
 use std::test::Fail;
 use tc_desk::{Desk, DeskFault, LogResult, LogRow, NoGate, Refusal, Seen, Served};
 use tc_lists::NoMemory;
 use tc_model::{Ask, Script, ScriptItem};
+use tc_sched::{Actor, Step, drive};
 use tc_term::{Name, Term};
 
 // A desk that denies each ask.

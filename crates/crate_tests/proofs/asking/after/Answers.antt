@@ -1,6 +1,6 @@
-use Rattle.std.proofs.Common.{[], ◌∷◌, ◌∙◌, sym, subst}
+use Rattle.std.proofs.Common.{◌∙◌, sym, subst}
 use Rattle.tc_asks.specs.Progress.{HasTaken}
-use Rattle.tc_asks.proofs.tests.after.Goals as goal
+use Rattle.crate_tests.proofs.asking.after.Goals as goal
 
 pub next_ask-requires-clause-taken : goal.next_ask-requires-clause-taken
 next_ask-requires-clause-taken c =

@@ -1,5 +1,6 @@
-use crate::{Seq, append_integer, append_number, read_integer, read_number};
+//! Numbers as text, at the ends of what they may be; and a list that gives its items back.
 use std::test::Fail;
+use tc_lists::{Seq, append_integer, append_number, read_integer, read_number};
 
 #[test]
 fn numbers_are_appended(rt: HostRuntime) -> Result<(), Fail> {

@@ -4,12 +4,12 @@ ghost use Rattle.std.specs.Prelude.{IfOk, All, length, slice_index_or, sum_by};
 ghost use Rattle.tc_turn.specs.Order.{one_if_same};
 ghost use Rattle.tc_turn.specs.Passes.{IsPassOf, ended_count};
 
-use crate::{Chronicle, Ended, Pass, TurnsSpent, Turnstile};
 use std::alloc::{AllocError, Global};
 use std::sync::Wait;
 use std::test::Fail;
 use std::thread;
 use std::thread::Threads;
+use tc_turn::{Chronicle, Ended, Pass, TurnsSpent, Turnstile};
 
 /// A history in which each entry is the number of its owner.
 #[derive(Drop)]

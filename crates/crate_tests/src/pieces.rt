@@ -1,10 +1,11 @@
-use crate::{write_end, write_log, write_version};
+//! A text that is handed on once it is long, and a sink that fails.
 use std::alloc::Global;
 use std::test::Fail;
 use tc_desk::{LogResult, LogRow};
 use tc_io::{MemSink, SinkFault, SureSink};
 use tc_lists::NoMemory;
 use tc_term::Name;
+use tc_writing::{write_end, write_log, write_version};
 
 // A name of so many letters.
 fn name(alloc: Global, letters: usize) -> Result<Name, NoMemory> {

@@ -1,11 +1,11 @@
 //! A flag that one thread sets and others wait for.
-use crate::{Bell, Bells};
 use std::alloc::AllocError;
 use std::sync::Wait;
 use std::sync::atomic::AtomicU64;
 use std::sync::atomic::Ordering::SeqCst;
 use std::test::Fail;
 use std::thread::{Threads, join};
+use tc_bells::{Bell, Bells};
 
 fn await_flag<R: Wait>(rt: &R, bell: &Bell, flag: &AtomicU64) {
     for _ in rt.forever() {

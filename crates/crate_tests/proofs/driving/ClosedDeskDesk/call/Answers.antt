@@ -1,7 +1,7 @@
 use Rattle.std.proofs.Common.{rules, refl, sym, subst, arith}
 use Rattle.tc_desk.specs.Decided.{IsRead}
 use Rattle.tc_sched.proofs.Readable.{read-push}
-use Rattle.tc_sched.proofs.tests.ClosedDeskDesk.call.Goals as goal
+use Rattle.crate_tests.proofs.driving.ClosedDeskDesk.call.Goals as goal
 
 pub returns-in-Ok-clause-kept : goal.returns-in-Ok-clause-kept
 returns-in-Ok-clause-kept g c = record {
