@@ -1,10 +1,11 @@
 -- What the lists of all agents' calls have, and what a change of one of them does.
 use Rattle.std.proofs.Common.{◌≡◌, ℕ, ◌<◌, ◌≤◌, ◌-◌, eqb, cond, map, true, false, ◌&&◌, All, List, [], length, get_or, set, Some, None, refl, sym, ap, subst, ◌∙◌, ⊎_elim, arith}
 use Rattle.std.specs.Option.{MatchOption}
-use Rattle.std.proofs.lemmas.Bool.{cases_Bool, cases_lt, both_ways, eqb-true, eqb-false}
+use Rattle.std.proofs.lemmas.Bool.{cases_Bool, cases_lt, both_ways, eqb-true}
 use Rattle.std.specs.declared.vec.Vec.{Vec}
 use Rattle.std.proofs.Math.Seq.{map-set_same}
-use Rattle.std.proofs.lemmas.List.{get_or_default, get_or_past, get_or-map, get_or-set_same, get_or-set_other, length-map, length-set, map-set}
+use Rattle.std.proofs.lemmas.List.{get_or_default, get_or_past, get_or-map, get_or-set_same, length-map, length-set, map-set}
+use Rattle.tc_lists.proofs.Sets.{get_or-set_cases}
 use Rattle.tc_model.specs.Calls.{id_of, same_id, calls_of}
 use Rattle.tc_model.specs.Run.{HasCall}
 use Rattle.tc_model.specs.declared.calls.CallId.{CallId}
@@ -13,18 +14,6 @@ use Rattle.tc_model.proofs.NextEntry.{same_id-at, HasCall-other}
 use Rattle.tc_centre.specs.Calls.{place_of, number_at, Rises, IsAbove, SetsPlace}
 use Rattle.tc_centre.specs.Places.{calls_in, lists_of, place_in, room_in, IsToldAt, ArePlaces, Puts}
 use Rattle.tc_centre.proofs.CallLists.{place_of-at}
-
--- what a list has at a place, where one element is set
-get_or-set_cases : {X : Type 0} (xs : List X) (i j : ℕ) (x d : X) → i < length xs
-    → get_or (set xs i x) j d ≡ cond (eqb i j) x (get_or xs j d)
-get_or-set_cases xs i j x d inside =
-    ⊎_elim
-    (λ (own : eqb i j ≡ true).
-    subst (λ k. get_or (set xs i x) k d ≡ x) (eqb-true i j own) (get_or-set_same xs i x d inside)
-    ∙ ap (λ b. cond b x (get_or xs j d)) (sym own))
-    (λ (other : eqb i j ≡ false).
-    get_or-set_other xs i j x d (λ same. eqb-false i j other (sym same)) ∙ ap (λ b. cond b x (get_or xs j d)) (sym other))
-    (cases_Bool (eqb i j))
 
 module _ (id : CallId) (place : ℕ) (old new : List (List (ℕ × ℕ))) (puts : Puts id place old new) where
   calls-new : (agent : ℕ) → calls_in new agent ≡ cond (eqb id.agent agent) puts.calls (calls_in old agent)

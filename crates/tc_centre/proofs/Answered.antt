@@ -1,10 +1,11 @@
 -- The answer to the request that is next is legal, and leads to what is held then.
-use Rattle.std.proofs.Common.{◌≡◌, ◌++◌, ◌+◌, ◌*◌, ◌<◌, ◌≤◌, ℕ, List, [], ◌∷◌, Contains, Some, suc, zero, length, take, drop, slice_get, refl, sym, ap, subst, ◌∙◌, arith}
+use Rattle.std.proofs.Common.{◌≡◌, ◌++◌, ◌+◌, ◌*◌, ◌<◌, ◌≤◌, ℕ, List, [], ◌∷◌, Contains, Some, suc, length, take, drop, slice_get, refl, sym, ap, subst, ◌∙◌, arith}
 use Rattle.std.specs.List.{remove}
 use Rattle.std.proofs.lemmas.Option.{same_Some, slice_get_within, slice_get-get_or, get_or_from_slice_get}
 use Rattle.std.proofs.lemmas.List.Edits.{length-remove}
 use Rattle.std.proofs.lemmas.List.Elements.{All-contains, Contains-append_right}
 use Rattle.tc_lists.specs.Firsts.{IsFirst}
+use Rattle.tc_lists.proofs.Parts.{split_slice_get}
 use Rattle.tc_bag.specs.Stock.{Row, tuples_of}
 use Rattle.tc_pending.specs.Answers.{IsNextAnswer}
 use Rattle.tc_model.specs.Calls.{IsCallOf}
@@ -28,13 +29,6 @@ use Rattle.tc_centre.specs.Operations.{after_giving}
 use Rattle.tc_centre.proofs.Budgets.{given-within}
 use Rattle.tc_centre.proofs.Entries.{held-push}
 use Rattle.tc_centre.proofs.Room.{room_for_answer}
-
--- a list is what stands before a place, what stands there, and what stands behind
-pub split_at : {X : Type 0} (xs : List X) (place : ℕ) (x : X) → slice_get xs place ≡ Some x
-    → xs ≡ take place xs ++ x ∷ drop (suc place) xs
-split_at [] place x at = absurd (cc)
-split_at (y ∷ xs) zero x at = ap (λ z. z ∷ xs) (same_Some y x at)
-split_at (y ∷ xs) (suc place) x at = ap (λ zs. y ∷ zs) (split_at xs place x at)
 
 called-agent : (origin : Origin) (history : List Entry) (s : State) (id : CallId) (e : Entry)
     → IsLegal AnyOne origin history s e → IsCallOf id e → id.agent < length origin.agents
@@ -92,7 +86,7 @@ module _ (origin : Origin) (history : List Entry) (clauses : List Rule) (rows : 
         chosen = record {
           before = take place requests;
           behind = drop (suc place) requests;
-          split = split_at requests place r stands;
+          split = split_slice_get requests place r stands;
           has = answerable;
           none = next.none_before;
         };

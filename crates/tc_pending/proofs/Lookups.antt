@@ -2,7 +2,7 @@
 use Rattle.std.proofs.Common.{◌≡◌, ◌<◌, ◌≤◌, ◌+◌, ℕ, inl, inr, List, Some, length, get_or, slice_get, take, ap, sym, subst, ◌∙◌, ⊎_elim, arith}
 use Rattle.std.proofs.lemmas.Bool.{cases_lt}
 use Rattle.std.proofs.lemmas.List.{length-take, get_or-take, get_or-map}
-use Rattle.std.proofs.lemmas.Option.{slice_get-get_or, slice_get_within, get_or_from_slice_get}
+use Rattle.std.proofs.lemmas.Option.{slice_get-get_or, slice_get_within, get_or_from_slice_get, same_Some}
 use Rattle.tc_lists.specs.Firsts.{NoneOf}
 use Rattle.tc_term.specs.Tree.{Tree, IsTuple}
 use Rattle.tc_model.specs.declared.calls.Request.{Request}
@@ -68,9 +68,6 @@ code_beside requests codes k r are at =
     let inside : k < length requests = slice_get_within requests k r at in
     ap (λ cs. get_or cs k 0) are ∙ get_or-map code requests k r 0 inside ∙ ap code (get_or_from_slice_get requests k r r at)
 
-some_same : (x y : Request) → Some x ≡ Some y → x ≡ y
-some_same x y e = cc
-
 module _ (tuple : Tree) (requests : List Request) (codes : List ℕ) (are : codes ≡ codes_of requests) (c at : ℕ)
     (none : NoneAsks tuple requests c at) where
   -- the requests up to a place, where those from `at` on have another code
@@ -87,7 +84,7 @@ module _ (tuple : Tree) (requests : List Request) (codes : List ℕ) (are : code
       (λ (low : k < place). none-up place other k q low stands same asks)
       (λ (last : place ≤ k).
       let here : k ≡ place = omega (arith, last, before) in
-      not (subst (AsksFor tuple) (some_same q r (sym stands ∙ ap (slice_get requests) here ∙ is)) asks))
+      not (subst (AsksFor tuple) (same_Some q r (sym stands ∙ ap (slice_get requests) here ∙ is)) asks))
       (cases_lt k place)
 
 pub NoneAsks-less : (tuple : Tree) (requests : List Request) (c m n : ℕ) → m ≤ n → NoneAsks tuple requests c n
