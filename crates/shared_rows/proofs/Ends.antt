@@ -1,11 +1,12 @@
 -- The passes of agents that have made their moves, as a centre is closed with them.
-use Rattle.std.proofs.Common.{◌≡◌, ℕ, ◌+◌, ◌<◌, ◌≤◌, suc, List, [], ◌∷◌, All, Some, refl, length, map, get_or, sym, ap, ◌∙◌, subst, arith}
+use Rattle.std.proofs.Common.{◌≡◌, ℕ, ◌+◌, ◌<◌, ◌≤◌, List, All, Some, length, map, get_or, sym, ap, ◌∙◌, subst, arith}
 use Rattle.std.specs.List.{slice_get}
 use Rattle.std.proofs.lemmas.List.{get_or-map, length-map}
-use Rattle.std.proofs.lemmas.List.Elements.{All-cons, All-map, All-nil}
+use Rattle.std.proofs.lemmas.List.Elements.{All-map}
 use Rattle.std.proofs.lemmas.List.Sums.{get_or-le-sum_by}
 use Rattle.std.proofs.lemmas.Option.{get_or_from_slice_get, slice_get_within}
 use Rattle.tc_lists.proofs.Sets.{slice_get_inside}
+use Rattle.tc_lists.proofs.Elements.{All-from_slice_get}
 use Rattle.tc_model.specs.State.{Origin}
 use Rattle.tc_model.specs.declared.entries.Entry.{Entry}
 use Rattle.tc_turn.specs.Order.{one_if_same}
@@ -14,11 +15,6 @@ use Rattle.tc_turn.proofs.Sums.{one_if_same-same}
 use Rattle.tc_turn.proofs.PassLists.{length-new_passes, number-new_passes}
 use Rattle.shared_rows.specs.Plays.{ArePlayed, IsPlayed, passes_of}
 use Rattle.shared_rows.specs.declared.playing.Played.{Played}
-
--- what holds at each place holds of all
-all-at : {X : Type 0} (P : X → Type 0) (xs : List X) → ((k : ℕ) (x : X) → slice_get xs k ≡ Some x → P x) → All P xs
-all-at P [] each = All-nil P
-all-at P (x ∷ xs) each = All-cons P x xs (each 0 x refl) (all-at P xs (λ k y at. each (suc k) y at))
 
 module _ (t : TurnstileState Origin) (origin : Origin) (turns count : ℕ) (passes : List (PassState Entry Origin)) (played : List Played)
     (made : passes ≡ new_passes t.table origin turns 0 count) (are : ArePlayed t passes played) where
@@ -36,7 +32,7 @@ module _ (t : TurnstileState Origin) (origin : Origin) (turns count : ℕ) (pass
   pub ended-own : All (λ (e : EndedState Entry). e.table ≡ t.table) (passes_of played)
   ended-own =
       All-map (λ (e : EndedState Entry). e.table ≡ t.table) (λ (r : Played). r.pass) played
-      (all-at (λ (r : Played). r.pass.table ≡ t.table) played (λ n r at. (played-at n r at).table))
+      (All-from_slice_get (λ (r : Played). r.pass.table ≡ t.table) played (λ n r at. (played-at n r at).table))
 
   -- the pass of each agent has ended
   pub ended-whole : t.passes ≡ count → (n : ℕ) → n < t.passes → 0 < ended_count n (passes_of played)

@@ -4,13 +4,12 @@ use Rattle.std.proofs.lemmas.List.{length-map}
 use Rattle.tc_config.specs.Configurations.{Configuration, IsAgent, IsConfig, centre_names}
 use Rattle.tc_config.specs.declared.configs.AgentConf.{AgentConf}
 use Rattle.tc_config.specs.declared.configs.CentreConf.{CentreConf}
-use Rattle.tc_lists.proofs.Elements.{All-slice_get}
+use Rattle.tc_lists.proofs.Elements.{All-slice_get, All-from_slice_get}
 use Rattle.tc_policy.specs.declared.grants.Grant.{Grant}
 use Rattle.tc_sched.specs.Steps.{ArePlaced}
 use Rattle.tc_site.specs.Founding.{IsFounded}
 use Rattle.tc_site.specs.Sites.{SiteState}
 use Rattle.tc_workers.specs.Crews.{CanDrive}
-use Rattle.tc_workers.proofs.Driven.{all-at}
 
 -- the agents of a configuration can be driven at its site
 pub founded-drive : (c : Configuration) (roles : List Grant) (s : SiteState (List Grant)) → IsConfig c → IsFounded c roles s
@@ -22,7 +21,7 @@ founded-drive c roles s config founded =
       roles_are = founded.roles_are;
       few = let few = config.few_agents in omega (arith, few);
       placed =
-          all-at (λ (a : AgentConf). ArePlaced (length (centre_names c)) a.scripts) c.agents
+          All-from_slice_get (λ (a : AgentConf). ArePlaced (length (centre_names c)) a.scripts) c.agents
           (λ k a at. subst (λ n. ArePlaced n a.scripts) (sym many) (All-slice_get (IsAgent c) c.agents k a config.agents at).scripts);
       few_items = let few = config.few_items in omega (arith, few);
     }

@@ -14,7 +14,7 @@ use Rattle.tc_desk.specs.declared.rows.LogRow.{LogRow}
 use Rattle.tc_desk.specs.declared.rows.Refusal.{Refusal}
 use Rattle.tc_desk.specs.declared.rows.Refusal.TheVariants as refusal
 use Rattle.tc_desk.proofs.Histories.{IsServedAs-append, WasFull-append}
-use Rattle.tc_lists.proofs.Places.{slice_get_longer, slice_get_push, slice_get_pushed, slice_get_shorter}
+use Rattle.tc_lists.proofs.Places.{slice_get_longer, slice_get_push, slice_get_pushed, slice_get_shorter, slice_get_seam, slice_get_beside}
 use Rattle.tc_model.specs.Calls.{id_of, calls_of}
 use Rattle.tc_model.specs.Replies.{reply_in}
 use Rattle.tc_model.specs.State.{Origin}
@@ -128,7 +128,7 @@ AgreesRow-like origin history id log log' k row result like h =
     subst (λ es. AgreesRow origin es id log' k row result) (append-nil history)
     (AgreesRow-longer origin history [] id log log' k row result like (All-nil (λ e. id.number < (id_of e).number)) h)
 
-above-top : (n top : ℕ) (entries : List Entry) → n ≤ top → All (λ e. top < (id_of e).number) entries → All (λ e. n < (id_of e).number) entries
+pub above-top : (n top : ℕ) (entries : List Entry) → n ≤ top → All (λ e. top < (id_of e).number) entries → All (λ e. n < (id_of e).number) entries
 above-top n top entries within above k d inside = let h = above k d inside in omega (arith, h, within)
 
 HasRow-longer : (log more : List LogRow) (centre : List ℕ) (e : Entry) → HasRow log centre e → HasRow (log ++ more) centre e
@@ -211,17 +211,6 @@ module _ (origins : List Origin) (names : List (List ℕ)) (olds news : List (Li
     calls = have;
   }
 
--- what stands in the middle of a list, and where one element is another
-pub slice_get_middle : {X : Type 0} (front : List X) (x : X) (back : List X) → slice_get (front ++ x ∷ back) (length front) ≡ Some x
-slice_get_middle [] x back = refl
-slice_get_middle (y ∷ front) x back = slice_get_middle front x back
-
-pub slice_get_beside : {X : Type 0} (front : List X) (x y : X) (back : List X) (j : ℕ) → (j ≡ length front → ⊥) → slice_get (front ++ x ∷ back) j ≡ slice_get (front ++ y ∷ back) j
-slice_get_beside [] x y back zero other = absurd (other refl)
-slice_get_beside [] x y back (suc j) other = refl
-slice_get_beside (z ∷ front) x y back zero other = refl
-slice_get_beside (z ∷ front) x y back (suc j) other = slice_get_beside front x y back j (λ e. other (ap suc e))
-
 module _ (front : List LogRow) (row : LogRow) (back : List LogRow) (reply : Reply) (pending : row.result ≡ Pending) where
   abbrev before : List LogRow
   before = front ++ row ∷ back
@@ -237,25 +226,25 @@ module _ (front : List LogRow) (row : LogRow) (back : List LogRow) (reply : Repl
     there = λ j x within at.
         ⊎_elim
         (λ (here : j ≡ length front).
-        let is : x ≡ row = same_Some x row (sym at ∙ ap (slice_get before) here ∙ slice_get_middle front row back) in
+        let is : x ≡ row = same_Some x row (sym at ∙ ap (slice_get before) here ∙ slice_get_seam front row back) in
         let like : IsLike x (replied row reply) = record {
           number = ap (λ (r : LogRow). r.number) (sym is);
           centre = ap (λ (r : LogRow). r.centre) (sym is);
           served = answered-served ∙ ap (λ (r : LogRow). is_served r.result) (sym is);
         } in
-        (replied row reply, ap (slice_get after) here ∙ slice_get_middle front (replied row reply) back, like))
+        (replied row reply, ap (slice_get after) here ∙ slice_get_seam front (replied row reply) back, like))
         (λ (other : j ≡ length front → ⊥). (x, slice_get_beside front (replied row reply) row back j other ∙ at, IsLike-same x))
         (cases_eq j (length front));
     back = λ j y within at.
         ⊎_elim
         (λ (here : j ≡ length front).
-        let is : y ≡ replied row reply = same_Some y (replied row reply) (sym at ∙ ap (slice_get after) here ∙ slice_get_middle front (replied row reply) back) in
+        let is : y ≡ replied row reply = same_Some y (replied row reply) (sym at ∙ ap (slice_get after) here ∙ slice_get_seam front (replied row reply) back) in
         let like : IsLike row y = record {
           number = ap (λ (r : LogRow). r.number) is;
           centre = ap (λ (r : LogRow). r.centre) is;
           served = ap (λ (r : LogRow). is_served r.result) is ∙ answered-served;
         } in
-        (row, ap (slice_get before) here ∙ slice_get_middle front row back, like))
+        (row, ap (slice_get before) here ∙ slice_get_seam front row back, like))
         (λ (other : j ≡ length front → ⊥). (y, slice_get_beside front row (replied row reply) back j other ∙ at, IsLike-same y))
         (cases_eq j (length front));
   }
@@ -269,12 +258,12 @@ module _ (front : List LogRow) (row : LogRow) (back : List LogRow) (reply : Repl
   HasRow-answered centre e h =
       ⊎_elim
       (λ (here : h.k ≡ length front).
-      let is : h.row ≡ row = same_Some h.row row (sym h.stands ∙ ap (slice_get before) here ∙ slice_get_middle front row back) in
+      let is : h.row ≡ row = same_Some h.row row (sym h.stands ∙ ap (slice_get before) here ∙ slice_get_seam front row back) in
       let has : HasRow (front ++ replied row reply ∷ back) centre e = record {
         k = h.k;
         counted = h.counted;
         row = replied row reply;
-        stands = ap (slice_get after) here ∙ slice_get_middle front (replied row reply) back;
+        stands = ap (slice_get after) here ∙ slice_get_seam front (replied row reply) back;
         there = ap (λ (r : LogRow). r.centre) (sym is) ∙ h.there;
         made = made-answered e (subst (IsMadeBy e) (ap (λ (r : LogRow). r.result) is ∙ pending) h.made);
       } in has)
@@ -298,7 +287,7 @@ module _ (front : List LogRow) (row : LogRow) (back : List LogRow) (reply : Repl
     answered-row place origin history named began there =
         let was : AgreesRow origin history (numbered agent (length front + 1)) before (length front) row Pending =
         subst (λ r. AgreesRow origin history (numbered agent (length front + 1)) before (length front) row r) pending
-        (agrees.rows (length front) place row origin history (slice_get_middle front row back) named began there) in
+        (agrees.rows (length front) place row origin history (slice_get_seam front row back) named began there) in
         record {
           ask = was.0.ask;
           asked = was.0.asked;
@@ -310,23 +299,23 @@ module _ (front : List LogRow) (row : LogRow) (back : List LogRow) (reply : Repl
       numbers = λ k x at.
           ⊎_elim
           (λ (here : k ≡ length front).
-          let is : x ≡ replied row reply = same_Some x (replied row reply) (sym at ∙ ap (slice_get after) here ∙ slice_get_middle front (replied row reply) back) in
-          ap (λ (r : LogRow). r.number) is ∙ agrees.numbers (length front) row (slice_get_middle front row back) ∙ ap (λ n. n + 1) (sym here))
+          let is : x ≡ replied row reply = same_Some x (replied row reply) (sym at ∙ ap (slice_get after) here ∙ slice_get_seam front (replied row reply) back) in
+          ap (λ (r : LogRow). r.number) is ∙ agrees.numbers (length front) row (slice_get_seam front row back) ∙ ap (λ n. n + 1) (sym here))
           (λ (other : k ≡ length front → ⊥). agrees.numbers k x (slice_get_beside front row (replied row reply) back k other ∙ at))
           (cases_eq k (length front));
       known = λ k x at.
           ⊎_elim
           (λ (here : k ≡ length front).
-          let is : x ≡ replied row reply = same_Some x (replied row reply) (sym at ∙ ap (slice_get after) here ∙ slice_get_middle front (replied row reply) back) in
+          let is : x ≡ replied row reply = same_Some x (replied row reply) (sym at ∙ ap (slice_get after) here ∙ slice_get_seam front (replied row reply) back) in
           let was : Contains names row.centre =
-          subst (NamesCentre names row.centre) pending (agrees.known (length front) row (slice_get_middle front row back)) in
+          subst (NamesCentre names row.centre) pending (agrees.known (length front) row (slice_get_seam front row back)) in
           subst (λ (r : LogRow). NamesCentre names r.centre r.result) (sym is) was)
           (λ (other : k ≡ length front → ⊥). agrees.known k x (slice_get_beside front row (replied row reply) back k other ∙ at))
           (cases_eq k (length front));
       rows = λ k place x origin history at named began there.
           ⊎_elim
           (λ (here : k ≡ length front).
-          let is : x ≡ replied row reply = same_Some x (replied row reply) (sym at ∙ ap (slice_get after) here ∙ slice_get_middle front (replied row reply) back) in
+          let is : x ≡ replied row reply = same_Some x (replied row reply) (sym at ∙ ap (slice_get after) here ∙ slice_get_seam front (replied row reply) back) in
           subst (λ j. AgreesRow origin history (numbered agent (j + 1)) after j x x.result) (sym here)
           (subst (λ (r : LogRow). AgreesRow origin history (numbered agent (length front + 1)) after (length front) r r.result) (sym is)
           (answered-row place origin history (subst (λ (r : LogRow). slice_get names place ≡ Some r.centre) is named) began there)))

@@ -33,6 +33,11 @@ any_pending-push log row =
     list_any-append (λ (r : LogRow). is_pending r.result) log (row ∷ [])
     ∙ ap (λ b. any_pending log || b) (or-false (is_pending row.result))
 
+pub any_pending-push_settled : (log : List LogRow) (row : LogRow) → any_pending log ≡ false → is_pending row.result ≡ false
+    → any_pending (log ++ row ∷ []) ≡ false
+any_pending-push_settled log row before here =
+    any_pending-push log row ∙ or_from (any_pending log) (is_pending row.result) before here
+
 -- no row of a log without a pending one is pending
 pub any_pending-none : (log : List LogRow) (k : ℕ) (row : LogRow) → any_pending log ≡ false → slice_get log k ≡ Some row → row.result ≡ Pending → ⊥
 any_pending-none [] k row none at pending = none-some row at

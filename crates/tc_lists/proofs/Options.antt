@@ -1,9 +1,6 @@
 -- Optional values, by what they hold.
 use Rattle.std.proofs.Common.{◌≡◌, Bool, true, false, if◌then◌else◌, Option, Some, None, is_some, IfSome, IfNone, MatchOption, option_map, refl, subst}
 
-pub some_same : {X : Type 0} (x y : X) → Some x ≡ Some y → x ≡ y
-some_same x y e = cc
-
 pub option_map_some : {X Y : Type 0} (f : X → Y) (o : Option X) (y : Y) → option_map f o ≡ Some y → (x : X) × (o ≡ Some x) × (f x ≡ y)
 option_map_some f None y e = absurd (cc)
 option_map_some f (Some x) y e = (x, refl, cc)

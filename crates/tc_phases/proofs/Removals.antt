@@ -1,6 +1,6 @@
 -- The tuples that are left where the first that matches is taken or stays.
 use Rattle.std.proofs.Common.{◌≡◌, Bool, true, false, List, [], Some, ℕ, if◌then◌else◌, refl, sym, ap, ◌∙◌}
-use Rattle.tc_lists.proofs.Options.{some_same}
+use Rattle.std.proofs.lemmas.Option.{same_Some}
 use Rattle.tc_term.specs.Tree.{Tree}
 use Rattle.tc_term.specs.Variables.{var_bound}
 use Rattle.tc_bag.specs.Stock.{Row, Stock, tuples_of, tuple_at, without_age}
@@ -23,5 +23,5 @@ pub found-left : (takes : Bool) (age : ℕ) (stock : Stock) (u : Tree) → IsOld
     → tuples_of (changed (if takes then Take age else Nothing) stock).now ≡ after_taking takes u (tuples_of stock.now)
 found-left true age stock u oldest there =
     tuples-left oldest.template stock.now age oldest.tuple oldest.found true
-    ∙ ap (λ t. after_taking true t (tuples_of stock.now)) (some_same oldest.tuple u (sym oldest.found.there ∙ there))
+    ∙ ap (λ t. after_taking true t (tuples_of stock.now)) (same_Some oldest.tuple u (sym oldest.found.there ∙ there))
 found-left false age stock u oldest there = refl

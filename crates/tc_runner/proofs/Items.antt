@@ -1,5 +1,5 @@
 -- Items of scripts, by their places.
-use Rattle.std.proofs.Common.{◌≡◌, ℕ, zero, suc, ◌+◌, ◌-◌, ◌<◌, ◌≤◌, List, [], ◌∷◌, ◌++◌, Some, All, length, get_or, drop, refl, sym, ap, ◌∙◌, subst, arith}
+use Rattle.std.proofs.Common.{◌≡◌, ℕ, ◌+◌, ◌-◌, ◌<◌, ◌≤◌, List, [], ◌∷◌, Some, All, length, get_or, drop, refl, sym, ap, ◌∙◌, subst, arith}
 use Rattle.std.specs.List.{slice_get}
 use Rattle.std.proofs.lemmas.List.Elements.{All-append, All-head, All-map, All-nil, All-tail}
 use Rattle.std.proofs.lemmas.Option.{none-some, same_Some, slice_get_read}
@@ -9,16 +9,10 @@ use Rattle.tc_config.specs.declared.configs.AgentConf.{AgentConf}
 use Rattle.tc_desk.specs.Asks.{ScriptStep, steps_at, steps_from, steps_of}
 use Rattle.tc_lists.proofs.Elements.{All-slice_get}
 use Rattle.tc_lists.proofs.Parts.{drop_read}
-use Rattle.tc_lists.proofs.Places.{slice_get_longer}
+use Rattle.tc_lists.proofs.Places.{slice_get_longer, slice_get_behind}
 use Rattle.tc_model.specs.Scripts.{Lines}
 use Rattle.tc_model.specs.declared.scripts.ScriptItem.{ScriptItem}
 use Rattle.tc_lists.proofs.Sets.{slice_get-map_at, slice_get_inside}
-
--- what stands behind a list
-pub slice_get-behind : {X : Type 0} (xs ys : List X) (j k : ℕ) → j ≡ length xs + k → slice_get (xs ++ ys) j ≡ slice_get ys k
-slice_get-behind [] ys j k at = ap (slice_get ys) (omega (arith, at))
-slice_get-behind (x ∷ xs) ys zero k at = absurd (omega (arith, at))
-slice_get-behind (x ∷ xs) ys (suc j) k at = slice_get-behind xs ys j k (omega (arith, at))
 
 steps-placed : (c : Configuration) (place : ℕ) (scripts : List Lines) → All (HasCentres c) scripts
     → All (λ (s : ScriptStep). s.item.centre < length c.centres) (steps_from place scripts)
@@ -57,7 +51,7 @@ step-behind scripts i left s within read past =
     let make : ScriptItem → ScriptStep = λ x. record { script = i; vars = s.vars; item = x } in
     let many = length-map s.items make in
     ap (λ ss. slice_get (steps_from i ss) left) (drop_read scripts i s within read)
-    ∙ slice_get-behind (steps_at i s) (steps_from (i + 1) (drop (i + 1) scripts)) left (left - length s.items) (omega (arith, past, many))
+    ∙ slice_get_behind (steps_at i s) (steps_from (i + 1) (drop (i + 1) scripts)) left (left - length s.items) (omega (arith, past, many))
 
 -- nothing is left behind the last script
 pub step-gone : (scripts : List Lines) (i left place : ℕ) → length scripts ≤ i → place < length (steps_of scripts)

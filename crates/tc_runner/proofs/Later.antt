@@ -1,5 +1,5 @@
 -- Histories that go on, and what stays true of an agent's rows.
-use Rattle.std.proofs.Common.{◌≡◌, ℕ, ◌+◌, ◌<◌, ◌≤◌, List, [], ◌++◌, Some, All, length, take, refl, sym, ◌∙◌, subst, arith}
+use Rattle.std.proofs.Common.{◌≡◌, ℕ, ◌+◌, ◌<◌, ◌≤◌, List, [], ◌++◌, Some, All, length, take, refl, sym, ◌∙◌, subst}
 use Rattle.std.specs.List.{slice_get}
 use Rattle.std.proofs.lemmas.List.{append-nil}
 use Rattle.std.proofs.lemmas.List.Elements.{All-nil}
@@ -15,6 +15,7 @@ use Rattle.tc_desk.specs.declared.rows.LogResult.{LogResult}
 use Rattle.tc_desk.specs.declared.rows.LogResult.TheVariants.{Refused}
 use Rattle.tc_desk.specs.declared.rows.Refusal.TheVariants as refusal
 use Rattle.tc_desk.proofs.Histories.{IsServedAs-append}
+use Rattle.tc_desk.proofs.Growing.{above-top}
 use Rattle.tc_model.specs.Asks.{primitive_of}
 use Rattle.tc_model.specs.Calls.{id_of, calls_of}
 use Rattle.tc_model.specs.State.{Origin}
@@ -56,9 +57,6 @@ IsResult-append permits origin history more id ask (Refused refusal.Denied) abov
 IsResult-append permits origin history more id ask result above h =
     (h.0, IsServedAs-append origin history more id ask result above h.1)
 
-above-more : (n top : ℕ) (entries : List Entry) → n ≤ top → All (λ e. top < (id_of e).number) entries → All (λ e. n < (id_of e).number) entries
-above-more n top entries within above k d inside = let h = above k d inside in omega (arith, h, within)
-
 -- a row stays one of the agent's rows, as histories and the log go on
 pub IsRow-later : (c : Configuration) (old new : List (List Entry)) (agent : ℕ) (a : AgentConf) (log log' : List LogRow) (k top : ℕ) (row : LogRow)
     → k + 1 ≤ top → IsLater agent top old new → take k (results_of log') ≡ take k (results_of log)
@@ -82,5 +80,5 @@ IsRow-later c old new agent a log log' k top row within later same is =
       there = here.1;
       result = subst (λ h. IsResult permits origin h id is.asked row.result) (sym longer.grown)
           (IsResult-append permits origin is.history longer.more id is.asked row.result
-          (above-more (k + 1) top (calls_of agent longer.more) within longer.above) is.result);
+          (above-top (k + 1) top (calls_of agent longer.more) within longer.above) is.result);
     }

@@ -1,8 +1,8 @@
 -- What is known of an agent, as its log gets a row or a reply; and how much is left to do.
-use Rattle.std.proofs.Common.{◌≡◌, ℕ, zero, suc, ◌+◌, ◌-◌, ◌<◌, ◌≤◌, Bool, true, false, ◌||◌, cond, List, [], ◌∷◌, ◌++◌, Some, length, get_or, refl, sym, ap, ◌∙◌, subst, arith, ⊎_elim}
+use Rattle.std.proofs.Common.{◌≡◌, ℕ, zero, suc, ◌+◌, ◌-◌, ◌<◌, ◌≤◌, true, false, ◌||◌, cond, List, [], ◌∷◌, ◌++◌, Some, length, get_or, refl, sym, ap, ◌∙◌, subst, arith, ⊎_elim}
 use Rattle.std.proofs.Math.ListN.{set}
 use Rattle.std.specs.List.{slice_get}
-use Rattle.std.proofs.lemmas.Bool.{false≢true, or_from}
+use Rattle.std.proofs.lemmas.Bool.{false≢true}
 use Rattle.std.proofs.lemmas.List.{length-append, set_at}
 use Rattle.std.proofs.lemmas.Option.{none-some, same_Some, get_or_from_slice_get}
 use Rattle.tc_asks.specs.Nexts.{IsNextAsk}
@@ -24,13 +24,9 @@ use Rattle.tc_runner.specs.Clients.{AreClients, IsClient, IsLog, IsWaiting, Wait
 use Rattle.tc_runner.specs.Steps.{IsAnswered}
 use Rattle.tc_runner.specs.declared.clients.Client.{Client}
 use Rattle.tc_runner.proofs.Follow.{Follows-within}
-use Rattle.tc_desk.proofs.Logs.{any_pending-front, any_pending-push, is_pending-true}
+use Rattle.tc_desk.proofs.Logs.{any_pending-front, any_pending-push, is_pending-true, any_pending-push_settled}
 use Rattle.tc_lists.proofs.Sets.{slice_get_inside}
-
--- nothing is pending behind a row that isn't
-settled-push : (log : List LogRow) (row : LogRow) → any_pending log ≡ false → is_pending row.result ≡ false → any_pending (log ++ row ∷ []) ≡ false
-settled-push log row before here =
-    any_pending-push log row ∙ or_from (any_pending log) (is_pending row.result) before here
+use Rattle.tc_lists.proofs.Bools.{cond-le_one}
 
 -- where the agent waits after an ask
 pub WaitsAt-asked : (scripts : List Lines) (log : List LogRow) (row : LogRow) (next : Next) (r : LogResult) → any_pending log ≡ false
@@ -45,24 +41,20 @@ WaitsAt-asked scripts log row next Pending settled asks is = record {
   item = asks.asks.stands;
   there = sym asks.centre;
 }
-WaitsAt-asked scripts log row next (Replied reply) settled asks is = settled-push log row settled (ap is_pending is)
-WaitsAt-asked scripts log row next (Refused why) settled asks is = settled-push log row settled (ap is_pending is)
-WaitsAt-asked scripts log row next (Polled reply) settled asks is = settled-push log row settled (ap is_pending is)
+WaitsAt-asked scripts log row next (Replied reply) settled asks is = any_pending-push_settled log row settled (ap is_pending is)
+WaitsAt-asked scripts log row next (Refused why) settled asks is = any_pending-push_settled log row settled (ap is_pending is)
+WaitsAt-asked scripts log row next (Polled reply) settled asks is = any_pending-push_settled log row settled (ap is_pending is)
 
 -- the agent doesn't wait any more
 pub settled-answered : (front : List LogRow) (row : LogRow) (reply : Reply) → any_pending front ≡ false
     → any_pending (front ++ record row { result = Replied reply } ∷ []) ≡ false
-settled-answered front row reply settled = settled-push front (record row { result = Replied reply }) settled refl
-
-cond-least : (b : Bool) → cond b 1 0 ≤ 1
-cond-least true = omega arith
-cond-least false = omega arith
+settled-answered front row reply settled = any_pending-push_settled front (record row { result = Replied reply }) settled refl
 
 -- a row more, and less is left
 pub left-asked : (a : AgentConf) (log : List LogRow) (row : LogRow) → any_pending log ≡ false
     → length (log ++ row ∷ []) ≤ length (steps_of a.scripts) → left_of a (log ++ row ∷ []) < left_of a log
 left-asked a log row settled within =
-    let most = cond-least (any_pending (log ++ row ∷ [])) in
+    let most = cond-le_one (any_pending (log ++ row ∷ [])) in
     let none : ◌≡◌ {A = ℕ} (cond (any_pending log) 1 0) 0 = ap (λ b. cond b 1 0) settled in
     omega (arith, most, none, within, length-append log (row ∷ []))
 

@@ -1,9 +1,8 @@
 -- What an ask comes to at a core, by what is answered there.
-use Rattle.std.proofs.Common.{◌≡◌, ◌<◌, ◌++◌, ◌∷◌, ℕ, List, Some, All, Contains, Result, Ok, Err, IfOk, IfErr, OnErr, length, take, refl, sym, ap, ◌∙◌, subst, arith}
+use Rattle.std.proofs.Common.{◌≡◌, ◌<◌, ◌++◌, ◌∷◌, ℕ, List, All, Contains, Result, Ok, Err, IfOk, IfErr, OnErr, length, take, refl, sym, ap, ◌∙◌, subst, arith}
 use Rattle.std.proofs.lemmas.List.{drop_all, take_all}
 use Rattle.std.proofs.lemmas.List.Elements.{All-nil, Contains-append_right}
-use Rattle.std.proofs.lemmas.Option.{get_or_from_slice_get, slice_get_within}
-use Rattle.std.specs.List.{slice_get}
+use Rattle.tc_lists.proofs.Places.{Contains-slice_get}
 use Rattle.tc_asks.specs.Operands.{IsFaultOf}
 use Rattle.tc_asks.specs.declared.operands.OperandFault.{OperandFault}
 use Rattle.tc_asks.specs.declared.operands.OperandFault.TheVariants as fault
@@ -32,10 +31,6 @@ use Rattle.tc_model.specs.declared.entries.Entry.TheVariants.{Called}
 use Rattle.tc_policy.specs.Places.{IsFirstNumber}
 use Rattle.tc_policy.specs.declared.grants.Grant.{Grant}
 use Rattle.tc_runner.specs.Results.{Changes, refusal_of, result_of}
-
--- what stands at a place is an element
-pub Contains-slice_get : {X : Type 0} (xs : List X) (k : ℕ) (x : X) → slice_get xs k ≡ Some x → Contains xs x
-Contains-slice_get xs k x at = (k, slice_get_within xs k x at, get_or_from_slice_get xs k x x at)
 
 -- a grant that has a number stands among the grants
 pub Contains-first : (g : Grant) (grants : List Grant) (number : ℕ) → IsFirstNumber g grants number → Contains grants g

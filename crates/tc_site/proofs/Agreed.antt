@@ -9,7 +9,7 @@ use Rattle.tc_centre.specs.Centre.{Centre}
 use Rattle.tc_desk.specs.Agreeing.{Agrees, AreLonger, HasRow, IsLonger}
 use Rattle.tc_desk.specs.declared.rows.LogRow.{LogRow}
 use Rattle.tc_desk.proofs.Growing.{Agrees-longer}
-use Rattle.tc_lists.proofs.Elements.{All-slice_get}
+use Rattle.tc_lists.proofs.Elements.{All-slice_get, All-from_slice_get}
 use Rattle.tc_model.specs.Calls.{id_of, is_call_of, calls_of}
 use Rattle.tc_model.specs.State.{Origin}
 use Rattle.tc_model.specs.declared.entries.Entry.{Entry}
@@ -18,7 +18,7 @@ use Rattle.tc_turn.specs.Passes.{TurnstileState, PassState}
 use Rattle.tc_site.specs.Columns.{AreClosedFrom, AreColumns, IsClosedAt, IsSeenBy}
 use Rattle.tc_site.specs.Sites.{SiteState, EndedState, AllAgree, AreClosed, AreOfSite, ArePasses, AgreesSeen, HasPasses, IsEndedDesk, IsSite, histories_of, origins_of}
 use Rattle.tc_lists.proofs.Sets.{slice_get-as_long, slice_get-map_at, slice_get-map_from}
-use Rattle.tc_site.proofs.Sweeps.{All-each, AllZip-at}
+use Rattle.tc_lists.proofs.Zips.{AllZip-slice_get}
 use Rattle.tc_site.proofs.Taken.{closed-at, closed-origins}
 
 -- the agent has made nothing behind what its pass has seen
@@ -85,7 +85,7 @@ module _ {W : Type 0} (s : SiteState W) (es : List (EndedState W)) (columns : Li
   passes-at : (agent : ℕ) (column : List (PassState Entry Origin)) → slice_get columns agent ≡ Some column
       → ArePasses agent s.centres column × All (λ (p : PassState Entry Origin). p.holds ≡ false) column
   passes-at agent column at =
-      let e = AllZip-at (λ (d : EndedState W) (passes : List (PassState Entry Origin)). IsEndedDesk d passes) es columns zip agent column at in
+      let e = AllZip-slice_get (λ (d : EndedState W) (passes : List (PassState Entry Origin)). IsEndedDesk d passes) es columns agent column zip at in
       let is = every.each agent e.0 e.1 in (
         subst (λ n. ArePasses n s.centres column) is.1 (subst (λ (t : SiteState W). ArePasses e.0.agent t.centres column) is.0 e.2.are),
         e.2.free,
@@ -102,7 +102,7 @@ module _ {W : Type 0} (s : SiteState W) (es : List (EndedState W)) (columns : Li
   all-agree cores logs closed are agent log at =
       let e = slice_get-map_from (λ (d : EndedState W). d.log) es agent log (subst (λ ls. slice_get ls agent ≡ Some log) are at) in
       let column = slice_get-as_long es columns agent e.0 (columns-count ∙ sym every.whole) e.1 in
-      let d = AllZip-at (λ (d : EndedState W) (passes : List (PassState Entry Origin)). IsEndedDesk d passes) es columns zip agent column.0 column.1 in
+      let d = AllZip-slice_get (λ (d : EndedState W) (passes : List (PassState Entry Origin)). IsEndedDesk d passes) es columns agent column.0 zip column.1 in
       let is = every.each agent d.0 d.1 in
       let log_is : d.0.log ≡ log = ap (λ (f : EndedState W). f.log) (same_Some d.0 e.0 (sym d.1 ∙ e.1)) ∙ e.2 in
       let agrees : AgreesSeen s.centres s.names column.0 agent log =
@@ -114,14 +114,14 @@ module _ {W : Type 0} (s : SiteState W) (es : List (EndedState W)) (columns : Li
   pub are-closed : (cores : List Centre) → AreClosedFrom columns 0 s.centres cores → AreClosed s cores
   are-closed cores closed = record {
     origins = closed-origins columns 0 s.centres cores closed;
-    rest = All-each (λ (x : Centre). IsAtRest x.origin x.history) cores
+    rest = All-from_slice_get (λ (x : Centre). IsAtRest x.origin x.history) cores
         (λ k x at. (closed-at columns 0 s.centres cores closed k x at).2.left.rest);
   }
 
   pub others-none : (cores : List Centre) → AreClosedFrom columns 0 s.centres cores → IsSite s.names s.centres s.roles → (agent : ℕ) → length s.roles ≤ agent
       → All (λ (x : Centre). calls_of agent x.history ≡ []) cores
   others-none cores closed site agent past =
-      All-each (λ (x : Centre). calls_of agent x.history ≡ []) cores
+      All-from_slice_get (λ (x : Centre). calls_of agent x.history ≡ []) cores
       (λ k x at.
       let t = closed-at columns 0 s.centres cores closed k x at in
       let have = All-slice_get (HasPasses (length s.roles)) s.centres k t.0 site.passes t.1 in

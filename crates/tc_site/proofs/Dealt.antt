@@ -7,7 +7,7 @@ use Rattle.std.proofs.lemmas.List.Elements.{All-push}
 use Rattle.std.proofs.lemmas.Option.{none-some, same_Some}
 use Rattle.tc_centre.specs.Centre.{Centre}
 use Rattle.tc_lists.proofs.Elements.{All-slice_get}
-use Rattle.tc_lists.proofs.Places.{slice_get_push}
+use Rattle.tc_lists.proofs.Places.{slice_get_push, slice_get_seam}
 use Rattle.tc_model.specs.State.{Origin}
 use Rattle.tc_model.specs.declared.entries.Entry.{Entry}
 use Rattle.tc_shared.specs.Passes.{IsFreshPassOf, IsPassOf}
@@ -15,8 +15,9 @@ use Rattle.tc_turn.specs.Passes.{TurnstileState, PassState, new_pass, new_passes
 use Rattle.tc_site.specs.Columns.{AreDealt, AreFreshColumns, AreOpened, columns_of}
 use Rattle.tc_site.specs.Sites.{KitState, SiteState, AreFresh, HasPasses, IsOwnPass, TURNS}
 use Rattle.tc_lists.proofs.Sets.{slice_get-as_long, slice_get-map_at}
-use Rattle.tc_desk.proofs.Growing.{slice_get_middle}
-use Rattle.tc_site.proofs.Sweeps.{Swept, both-push, swept-all, turned}
+use Rattle.tc_lists.proofs.Zips.{slice_get-push_both}
+use Rattle.tc_lists.proofs.Parts.{append_onward}
+use Rattle.tc_site.proofs.Sweeps.{Swept, swept-all}
 
 -- the pass at a place of a new turnstile's
 pub new-pass-at : (t : TurnstileState Origin) (origin : Origin) (turns k n agent : ℕ) (p : PassState Entry Origin)
@@ -36,10 +37,10 @@ pub AreFresh-push : (agent : ℕ) (centres : List (TurnstileState Origin)) (colu
 AreFresh-push agent centres column t p fresh own is = record {
   are = record {
     wide = length-append column (p ∷ []) ∙ ap (λ n. n + 1) fresh.are.wide ∙ sym (length-append centres (t ∷ []));
-    each = both-push (IsOwnPass agent) centres column t p fresh.are.wide fresh.are.each
+    each = slice_get-push_both (IsOwnPass agent) centres column t p fresh.are.wide fresh.are.each
         (record { own = own; number = ap (λ (q : PassState Entry Origin). q.number) is });
   };
-  fresh = both-push (λ (s : TurnstileState Origin) (q : PassState Entry Origin). q ≡ new_pass s.table s.origin TURNS agent)
+  fresh = slice_get-push_both (λ (s : TurnstileState Origin) (q : PassState Entry Origin). q ≡ new_pass s.table s.origin TURNS agent)
       centres column t p fresh.are.wide fresh.fresh is;
 }
 
@@ -83,7 +84,7 @@ pub dealing-more : (passes left next : List (PassState Entry Origin)) (p : PassS
     → IsDealing passes next (index + 1)
 dealing-more passes left next p index dealing is = record {
   dealt = dealing.dealt ++ p ∷ [];
-  whole = turned passes dealing.dealt left p next dealing.whole is;
+  whole = append_onward passes dealing.dealt left p next dealing.whole is;
   count = length-append dealing.dealt (p ∷ []) ∙ ap (λ n. n + 1) dealing.count;
 }
 
@@ -92,7 +93,7 @@ pub dealing-at : (passes left next : List (PassState Entry Origin)) (p : PassSta
     → slice_get passes index ≡ Some p
 dealing-at passes left next p index dealing is =
     subst (λ n. slice_get passes n ≡ Some p) dealing.count
-    (ap (λ ps. slice_get ps (length dealing.dealt)) (dealing.whole ∙ ap (λ ps. dealing.dealt ++ ps) is) ∙ slice_get_middle dealing.dealt p next)
+    (ap (λ ps. slice_get ps (length dealing.dealt)) (dealing.whole ∙ ap (λ ps. dealing.dealt ++ ps) is) ∙ slice_get_seam dealing.dealt p next)
 
 pub AreDealt-all : (olds : List (List (PassState Entry Origin))) (passes : List (PassState Entry Origin)) (news : List (List (PassState Entry Origin))) (index : ℕ)
     → Swept (HasGot passes) olds news index → length olds ≤ index → AreDealt olds passes news
@@ -108,7 +109,7 @@ pub fresh-next : (centres : List (TurnstileState Origin)) (vecs so_far rest next
 fresh-next centres vecs so_far rest next v from is fresh =
     fresh (length so_far) v.items
     (slice_get-map_at (λ (w : Vec (PassState Entry Origin) Global). w.items) vecs (length so_far) v
-    (ap (λ ws. slice_get ws (length so_far)) (from ∙ ap (λ ws. so_far ++ ws) is) ∙ slice_get_middle so_far v next))
+    (ap (λ ws. slice_get ws (length so_far)) (from ∙ ap (λ ws. so_far ++ ws) is) ∙ slice_get_seam so_far v next))
 
 -- a kit more, of the agent who is next
 pub kits-more : {W : Type 0} (s : SiteState W) (kits : List (KitState W)) (kit : KitState W) (n : ℕ) → length kits ≡ n

@@ -19,8 +19,8 @@ use Rattle.tc_site.specs.Pausing.{HasNoneLeft, HoldsTurn, Pauses, Resumes}
 use Rattle.tc_site.specs.Sites.{IsSite, histories_of, origins_of}
 use Rattle.tc_site.specs.Turns.{HasGrown}
 use Rattle.tc_site.proofs.Calling.{are-set}
-use Rattle.tc_lists.proofs.Sets.{map-set_both, map-set_like, slice_get-set_other, slice_get-set_same, slice_get_inside}
-use Rattle.tc_site.proofs.Told.{at-pass, index-at, index-set_other, set-self}
+use Rattle.tc_lists.proofs.Sets.{map-set_both, map-set_like, slice_get-set_other, slice_get-set_same, slice_get_inside, set-slice_get}
+use Rattle.tc_site.proofs.Told.{at-pass, index-at, index-set_other}
 use Rattle.tc_site.proofs.Turned.{desk-longer, none-held, pass-free}
 
 is-set : (passes : List (PassState Entry Origin)) (place k : ℕ) (p q x : PassState Entry Origin) → slice_get passes place ≡ Some p → slice_get (set passes place q) k ≡ Some x
@@ -56,7 +56,7 @@ module _ {W : Type 0} (d : AgentState W) (place : ℕ) (p q : PassState Entry Or
   with_passes passes = record { site = d.site; agent = d.agent; passes = passes; log = d.log; pending = d.pending; held = d.held }
 
   spent-passes : set d.passes place q ≡ d.passes
-  spent-passes = ap (λ x. set d.passes place x) spent.1 ∙ set-self d.passes place p at-p
+  spent-passes = ap (λ x. set d.passes place x) spent.1 ∙ set-slice_get d.passes place p at-p
 
   pub spent-still : (s : AgentState W) → d ≡ s
       → HasNoneLeft s place (record { site = d.site; agent = d.agent; passes = set d.passes place q; log = d.log; pending = d.pending; held = d.held })

@@ -22,7 +22,7 @@ use Rattle.tc_desk.specs.declared.rows.LogResult.TheVariants.{Refused, Polled}
 use Rattle.tc_desk.specs.declared.rows.LogRow.{LogRow}
 use Rattle.tc_desk.specs.declared.rows.Refusal.TheVariants as refusal
 use Rattle.tc_desk.proofs.Fitting.{reply-fits_ask}
-use Rattle.tc_lists.proofs.Places.{slice_get_push, slice_get_pushed}
+use Rattle.tc_lists.proofs.Places.{slice_get_push, slice_get_pushed, Contains-slice_get}
 use Rattle.tc_model.specs.Calls.{id_of, same_id}
 use Rattle.tc_model.specs.Replies.{reply_in}
 use Rattle.tc_model.specs.State.{Origin}
@@ -42,11 +42,11 @@ use Rattle.tc_site.specs.Sites.{IsOwnPass, IsSite, histories_of}
 use Rattle.tc_site.specs.Turns.{HasGrown}
 use Rattle.tc_site.specs.declared.waiting.WaitingAt.{WaitingAt}
 use Rattle.tc_site.proofs.Calling.{grown-same, grown-sees}
-use Rattle.tc_lists.proofs.Sets.{slice_get-map_at, slice_get-set_same}
+use Rattle.tc_lists.proofs.Sets.{slice_get-map_at, slice_get-set_same, set-slice_get}
 use Rattle.tc_site.proofs.Putting.{put-settled, unserved-settled}
 use Rattle.tc_site.proofs.Seeing.{HasSeen, answered-desk, answered-read, answered-sound, later-desk, none-left, pending-row, pending-some, row-at, same-desk, seen-same, seen-sees, stands}
-use Rattle.tc_site.proofs.Told.{Goes, goes-after, goes-same, keeps-gone, set-self, spends-gone, takes-gone}
-use Rattle.tc_site.proofs.Turned.{desk-pushed, has-name, own-pass, pass-free, pass-next, rows-made, rows-same, waits-behind, was-full}
+use Rattle.tc_site.proofs.Told.{Goes, goes-after, goes-same, keeps-gone, spends-gone, takes-gone}
+use Rattle.tc_site.proofs.Turned.{desk-pushed, own-pass, pass-free, pass-next, rows-made, rows-same, waits-behind, was-full}
 
 -- a log with a row of a poll behind it
 module _ (log : List LogRow) (centre : List ℕ) (result : LogResult) where
@@ -196,7 +196,7 @@ module _ {W : Type 0} (d : AgentState W) (is : IsDesk d) (site : IsSite d.site.n
       told-desk : IsDesk (now (with_row d.log centre None (Polled m.reply)) (Some w))
       told-desk =
           desk-pushed d is site free w.centre centre waiting.named t p at-t at-p q keeps row (Some w) refl refl told-grown told-agrees
-          (has-name d.site.names w.centre centre waiting.named)
+          (Contains-slice_get d.site.names w.centre centre waiting.named)
           (rows-made d is site free w.centre centre waiting.named t p at-t at-p q keeps row entry mine-is entry-row)
           (waits-behind d.site.names d.log w row waiting refl)
 
@@ -275,7 +275,7 @@ module _ {W : Type 0} (d : AgentState W) (is : IsDesk d) (site : IsSite d.site.n
       found-desk : IsDesk (now log None)
       found-desk =
           subst (λ xs. IsDesk (record { site = d.site; agent = d.agent; passes = xs; log = log; pending = None; held = d.held }))
-          (set-self (set d.passes w.centre q) w.centre q at-q)
+          (set-slice_get (set d.passes w.centre q) w.centre q at-q)
           (answered-desk d1 is1 site w waiting1 t q at-t at-q q kept1 keeps.free (seen-same q q refl) log has)
 
       found-read : IsRead d.log → IsRead log
@@ -342,7 +342,7 @@ module _ {W : Type 0} (d : AgentState W) (is : IsDesk d) (site : IsSite d.site.n
           (desk-pushed d is site free w.centre centre waiting.named t p at-t at-p q keeps (row-of full) (Some w) refl refl
           (grown-sees t p q (length d.log) h.sees)
           (was-full d is site free w.centre centre waiting.named t p at-t at-p q keeps weight many h)
-          (has-name d.site.names w.centre centre waiting.named)
+          (Contains-slice_get d.site.names w.centre centre waiting.named)
           (rows-same d is site free w.centre centre waiting.named t p at-t at-p q keeps (row-of full)
           (ap (λ (x : PassState Entry Origin). x.mine) h.sees.after))
           (waits-behind d.site.names d.log w (row-of full) waiting refl))
@@ -384,7 +384,7 @@ module _ {W : Type 0} (d : AgentState W) (is : IsDesk d) (site : IsSite d.site.n
           (ap (λ (x : PassState Entry Origin). x.turns) room.sees.after);
         }))
         (λ (same : q ≡ p).
-        let whole : set d.passes w.centre q ≡ d.passes = ap (λ x. set d.passes w.centre x) same ∙ set-self d.passes w.centre p at-p in
+        let whole : set d.passes w.centre q ≡ d.passes = ap (λ x. set d.passes w.centre x) same ∙ set-slice_get d.passes w.centre p at-p in
         inl (record { turns = ap turns_of whole; seen = ap counts_of whole }))
         lost
 

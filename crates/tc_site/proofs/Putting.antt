@@ -1,11 +1,11 @@
 -- The reply to a pending row, put into the log, and what holds of the log then.
-use Rattle.std.proofs.Common.{◌≡◌, ◌≢◌, ℕ, ◌<◌, ◌||◌, false, List, [], ◌∷◌, ◌++◌, Some, AllPairs, Contains, length, get_or, set, refl, sym, ap, ◌∙◌, subst, arith, ⊎_elim}
+use Rattle.std.proofs.Common.{◌≡◌, ◌≢◌, ℕ, ◌||◌, false, List, [], ◌∷◌, ◌++◌, Some, Contains, length, get_or, set, refl, sym, ap, ◌∙◌, subst, arith, ⊎_elim}
 use Rattle.std.specs.List.{slice_get, list_any}
-use Rattle.std.proofs.lemmas.Bool.{cases_eq, cases_order, or_from, or_parts, true≢false}
+use Rattle.std.proofs.lemmas.Bool.{cases_eq, or_from, or_parts, true≢false}
 use Rattle.std.proofs.lemmas.List.{length-append, set_at}
 use Rattle.std.proofs.lemmas.List.Folds.{list_any-append}
-use Rattle.std.proofs.lemmas.Option.{same_Some, slice_get_within, get_or_from_slice_get}
-use Rattle.tc_desk.proofs.Growing.{slice_get_middle, slice_get_beside}
+use Rattle.std.proofs.lemmas.Option.{same_Some, get_or_from_slice_get}
+use Rattle.tc_lists.proofs.Places.{slice_get_seam, slice_get_beside}
 use Rattle.tc_desk.specs.Decided.{IsDecided, IsDecidedAs, IsRead, IsReadAs}
 use Rattle.tc_desk.specs.Desks.{replied}
 use Rattle.tc_desk.specs.Logs.{any_pending, is_pending, is_served}
@@ -23,19 +23,9 @@ pub put-set : (log front : List LogRow) (row x : LogRow) (back : List LogRow) (r
 put-set log front row x back reply place from here value =
     let is : x ≡ row =
     value ∙ ap (λ l. get_or l place x) from ∙ ap (λ k. get_or (front ++ row ∷ back) k x) here
-    ∙ get_or_from_slice_get (front ++ row ∷ back) (length front) row x (slice_get_middle front row back) in
+    ∙ get_or_from_slice_get (front ++ row ∷ back) (length front) row x (slice_get_seam front row back) in
     ap (λ l. set l place (replied x reply)) from ∙ set_at front row back (replied x reply) place (sym here)
     ∙ ap (λ r. front ++ replied r reply ∷ back) is
-
--- an element stands at one place of a list whose elements differ
-pub one_place : (xs : List (List ℕ)) (i j : ℕ) (x : List ℕ) → AllPairs ◌≢◌ xs → slice_get xs i ≡ Some x → slice_get xs j ≡ Some x → i ≡ j
-one_place xs i j x differ at-i at-j =
-    let apart : (k n : ℕ) → k < n → slice_get xs k ≡ Some x → slice_get xs n ≡ Some x → ⊥ =
-    λ k n before at-k at-n.
-    differ k n x before (slice_get_within xs n x at-n)
-    (get_or_from_slice_get xs k x x at-k ∙ sym (get_or_from_slice_get xs n x x at-n)) in
-    ⊎_elim (λ same. same)
-    (λ rest. ⊎_elim (λ less. absurd (apart i j less at-i at-j)) (λ more. absurd (apart j i more at-j at-i)) rest) (cases_order i j)
 
 -- a row that is pending was served
 pending-served : (result : LogResult) → is_served result ≡ false → is_pending result ≡ false
@@ -61,7 +51,7 @@ module _ (front : List LogRow) (row : LogRow) (back : List LogRow) (reply : Repl
   put-contains = (
     length front,
     omega (arith, length-append front (row ∷ back)),
-    get_or_from_slice_get before (length front) row row (slice_get_middle front row back),
+    get_or_from_slice_get before (length front) row row (slice_get_seam front row back),
   )
 
   -- no row is pending any more
@@ -73,10 +63,10 @@ module _ (front : List LogRow) (row : LogRow) (back : List LogRow) (reply : Repl
   -- a row of the log with the reply is a row as it was, or the one that has the reply
   module _ (k : ℕ) (x : LogRow) (at : slice_get (front ++ replied row reply ∷ back) k ≡ Some x) where
     here : k ≡ length front → x ≡ replied row reply
-    here is = same_Some x (replied row reply) (sym at ∙ ap (slice_get after) is ∙ slice_get_middle front (replied row reply) back)
+    here is = same_Some x (replied row reply) (sym at ∙ ap (slice_get after) is ∙ slice_get_seam front (replied row reply) back)
 
     was : k ≡ length front → slice_get (front ++ row ∷ back) k ≡ Some row
-    was is = ap (slice_get before) is ∙ slice_get_middle front row back
+    was is = ap (slice_get before) is ∙ slice_get_seam front row back
 
     beside : (k ≡ length front → ⊥) → slice_get (front ++ row ∷ back) k ≡ Some x
     beside other = slice_get_beside front row (replied row reply) back k other ∙ at

@@ -1,5 +1,5 @@
 -- A desk whose pass of the pending row's centre has seen more.
-use Rattle.std.proofs.Common.{◌≡◌, ℕ, zero, suc, ◌+◌, ◌-◌, ◌<◌, ◌≤◌, ◌||◌, Bool, true, false, List, [], ◌∷◌, ◌++◌, Option, Some, None, Ok, Err, MatchResult, Result, All, Contains, length, map, get_or, set, refl, sym, ap, ◌∙◌, subst, arith, ◌⊎◌, inl, inr, ⊎_elim}
+use Rattle.std.proofs.Common.{◌≡◌, ℕ, zero, suc, ◌+◌, ◌-◌, ◌<◌, ◌≤◌, ◌||◌, true, false, List, [], ◌∷◌, ◌++◌, Option, Some, None, Ok, Err, MatchResult, Result, All, Contains, length, map, get_or, set, refl, sym, ap, ◌∙◌, subst, arith, ◌⊎◌, inl, inr, ⊎_elim}
 use Rattle.std.specs.List.{slice_get, slice_index}
 use Rattle.std.specs.Option.{is_none}
 use mathlib.Core.List.{IsPrefix}
@@ -8,8 +8,9 @@ use Rattle.std.proofs.lemmas.List.{append-nil, length-append, length-map, length
 use Rattle.std.proofs.lemmas.List.Elements.{All-nil}
 use Rattle.std.proofs.lemmas.List.Folds.{list_any-append}
 use Rattle.std.proofs.lemmas.Option.{same_Some, slice_get_read, slice_get_within, get_or_from_slice_get}
+use Rattle.std.proofs.Math.Bool.{or-true}
 use Rattle.tc_desk.proofs.Fitting.{reply-fits_ask}
-use Rattle.tc_desk.proofs.Growing.{Agrees-answered, Agrees-longer, slice_get_middle}
+use Rattle.tc_desk.proofs.Growing.{Agrees-answered, Agrees-longer}
 use Rattle.tc_desk.specs.Agreeing.{Agrees, AgreesRow, HasReply, HasRow, HaveRows, numbered}
 use Rattle.tc_desk.specs.Decided.{IsDecided, IsRead}
 use Rattle.tc_desk.specs.Desks.{DeskState, Gets, HasNoTurn, IsPendingRow, Keeps, Leaves, Looks, Spends, Stays, TakesTurn, TakesTurnAtPending, replied}
@@ -40,7 +41,9 @@ use Rattle.tc_site.specs.Turns.{HasGrown}
 use Rattle.tc_site.specs.declared.waiting.WaitingAt.{WaitingAt}
 use Rattle.tc_site.proofs.Calling.{are-set, longer-set}
 use Rattle.tc_lists.proofs.Sets.{slice_get-map_at, slice_get-map_from, slice_get-set_other, slice_get-set_same}
-use Rattle.tc_site.proofs.Putting.{one_place, put-contains, put-decided, put-read, put-settled, unserved-settled}
+use Rattle.tc_lists.proofs.Places.{slice_get_seam}
+use Rattle.tc_lists.proofs.Pairs.{AllPairs-one_place}
+use Rattle.tc_site.proofs.Putting.{put-contains, put-decided, put-read, put-settled, unserved-settled}
 use Rattle.tc_site.proofs.Turned.{none-held}
 
 -- the pass q is p, which has seen more; its agent has made nothing more
@@ -90,10 +93,6 @@ module _ (f : PassState Entry Origin → ℕ) where
         subst (R (slice_index (map f xs) k)) (sym (index-other xs place k q other)) (same (slice_index (map f xs) k)))
         (cases_eq k place)
 
-or-true : (b : Bool) → (b || true) ≡ true
-or-true true = refl
-or-true false = refl
-
 any-middle : (front : List LogRow) (row : LogRow) (back : List LogRow) → row.result ≡ Pending → any_pending (front ++ row ∷ back) ≡ true
 any-middle front row back pending =
     list_any-append (λ (r : LogRow). is_pending r.result) front (row ∷ back)
@@ -119,7 +118,7 @@ module _ {W : Type 0} (d : AgentState W) (is : IsDesk d) (site : IsSite d.site.n
   pub stands : slice_get d.log w.row ≡ Some waiting.row_is
   stands =
       ap (λ l. slice_get l w.row) waiting.from ∙ ap (slice_get (waiting.front ++ waiting.row_is ∷ waiting.back)) waiting.place
-      ∙ slice_get_middle waiting.front waiting.row_is waiting.back
+      ∙ slice_get_seam waiting.front waiting.row_is waiting.back
 
   pub pending-row : IsPendingRow d.log waiting.row_is
   pending-row = record {
@@ -286,7 +285,7 @@ module _ {W : Type 0} (d : AgentState W) (is : IsDesk d) (site : IsSite d.site.n
         has-reply = record {
           pending = waiting.pending;
           told = λ k history named there.
-              let place = one_place d.site.names k w.centre waiting.row_is.centre site.differ named waiting.named in
+              let place = AllPairs-one_place d.site.names k w.centre waiting.row_is.centre site.differ named waiting.named in
               let e : history ≡ q.seen = same_Some history q.seen (sym there ∙ ap (slice_get (histories_of later)) place ∙ seen-at) in
               ap (λ h. reply_in h (numbered d.agent (length waiting.front + 1))) e
               ∙ ap (λ n. reply_in q.seen (numbered d.agent (n + 1))) (sym waiting.place) ∙ told-at;

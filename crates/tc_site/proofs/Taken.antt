@@ -8,7 +8,7 @@ use Rattle.std.proofs.lemmas.Option.{none-some, same_Some, get_or_from_slice_get
 use Rattle.tc_centre.specs.Centre.{Centre}
 use Rattle.tc_centre.specs.Owners.{owner_of}
 use Rattle.tc_centre.proofs.Owned.{owned-calls}
-use Rattle.tc_lists.proofs.Elements.{All-append_left, All-last, All-slice_get}
+use Rattle.tc_lists.proofs.Elements.{All-append_left, All-last, All-slice_get, All-from_slice_get}
 use Rattle.tc_lists.proofs.Places.{slice_get_longer, slice_get_pushed}
 use Rattle.tc_lists.proofs.Prefixes.{IsPrefix-front, IsPrefix-whole, slice_get-IsPrefix}
 use Rattle.tc_lists.proofs.Reversals.{reverse_push}
@@ -23,7 +23,8 @@ use Rattle.tc_turn.specs.Passes.{TurnstileState, PassState, end_of, ended_count,
 use Rattle.tc_site.specs.Columns.{AreClosedFrom, AreColumns, AreTaken, HasLast, HaveLasts, IsClosedAt, IsClosedOver, IsSeenBy, LosesLast}
 use Rattle.tc_site.specs.Sites.{ArePasses, IsOwnPass}
 use Rattle.tc_lists.proofs.Sets.{slice_get-as_long, slice_get_inside}
-use Rattle.tc_site.proofs.Sweeps.{All-each, Swept, last-of, swept-all, swept-step, swept-weaker}
+use Rattle.tc_lists.proofs.Parts.{push_from_length}
+use Rattle.tc_site.proofs.Sweeps.{Swept, swept-all, swept-step, swept-weaker}
 use Rattle.std.proofs.Math.ListN.{set}
 
 -- the passes that were popped are the last ones
@@ -48,7 +49,7 @@ module _ (t : TurnstileState Origin) (olds : List (List (PassState Entry Origin)
 
   pub taken-own : All (λ (e : turnstile.EndedState Entry). e.table ≡ t.table) row
   taken-own =
-      All-each (λ (e : turnstile.EndedState Entry). e.table ≡ t.table) row
+      All-from_slice_get (λ (e : turnstile.EndedState Entry). e.table ≡ t.table) row
       (λ agent e at. let loses = (taken-at agent e at).2 in
       ap (λ (f : turnstile.EndedState Entry). f.table) loses.end_is ∙ loses.own.own.own.0)
 
@@ -142,7 +143,7 @@ pub have-lasts : (ts : List (TurnstileState Origin)) (t : TurnstileState Origin)
 have-lasts ts t columns columns_are agent column at =
     let are = columns_are.are agent column at in
     let long : length column ≡ length ts + 1 = are.wide ∙ length-append ts (t ∷ []) in
-    let split = last-of column (length ts) long in
+    let split = push_from_length column (length ts) long in
     let front = split.0 in
     let p = split.1 in
     let short : length front ≡ length ts =

@@ -9,7 +9,7 @@ use Rattle.std.proofs.lemmas.Bool.{true≢false}
 use Rattle.std.proofs.lemmas.List.{length-append, length-map, length-set}
 use Rattle.std.proofs.lemmas.List.Elements.{Contains-append_right}
 use Rattle.std.proofs.lemmas.Option.{none-some, same_Some, slice_get_read, slice_get_within, get_or_from_slice_get}
-use Rattle.tc_lists.proofs.Places.{slice_get_push}
+use Rattle.tc_lists.proofs.Places.{slice_get_push, Contains-slice_get}
 use Rattle.tc_centre.specs.declared.answers.Answer.{Answer}
 use Rattle.tc_centre.specs.declared.answers.Answer.TheVariants as answer
 use Rattle.tc_desk.specs.Agreeing.{numbered}
@@ -44,8 +44,9 @@ use Rattle.tc_site.specs.Judging.{IsAllowed, IsRefusedFor}
 use Rattle.tc_site.specs.Sites.{IsSite, histories_of}
 use Rattle.tc_site.specs.Turns.{HasGrown, IsTurn, IsTurnRefused, told_of, waiting_of}
 use Rattle.tc_site.specs.declared.waiting.WaitingAt.{WaitingAt}
-use Rattle.tc_lists.proofs.Sets.{slice_get-map_at, slice_get-set_same}
-use Rattle.tc_site.proofs.Turned.{has-name, idle-log, same-place}
+use Rattle.tc_lists.proofs.Sets.{slice_get-map_at, slice_get-set_same, set-slice_get}
+use Rattle.tc_lists.proofs.Pairs.{AllPairs-one_place}
+use Rattle.tc_site.proofs.Turned.{idle-log}
 
 -- the numbers of a list in which one element is replaced
 module _ {X : Type 0} (f : X → ℕ) where
@@ -66,11 +67,6 @@ module _ {X : Type 0} (f : X → ℕ) where
 
   pub index-at : (xs : List X) (place : ℕ) (x : X) → slice_get xs place ≡ Some x → slice_index (map f xs) place ≡ f x
   index-at xs place x at = get_or_from_slice_get (map f xs) place (f x) 0 (slice_get-map_at f xs place x at)
-
-pub set-self : {X : Type 0} (xs : List X) (place : ℕ) (x : X) → slice_get xs place ≡ Some x → set xs place x ≡ xs
-set-self [] place x at = absurd (none-some x at)
-set-self (y ∷ ys) zero x at = ap (λ z. z ∷ ys) (sym (same_Some y x at))
-set-self (y ∷ ys) (suc place) x at = ap (λ zs. y ∷ zs) (set-self ys place x at)
 
 -- whether a row is pending, where the desk knows of one
 any_pending-at : (front : List LogRow) (row : LogRow) (back : List LogRow) → is_pending row.result ≡ true → any_pending (front ++ row ∷ back) ≡ true
@@ -297,7 +293,7 @@ module _ {W : Type 0} (permits : W → ℕ → ℕ → Primitive → Option ℕ)
 
   ready : IsReady (desk_of d) centre
   ready = record {
-    known = has-name d.site.names place centre allowed.named;
+    known = Contains-slice_get d.site.names place centre allowed.named;
     idle = idle-log d.site.names d.log d.pending is.waits none-pending;
   }
 
@@ -351,7 +347,7 @@ module _ {W : Type 0} (permits : W → ℕ → ℕ → Primitive → Option ℕ)
 
   spent-still : q ≡ p → StandsStill (desk_of d) (desk_of (then (Refused refusal.TurnsSpent)))
   spent-still same =
-      let whole : set d.passes place q ≡ d.passes = ap (λ x. set d.passes place x) same ∙ set-self d.passes place p at-p in
+      let whole : set d.passes place q ≡ d.passes = ap (λ x. set d.passes place x) same ∙ set-slice_get d.passes place p at-p in
       record { turns = ap turns_of whole; seen = ap counts_of whole }
 
   none-left : p.turns ≡ 0 → HasNoTurn (desk_of d) centre
@@ -435,7 +431,7 @@ module _ {W : Type 0} (permits : W → ℕ → ℕ → Primitive → Option ℕ)
       (decided-row d.log centre ask became (Permits permits d.site.warden role) d.site.names (read-turn t p q (row + 1) ask op became sound turn)
       (λ place' named.
       subst (λ n. IsDecidedAs (Permits permits d.site.warden role n (primitive_of ask)) became)
-      (same-place d.site.names place place' centre differ allowed.named named)
+      (AllPairs-one_place d.site.names place place' centre differ allowed.named named)
       (decided-turn t p q (Permits permits d.site.warden role place (primitive_of ask)) (row + 1) op became may turn))
       (decided role has))
 
@@ -471,7 +467,7 @@ module _ {W : Type 0} (permits : W → ℕ → ℕ → Primitive → Option ℕ)
 
   ready-at : (place : ℕ) → slice_get d.site.names place ≡ Some centre → waits ≡ false → IsReady (desk_of d) centre
   ready-at place named idle = record {
-    known = has-name d.site.names place centre named;
+    known = Contains-slice_get d.site.names place centre named;
     idle = idle-log d.site.names d.log d.pending is.waits (sym waits-is ∙ idle);
   }
 
@@ -507,12 +503,12 @@ module _ {W : Type 0} (permits : W → ℕ → ℕ → Primitive → Option ℕ)
 
     moved : (r n : ℕ) → slice_get d.site.roles d.agent ≡ Some r → slice_get d.site.names n ≡ Some centre → May r n → May role place
     moved r n has' named' may =
-        subst (May role) (same-place d.site.names n place centre differ named' named)
+        subst (May role) (AllPairs-one_place d.site.names n place centre differ named' named)
         (subst (λ r'. May r' n) (same_Some r role (sym has' ∙ has)) may)
 
     moved-back : (r n : ℕ) → slice_get d.site.roles d.agent ≡ Some r → slice_get d.site.names n ≡ Some centre → May role place → May r n
     moved-back r n has' named' may =
-        subst (May r) (same-place d.site.names place n centre differ named named')
+        subst (May r) (AllPairs-one_place d.site.names place n centre differ named named')
         (subst (λ r'. May r' place) (same_Some role r (sym has ∙ has')) may)
 
     decided-refused : (why : Refusal) → (why ≡ refusal.NoMemory → ⊥) → IsRefused why → IsDecidedAs (May role place) (Refused why)

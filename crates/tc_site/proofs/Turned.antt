@@ -1,18 +1,18 @@
 -- A desk after a call: a pass of it has gone on, its log has a row more, and that row may be pending.
-use Rattle.std.proofs.Common.{◌≡◌, ◌≢◌, ℕ, ◌+◌, ◌<◌, ◌≤◌, Bool, true, false, List, [], ◌∷◌, ◌++◌, Option, Some, None, All, AllPairs, Contains, length, take, refl, sym, ap, ◌∙◌, subst, arith, ⊎_elim}
+use Rattle.std.proofs.Common.{◌≡◌, ◌≢◌, ℕ, ◌+◌, ◌<◌, Bool, true, false, List, [], ◌∷◌, ◌++◌, Option, Some, None, All, Contains, length, take, refl, sym, ap, ◌∙◌, subst, arith, ⊎_elim}
 use Rattle.std.specs.List.{slice_get, list_any}
 use Rattle.std.specs.Option.{is_none, is_some}
 use Rattle.std.proofs.Math.ListN.{set}
-use Rattle.std.proofs.lemmas.Bool.{cases_eq, cases_lt, or_from, true≢false, false≢true}
+use Rattle.std.proofs.lemmas.Bool.{cases_eq, or_from, true≢false, false≢true}
 use Rattle.std.proofs.lemmas.List.{append-nil, append_assoc, take-append-le, take_all, drop_all}
 use Rattle.std.proofs.lemmas.List.Elements.{All-nil, All-push, All-weaker, Contains-append_right}
 use Rattle.std.proofs.lemmas.List.Folds.{list_any-append}
-use Rattle.std.proofs.lemmas.Option.{none-some, same_Some, slice_get_within, get_or_from_slice_get}
+use Rattle.std.proofs.lemmas.Option.{none-some, same_Some, slice_get_within}
 use Rattle.tc_centre.specs.declared.answers.Answer.{Answer}
 use Rattle.tc_centre.specs.declared.answers.Answer.TheVariants as answer
 use Rattle.tc_desk.specs.Agreeing.{AgreesRefused, AgreesRow, AreLonger, HasRow, HaveRows, IsLonger, IsNextRow, NamesCentre, numbered}
 use Rattle.tc_desk.specs.Desks.{with_row}
-use Rattle.tc_desk.specs.Logs.{any_pending, is_pending, is_served}
+use Rattle.tc_desk.specs.Logs.{any_pending, is_served}
 use Rattle.tc_desk.specs.Operands.{OpOf, Sound}
 use Rattle.tc_desk.specs.Served.{IsCalled, WasFull}
 use Rattle.tc_desk.specs.declared.rows.LogResult.{LogResult}
@@ -21,7 +21,8 @@ use Rattle.tc_desk.specs.declared.rows.LogRow.{LogRow}
 use Rattle.tc_desk.specs.declared.rows.Refusal.{Refusal}
 use Rattle.tc_desk.specs.declared.rows.Refusal.TheVariants as refusal
 use Rattle.tc_desk.proofs.Growing.{Agrees-longer, Agrees-push, HaveRow-longer}
-use Rattle.tc_lists.proofs.Places.{slice_get_pushed}
+use Rattle.tc_desk.proofs.Logs.{any_pending-push_settled}
+use Rattle.tc_lists.proofs.Places.{slice_get_pushed, Contains-slice_get, slice_get_seam}
 use Rattle.tc_model.specs.Calls.{id_of, calls_of}
 use Rattle.tc_model.specs.Choices.{TheFirst}
 use Rattle.tc_model.specs.Entries.{IsFull, pending_after}
@@ -50,29 +51,7 @@ use Rattle.tc_site.specs.Turns.{HasGrown, IsTurn, waiting_of}
 use Rattle.tc_site.specs.declared.waiting.WaitingAt.{WaitingAt}
 use Rattle.tc_site.proofs.Calling.{are-set, grown-sees, longer-set}
 use Rattle.tc_lists.proofs.Sets.{slice_get-map_at, slice_get-map_from, slice_get-set_other, slice_get-set_same}
-
--- a name has one place
-pub same-place : (names : List (List ℕ)) (i j : ℕ) (name : List ℕ) → AllPairs ◌≢◌ names → slice_get names i ≡ Some name → slice_get names j ≡ Some name → i ≡ j
-same-place names i j name differ here there =
-    let a = get_or_from_slice_get names i name name here in
-    let b = get_or_from_slice_get names j name name there in
-    let m = slice_get_within names i name here in
-    let n = slice_get_within names j name there in
-    ⊎_elim (λ (before : i < j). absurd (differ i j name before n (a ∙ sym b)))
-    (λ (behind : j ≤ i).
-    ⊎_elim (λ (before : j < i). absurd (differ j i name before m (b ∙ sym a)))
-    (λ (last : i ≤ j). let same : i ≡ j = omega (arith, behind, last) in same) (cases_lt j i))
-    (cases_lt i j)
-
--- a name with a place is one of the names
-pub has-name : (names : List (List ℕ)) (place : ℕ) (name : List ℕ) → slice_get names place ≡ Some name → Contains names name
-has-name names place name at = (place, slice_get_within names place name at, get_or_from_slice_get names place name name at)
-
--- a log in which no row is pending, with one more that isn't
-pub settled-push : (log : List LogRow) (row : LogRow) → any_pending log ≡ false → is_pending row.result ≡ false → any_pending (log ++ row ∷ []) ≡ false
-settled-push log row none settled =
-    list_any-append (λ (r : LogRow). is_pending r.result) log (row ∷ [])
-    ∙ or_from (any_pending log) (any_pending (row ∷ [])) none (or_from (is_pending row.result) (any_pending []) settled refl)
+use Rattle.tc_lists.proofs.Pairs.{AllPairs-one_place}
 
 -- rows of which none was served, with one more that wasn't
 pub unserved-push : (rows : List LogRow) (row : LogRow) → list_any (λ (r : LogRow). is_served r.result) rows ≡ false → is_served row.result ≡ false
@@ -117,13 +96,13 @@ module _ (names : List (List ℕ)) (log : List LogRow) (centre : List ℕ) (ask 
     unserved_behind = refl;
     named = named;
   }
-  waits-turned place (Replied reply) named none = settled-push log (record { number = length log + 1; centre = centre; ask = Some ask; result = Replied reply }) none refl
-  waits-turned place (Refused why) named none = settled-push log (record { number = length log + 1; centre = centre; ask = Some ask; result = Refused why }) none refl
-  waits-turned place (Polled told) named none = settled-push log (record { number = length log + 1; centre = centre; ask = Some ask; result = Polled told }) none refl
+  waits-turned place (Replied reply) named none = any_pending-push_settled log (record { number = length log + 1; centre = centre; ask = Some ask; result = Replied reply }) none refl
+  waits-turned place (Refused why) named none = any_pending-push_settled log (record { number = length log + 1; centre = centre; ask = Some ask; result = Refused why }) none refl
+  waits-turned place (Polled told) named none = any_pending-push_settled log (record { number = length log + 1; centre = centre; ask = Some ask; result = Polled told }) none refl
 
   -- a row that is refused leaves what is pending
   pub waits-refused : (why : Refusal) (pending : Option WaitingAt) → WaitsAt names log pending → WaitsAt names (with_row log centre (Some ask) (Refused why)) pending
-  waits-refused why None none = settled-push log (record { number = length log + 1; centre = centre; ask = Some ask; result = Refused why }) none refl
+  waits-refused why None none = any_pending-push_settled log (record { number = length log + 1; centre = centre; ask = Some ask; result = Refused why }) none refl
   waits-refused why (Some w) waits =
       waits-behind names log w (record { number = length log + 1; centre = centre; ask = Some ask; result = Refused why }) waits refl
 
@@ -140,11 +119,6 @@ pending-outcome (outcome.Took t) none = absurd (none (reply.Tuple t) refl)
 pending-outcome outcome.NoTuple none = absurd (none reply.NoTuple refl)
 pending-outcome (outcome.Spec text) none = absurd (none (reply.Spec text) refl)
 pending-outcome (outcome.Over phase tuple) none = absurd (none (reply.OverBudget phase) refl)
-
--- what stands between two parts of a list
-pub at-middle : {X : Type 0} (front : List X) (x : X) (back : List X) → slice_get (front ++ x ∷ back) (length front) ≡ Some x
-at-middle [] x back = refl
-at-middle (y ∷ front) x back = at-middle front x back
 
 -- a call that was made
 module _ (t : TurnstileState Origin) (p q : PassState Entry Origin) (number : ℕ) (op : Op) (told : Answer) (m : Makes t p number op told q) where
@@ -164,7 +138,7 @@ module _ (t : TurnstileState Origin) (p q : PassState Entry Origin) (number : �
   makes-reply r is =
       let id : CallId = call_id p number in
       let k : ℕ = length m.found in
-      let at : slice_get q.seen k ≡ Some entry = ap (λ es. slice_get es k) seen-is ∙ at-middle m.found entry m.gaves in
+      let at : slice_get q.seen k ≡ Some entry = ap (λ es. slice_get es k) seen-is ∙ slice_get_seam m.found entry m.gaves in
       let legal : IsLegal TheFirst t.origin (take k q.seen) (after_history (opening t.origin) (take k q.seen)) entry = m.finds.own.rest.run k entry at in
       let front : take k q.seen ≡ m.found =
       ap (take k) seen-is ∙ take-append-le k m.found (entry ∷ m.gaves) (omega arith) ∙ take_all k m.found (omega arith) in
@@ -293,7 +267,7 @@ module _ {W : Type 0} (d : AgentState W) (is : IsDesk d) (site : IsSite d.site.n
         counted = counted;
         known = subst (λ c. NamesCentre d.site.names c row.result) (sym of) known;
         agrees = λ k origin history at began there.
-            let here : k ≡ place = same-place d.site.names k place centre site.differ (at ∙ ap Some of) named in
+            let here : k ≡ place = AllPairs-one_place d.site.names k place centre site.differ (at ∙ ap Some of) named in
             let first = slice_get-map_from (λ (x : TurnstileState Origin). x.origin) d.site.centres k origin began in
             let after = slice_get-map_from seen passes' k history there in
             let same : t ≡ first.0 = same_Some t first.0 (sym at-t ∙ ap (slice_get d.site.centres) (sym here) ∙ first.1) in
@@ -348,8 +322,8 @@ module _ {W : Type 0} (d : AgentState W) (is : IsDesk d) (site : IsSite d.site.n
       refused-agrees refusal.NoMemory turn = absurd turn
 
       refused-named : (why : Refusal) → IsTurn t p next op (Refused why) q → NamesCentre d.site.names centre (Refused why)
-      refused-named (refusal.Full weight pending) turn = has-name d.site.names place centre named
-      refused-named refusal.TurnsSpent turn = has-name d.site.names place centre named
+      refused-named (refusal.Full weight pending) turn = Contains-slice_get d.site.names place centre named
+      refused-named refusal.TurnsSpent turn = Contains-slice_get d.site.names place centre named
       refused-named refusal.UnknownCentre turn = absurd turn
       refused-named refusal.Waiting turn = absurd turn
       refused-named refusal.Denied turn = absurd turn
@@ -360,8 +334,8 @@ module _ {W : Type 0} (d : AgentState W) (is : IsDesk d) (site : IsSite d.site.n
 
       -- the row names the centre
       row-named : (became : LogResult) → IsTurn t p next op became q → NamesCentre d.site.names centre became
-      row-named (Replied r) turn = has-name d.site.names place centre named
-      row-named Pending turn = has-name d.site.names place centre named
+      row-named (Replied r) turn = Contains-slice_get d.site.names place centre named
+      row-named Pending turn = Contains-slice_get d.site.names place centre named
       row-named (Refused why) turn = refused-named why turn
       row-named (Polled told) turn = absurd turn
 
@@ -459,10 +433,10 @@ module _ {W : Type 0} (permits : W → ℕ → ℕ → Primitive → Option ℕ)
       → NamesCentre d.site.names centre (Refused why)
   judged-named refusal.UnknownCentre other refused = refused
   judged-named refusal.Waiting other refused = refused.0
-  judged-named refusal.Denied other refused = has-name d.site.names refused.place centre refused.named
-  judged-named refusal.TooBig other refused = has-name d.site.names refused.place centre refused.allowed.named
-  judged-named refusal.NotGround other refused = has-name d.site.names refused.place centre refused.allowed.named
-  judged-named (refusal.BadSpec bad) other refused = has-name d.site.names refused.place centre refused.allowed.named
+  judged-named refusal.Denied other refused = Contains-slice_get d.site.names refused.place centre refused.named
+  judged-named refusal.TooBig other refused = Contains-slice_get d.site.names refused.place centre refused.allowed.named
+  judged-named refusal.NotGround other refused = Contains-slice_get d.site.names refused.place centre refused.allowed.named
+  judged-named (refusal.BadSpec bad) other refused = Contains-slice_get d.site.names refused.place centre refused.allowed.named
   judged-named refusal.TurnsSpent other refused = absurd refused
   judged-named (refusal.Full weight pending) other refused = absurd refused
   judged-named refusal.NoMemory other refused = absurd (other refl)

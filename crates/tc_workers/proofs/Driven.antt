@@ -1,22 +1,22 @@
 -- The agents before they are driven, and afterwards.
-use Rattle.std.proofs.Common.{◌≡◌, ◌∙◌, ℕ, zero, suc, ◌+◌, ◌-◌, ◌*◌, ◌<◌, ◌≤◌, true, if◌then◌else◌, List, [], ◌∷◌, ◌++◌, Option, Some, Result, Ok, Err, IfOk, All, length, map, sum_by, refl, sym, ap, subst, arith, length-append}
-use Rattle.std.specs.List.{AllZip}
+use Rattle.std.proofs.Common.{◌≡◌, ◌∙◌, ℕ, suc, ◌+◌, ◌-◌, ◌*◌, ◌<◌, ◌≤◌, true, if◌then◌else◌, List, [], ◌∷◌, ◌++◌, Option, Some, All, length, map, sum_by, refl, sym, ap, subst, arith, length-append}
 use Rattle.std.specs.List.{slice_get}
 use Rattle.std.proofs.lemmas.List.{length-map}
-use Rattle.std.proofs.lemmas.List.Elements.{All-cons, All-head, All-nil, All-tail}
+use Rattle.std.proofs.lemmas.List.Elements.{All-head, All-tail}
 use Rattle.std.proofs.lemmas.List.Sums.{sum_by-cons}
-use Rattle.std.proofs.lemmas.Option.{none-some, same_Some}
+use Rattle.std.proofs.lemmas.Option.{same_Some}
 use Rattle.tc_config.specs.Configurations.{items_of}
 use Rattle.tc_config.specs.declared.configs.AgentConf.{AgentConf}
 use Rattle.tc_desk.specs.Asks.{ScriptStep, steps_at, steps_from, steps_of}
 use Rattle.tc_desk.specs.Logs.{any_pending}
 use Rattle.tc_desk.specs.declared.rows.LogRow.{LogRow}
-use Rattle.tc_lists.proofs.Elements.{All-slice_get}
+use Rattle.tc_lists.proofs.Elements.{All-slice_get, All-from_slice_get}
 use Rattle.tc_lists.proofs.Parts.{cons_head, cons_tail}
 use Rattle.tc_model.specs.Scripts.{Lines}
 use Rattle.tc_model.specs.declared.asks.Primitive.{Primitive}
 use Rattle.tc_model.specs.declared.scripts.ScriptItem.{ScriptItem}
 use Rattle.tc_lists.proofs.Sets.{slice_get-as_long, slice_get-map_at, slice_get-map_from}
+use Rattle.tc_lists.proofs.Zips.{AllZip-slice_get}
 use Rattle.tc_sched.specs.Clients.{Client, IsOfScripts}
 use Rattle.tc_sched.specs.Steps.{AllWent, ArePlaced, IsReady, Went, left_in, left_of}
 use Rattle.tc_site.specs.Desks.{AgentState, IsSound, desk_of}
@@ -33,26 +33,6 @@ items-counted place (s ∷ ss) =
     let front = length-map s.items make in
     let both = length-append (steps_at place s) (steps_from (place + 1) ss) in
     omega (arith, rest, front, both, sum_by-cons (λ (t : Lines). length t.items) s ss)
-
--- what stands in the second list is related to what stands in the first
-pub zip-at : {X Y : Type 0} (R : X → Y → Type 0) (xs : List X) (ys : List Y) (k : ℕ) (y : Y) → AllZip R xs ys → slice_get ys k ≡ Some y
-    → (x : X) × (slice_get xs k ≡ Some x) × R x y
-zip-at R [] [] k y zip at = absurd (none-some y at)
-zip-at R [] (z ∷ ys) k y zip at = absurd zip
-zip-at R (x ∷ xs) [] k y zip at = absurd zip
-zip-at R (x ∷ xs) (z ∷ ys) zero y zip at = (x, refl, subst (R x) (same_Some z y at) zip.0)
-zip-at R (x ∷ xs) (z ∷ ys) (suc k) y zip at = zip-at R xs ys k y zip.1 at
-
-zip-long : {X Y : Type 0} (R : X → Y → Type 0) (xs : List X) (ys : List Y) → AllZip R xs ys → length xs ≡ length ys
-zip-long R [] [] zip = refl
-zip-long R [] (y ∷ ys) zip = absurd zip
-zip-long R (x ∷ xs) [] zip = absurd zip
-zip-long R (x ∷ xs) (y ∷ ys) zip = ap suc (zip-long R xs ys zip.1)
-
--- what holds at each place holds of all
-pub all-at : {X : Type 0} (P : X → Type 0) (xs : List X) → ((k : ℕ) (x : X) → slice_get xs k ≡ Some x → P x) → All P xs
-all-at P [] each = All-nil P
-all-at P (x ∷ xs) each = All-cons P x xs (each 0 x refl) (all-at P xs (λ k y at. each (suc k) y at))
 
 module _ {W : Type 0} (permits : W → ℕ → ℕ → Primitive → Option ℕ) (s : SiteState W) where
   abbrev Member : Type 0
@@ -110,14 +90,14 @@ module _ {W : Type 0} (permits : W → ℕ → ℕ → Primitive → Option ℕ)
     ready =
         let left = left-fresh agents olds at.scripts fresh-at in
         let few = can.few_items in
-        all-at (IsReady desk_of (3 * left_in desk_of olds + 2) names) olds
+        All-from_slice_get (IsReady desk_of (3 * left_in desk_of olds + 2) names) olds
         (ready-at (3 * left_in desk_of olds + 2) (omega (arith, left, few)))
 
   -- after they were driven
   module _ (names : List (List ℕ)) (agents : List AgentConf) (olds news : List Member) (turns : ℕ) (can : CanDrive s names agents)
       (at : AreAtDesks permits s agents olds) (went : WentAll turns olds news) where
     went-at : (k : ℕ) (e : Member) → slice_get news k ≡ Some e → (c : Member) × (slice_get olds k ≡ Some c) × WentOne turns c e
-    went-at k e here = zip-at (WentOne turns) olds news k e went here
+    went-at k e here = AllZip-slice_get (WentOne turns) olds news k e went here
 
     scripts-kept : (cs es : List Member) → WentAll turns cs es → map scripts_of es ≡ map scripts_of cs
     scripts-kept [] [] zip = refl
@@ -135,7 +115,7 @@ module _ {W : Type 0} (permits : W → ℕ → ℕ → Primitive → Option ℕ)
 
     pub driven-free : All (λ (e : Member). (desk_of e.desk).free ≡ true) news
     driven-free =
-        all-at (λ (e : Member). (desk_of e.desk).free ≡ true) news
+        All-from_slice_get (λ (e : Member). (desk_of e.desk).free ≡ true) news
         (λ k e here. let c = went-at k e here in c.2.kept.free)
 
     dressed : (ls : List AgentConf) (es : List Member) → map scripts_of es ≡ map scripts_in ls → given_back (map bare ls) es ≡ ls
@@ -189,13 +169,3 @@ module _ {W : Type 0} (permits : W → ℕ → ℕ → Primitive → Option ℕ)
           let e = ended-at k v here in
           subst (IsLeft permits s k a) e.2 (left-at k a e.0 stands e.1 (All-slice_get HasRows news k e.0 rows e.1));
     }
-
--- what follows of a good result
-pub if_ok : {X Y : Type 0} (P Q : X → Type 0) (r : Result X Y) → ((x : X) → P x → Q x) → IfOk r P → IfOk r Q
-if_ok P Q (Ok x) follows holds = follows x holds
-if_ok P Q (Err e) follows holds = tt
-
--- what follows of two facts of it
-pub if_ok_two : {X Y : Type 0} (P R Q : X → Type 0) (r : Result X Y) → ((x : X) → P x → R x → Q x) → IfOk r P → IfOk r R → IfOk r Q
-if_ok_two P R Q (Ok x) follows holds more = follows x holds more
-if_ok_two P R Q (Err e) follows holds more = tt

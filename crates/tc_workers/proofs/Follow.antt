@@ -1,8 +1,7 @@
 -- Logs that agree with the histories follow their scripts.
-use Rattle.std.proofs.Common.{◌≡◌, ◌≢◌, ◌∙◌, ℕ, ◌+◌, ◌<◌, true, List, AllPairs, Some, All, length, map, take, refl, sym, ap, subst, arith, ⊎_elim}
+use Rattle.std.proofs.Common.{◌≡◌, ◌∙◌, ℕ, ◌+◌, true, List, Some, All, length, map, take, refl, sym, ap, subst, arith}
 use Rattle.std.specs.List.{slice_get}
-use Rattle.std.proofs.lemmas.Bool.{cases_order}
-use Rattle.std.proofs.lemmas.Option.{same_Some, slice_get_within, get_or_from_slice_get}
+use Rattle.std.proofs.lemmas.Option.{same_Some}
 use Rattle.tc_config.specs.Configurations.{Configuration, IsConfig, centre_names}
 use Rattle.tc_config.specs.Good.{AreHistories, Follows, IsHistory, IsNoLook, IsRow, IsServedNumber, Permits, call, origin_of}
 use Rattle.tc_config.specs.declared.configs.AgentConf.{AgentConf}
@@ -23,18 +22,8 @@ use Rattle.tc_model.specs.declared.calls.CallId.{CallId}
 use Rattle.tc_model.specs.declared.entries.Entry.{Entry}
 use Rattle.tc_model.specs.declared.entries.Entry.TheVariants.{Called, Gave, Looked}
 use Rattle.tc_lists.proofs.Sets.{slice_get-as_long, slice_get-map_at, slice_get-map_from}
+use Rattle.tc_lists.proofs.Pairs.{AllPairs-one_place}
 use Rattle.tc_sched.specs.Clients.{IsItemResult, IsOfScripts}
-
--- in a list of different elements each has one place
-pub one_place : {X : Type 0} (xs : List X) (i j : ℕ) (x : X) → AllPairs ◌≢◌ xs → slice_get xs i ≡ Some x → slice_get xs j ≡ Some x → i ≡ j
-one_place xs i j x differ at there =
-    let apart : (m n : ℕ) → slice_get xs m ≡ Some x → slice_get xs n ≡ Some x → m < n → ⊥ =
-    λ m n first second before.
-    differ m n x before (slice_get_within xs n x second)
-    (get_or_from_slice_get xs m x x first ∙ sym (get_or_from_slice_get xs n x x second)) in
-    ⊎_elim (λ (same : i ≡ j). same)
-    (⊎_elim (λ (less : i < j). absurd (apart i j at there less)) (λ (more : j < i). absurd (apart j i there at more)))
-    (cases_order i j)
 
 -- what a row says that agrees and is decided, its ask may have come to
 result-of : (permits : Type 0) (origin : Origin) (history : List Entry) (id : CallId) (log : List LogRow) (k : ℕ) (row : LogRow) (ask : Ask) (became : LogResult)
@@ -108,7 +97,7 @@ module _ (c : Configuration) (config : IsConfig c) (histories : List (List Entry
         served = served-by e has.row.result is.result has.made;
         step = is.step;
         item = is.asks.stands;
-        there = one_place (centre_names c) is.step.item.centre place centre config.centres_differ (is.centre ∙ ap Some has.there) at;
+        there = AllPairs-one_place (centre_names c) is.step.item.centre place centre config.centres_differ (is.centre ∙ ap Some has.there) at;
       }
 
   -- the name of the centre that has this history

@@ -1,7 +1,7 @@
 -- The agents as their desks end.
 use Rattle.std.proofs.Common.{◌≡◌, ◌∙◌, ℕ, zero, suc, ◌+◌, ◌<◌, ◌≤◌, true, List, [], ◌∷◌, ◌++◌, Some, All, length, map, set, get_or, refl, sym, ap, subst, arith, length-append, append_assoc, append-nil}
 use Rattle.std.specs.List.{slice_get}
-use Rattle.std.proofs.lemmas.List.{length-map, map-append}
+use Rattle.std.proofs.lemmas.List.{length-map, map-append, nil_from_length}
 use Rattle.std.proofs.lemmas.List.Elements.{All-append, All-cons, All-head, All-nil, All-tail}
 use Rattle.std.proofs.lemmas.Option.{none-some, same_Some, slice_get_within, slice_get-get_or, get_or_from_slice_get}
 use Rattle.tc_config.specs.declared.configs.AgentConf.{AgentConf}
@@ -14,10 +14,6 @@ use Rattle.tc_workers.proofs.Patched.{patched, patched-all, patched-at, patched-
 
 abbrev IsFree : {W : Type 0} → Client (AgentState W) → Type 0
 IsFree c = (desk_of c.desk).free ≡ true
-
-no_more : {X : Type 0} (xs : List X) → length xs ≡ 0 → xs ≡ []
-no_more [] none = refl
-no_more (x ∷ xs) none = absurd (omega (arith, none))
 
 module _ {W : Type 0} where
   length-given_back : (agents : List AgentConf) (crew : List (Client (AgentState W))) → length agents ≡ length crew → length (given_back agents crew) ≡ length agents
@@ -110,7 +106,7 @@ module _ {W : Type 0} where
   module _ (old : List AgentConf) (all rest : List (Client (AgentState W))) (now : List AgentConf) (ended : List (EndedState W))
       (whole : length old ≡ length all) (none : length rest ≡ 0) (leaving : Leaving old all rest now ended) where
     all-done : all ≡ leaving.done
-    all-done = leaving.split ∙ ap (λ xs. leaving.done ++ xs) (no_more rest none) ∙ append-nil leaving.done
+    all-done = leaving.split ∙ ap (λ xs. leaving.done ++ xs) (nil_from_length rest none) ∙ append-nil leaving.done
 
     pub left-ended : ended ≡ map ended_of all
     left-ended = leaving.ended_are ∙ ap (map ended_of) (sym all-done)

@@ -16,7 +16,7 @@ use Rattle.tc_desk.specs.declared.rows.LogRow.{LogRow}
 use Rattle.tc_desk.specs.declared.rows.LogResult.{LogResult}
 use Rattle.tc_desk.specs.declared.rows.LogResult.TheVariants.{Replied, Pending, Refused, Polled}
 use Rattle.tc_desk.specs.declared.rows.Refusal.TheVariants as refusal
-use Rattle.tc_lists.proofs.Elements.{All-slice_get}
+use Rattle.tc_lists.proofs.Elements.{All-slice_get, All-from_slice_get}
 use Rattle.tc_model.specs.Asks.{primitive_of}
 use Rattle.tc_model.specs.Scripts.{Lines}
 use Rattle.tc_model.specs.State.{Origin}
@@ -36,7 +36,6 @@ use Rattle.tc_site.specs.Desks.{IsSound}
 use Rattle.tc_site.specs.Sites.{AllAgree, AreClosed, AreFreshCores, EndedState, IsSiteOf, SiteState, TURNS, origins_of}
 use Rattle.tc_workers.specs.Crews.{AreLeft, CanDrive}
 use Rattle.tc_workers.proofs.Closed.{Goes-closed, IsWorked}
-use Rattle.tc_workers.proofs.Driven.{all-at}
 use Rattle.tc_workers.proofs.Grants.{permits_by}
 
 -- what is decided by one policy is decided by another that permits the same
@@ -76,14 +75,14 @@ module _ (c : Configuration) (config : IsConfig c) (some : 0 < length c.agents) 
         few = omega (arith, many, centres);
         few_agents = omega (arith, few, ap length same);
         unserved = unserved;
-        agents_are = all-at (λ (x : Centre). length x.origin.agents ≡ length agents) cores (λ k x at. core-agents k x at ∙ ap length (sym same));
+        agents_are = All-from_slice_get (λ (x : Centre). length x.origin.agents ≡ length agents) cores (λ k x at. core-agents k x at ∙ ap length (sym same));
       }
 
 module _ (c : Configuration) (config : IsConfig c) where
   placed-all : All (λ (a : AgentConf). ArePlaced (length (centre_names c)) a.scripts) c.agents
   placed-all =
       let many : length (centre_names c) ≡ length c.centres = length-map c.centres (λ (s : CentreConf). s.name) in
-      all-at (λ (a : AgentConf). ArePlaced (length (centre_names c)) a.scripts) c.agents
+      All-from_slice_get (λ (a : AgentConf). ArePlaced (length (centre_names c)) a.scripts) c.agents
       (λ k a at. subst (λ n. ArePlaced n a.scripts) (sym many) (All-slice_get (IsAgent c) c.agents k a config.agents at).scripts)
 
   -- the agents can be driven

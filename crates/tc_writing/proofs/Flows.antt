@@ -1,12 +1,12 @@
 -- Texts handed on, one behind another.
 use Rattle.std.proofs.Common.{◌≡◌, ℕ, ◌+◌, ◌≤◌, List, [], ◌++◌, Option, Some, None, Result, Ok, Err, OnOk, IsErrOf, IsTrue, length, take, drop, refl, sym, ap, subst, ◌∙◌, arith, append_assoc, length-append, length-drop, append-nil, take-add, take-append-drop}
 use Rattle.std.proofs.lemmas.List.{append_cancel_left, take-append-le, drop-append-le}
+use Rattle.std.proofs.lemmas.Option.{same_Some}
 use Rattle.tc_io.specs.Faults.{Counts}
 use Rattle.tc_io.specs.Sinks.{appended, AppendsFront}
 use Rattle.tc_io.specs.declared.sinks.SinkFault.{SinkFault}
 use Rattle.tc_io.specs.declared.sinks.SinkFault.TheVariants.{Failed, NoMemory}
 use Rattle.tc_io.proofs.Outputs.{appended-append}
-use Rattle.tc_lists.proofs.Options.{some_same}
 use Rattle.tc_writing.specs.Flow.{Flow, HandsOn, handed}
 
 -- nothing behind what was taken
@@ -65,10 +65,10 @@ fronts None mid new kept left text more first all second =
 fronts (Some before) None new kept left text more first all second = absurd (nothing_is_no_bytes (before ++ take first.0 (kept ++ text)) first.2)
 fronts (Some before) (Some taken) new kept left text more first all second =
     let whole = kept ++ text in
-    let is : taken ≡ before ++ take first.0 whole = some_same taken (before ++ take first.0 whole) first.2 in
+    let is : taken ≡ before ++ take first.0 whole = same_Some taken (before ++ take first.0 whole) first.2 in
     let behind : left ≡ drop first.0 whole =
     left-behind before whole left first.0
-    (ap (λ l. l ++ left) (sym is) ∙ some_same (taken ++ left) ((before ++ kept) ++ text) all ∙ append_assoc before kept text) in
+    (ap (λ l. l ++ left) (sym is) ∙ same_Some (taken ++ left) ((before ++ kept) ++ text) all ∙ append_assoc before kept text) in
     let within = first.1 in
     let second_within = second.1 in (
       first.0 + second.0,

@@ -1,6 +1,7 @@
 -- The history of each centre, by place.
 use Rattle.std.proofs.Common.{◌≡◌, ◌<◌, ◌≤◌, ◌∙◌, ℕ, zero, suc, List, [], ◌∷◌, Some, length, map, get_or, sym, ap, refl, arith}
 use Rattle.std.specs.Prelude.{slice_get}
+use Rattle.tc_lists.proofs.Parts.{cons_head, cons_tail}
 use Rattle.tc_model.specs.State.{Origin}
 use Rattle.tc_centre.specs.Centre.{Centre}
 use Rattle.tc_config.specs.Configurations.{Configuration, agent_names}
@@ -8,20 +9,14 @@ use Rattle.tc_config.specs.Good.{origin_of}
 use Rattle.tc_config.specs.declared.configs.CentreConf.{CentreConf}
 use Rattle.tc_runner.specs.Cores.{AreCores, histories_of}
 
-head_same : {Z : Type 0} (x y : Z) (xs ys : List Z) → x ∷ xs ≡ y ∷ ys → x ≡ y
-head_same x y xs ys same = cc
-
-tail_same : {Z : Type 0} (x y : Z) (xs ys : List Z) → x ∷ xs ≡ y ∷ ys → xs ≡ ys
-tail_same x y xs ys same = cc
-
 -- where images are the same list, each image of one list's elements is one of the other's
 image_at : {X Y Z : Type 0} (f : X → Z) (g : Y → Z) (xs : List X) (ys : List Y) (i : ℕ) (x : X) → map f xs ≡ map g ys
     → i < length xs → x ≡ get_or xs i x → (y : Y) × (f x ≡ g y)
 image_at f g [] ys i x same within is = absurd (omega arith)
 image_at f g (a ∷ xs) [] i x same within is = absurd (cc)
-image_at f g (a ∷ xs) (b ∷ ys) zero x same within is = (b, ap f is ∙ head_same (f a) (g b) (map f xs) (map g ys) same)
+image_at f g (a ∷ xs) (b ∷ ys) zero x same within is = (b, ap f is ∙ cons_head same)
 image_at f g (a ∷ xs) (b ∷ ys) (suc i) x same within is =
-    image_at f g xs ys i x (tail_same (f a) (g b) (map f xs) (map g ys) same) (omega (arith, within)) is
+    image_at f g xs ys i x (cons_tail same) (omega (arith, within)) is
 
 some_agent : {X : Type 0} (agents : List X) (cores : List Centre) (i : ℕ) → (length agents ≡ 0 → cores ≡ []) → i < length cores → 0 < length agents
 some_agent [] cores i none within = absurd (omega (arith, within, ap length (none refl)))

@@ -1,12 +1,9 @@
 -- Cores and logs of a run.
-use Rattle.std.proofs.Common.{◌≡◌, ◌<◌, ◌||◌, ◌∙◌, ℕ, zero, suc, Bool, true, false, List, [], ◌∷◌, Vec, Global, length, get_or, sym, subst, ap, refl, arith}
+use Rattle.std.proofs.Common.{◌≡◌, ◌<◌, ◌||◌, ◌∙◌, ℕ, zero, suc, true, List, [], ◌∷◌, Vec, Global, length, get_or, sym, subst, ap, arith}
+use Rattle.std.proofs.Math.Bool.{or-true}
 use Rattle.tc_desk.specs.Logs.{any_pending, is_blocked}
 use Rattle.tc_desk.specs.declared.rows.LogRow.{LogRow}
 use Rattle.tc_runner.specs.Cores.{rows_of}
-
-or_true : (b : Bool) → (b || true) ≡ true
-or_true true = refl
-or_true false = refl
 
 -- an ask of one of the logs is pending
 pub blocked_at : (logs : List (Vec LogRow Global)) (i : ℕ) (log : Vec LogRow Global) → i < length logs → log ≡ get_or logs i log
@@ -15,4 +12,4 @@ blocked_at [] i log within is pending = absurd (omega arith)
 blocked_at (l ∷ ls) zero log within is pending =
     sym (ap (λ b. b || is_blocked (rows_of ls)) (ap (λ (v : Vec LogRow Global). any_pending v.items) (sym is) ∙ pending))
 blocked_at (l ∷ ls) (suc i) log within is pending =
-    sym (ap (λ b. any_pending l.items || b) (sym (blocked_at ls i log (omega (arith, within)) is pending)) ∙ or_true (any_pending l.items))
+    sym (ap (λ b. any_pending l.items || b) (sym (blocked_at ls i log (omega (arith, within)) is pending)) ∙ or-true (any_pending l.items))

@@ -1,6 +1,7 @@
 -- The words of a call.
-use Rattle.std.proofs.Common.{◌≡◌, ◌≤◌, ◌<◌, ◌∙◌, ℕ, List, [], ◌∷◌, ◌++◌, Vec, Global, length, get_or, map, decimal, refl, sym, ap, subst, append-nil, arith}
+use Rattle.std.proofs.Common.{◌≡◌, ◌≤◌, ◌<◌, ◌∙◌, ℕ, List, [], ◌∷◌, ◌++◌, Vec, Global, get_or, map, decimal, refl, sym, ap, subst, append-nil, arith}
 use Rattle.std.proofs.lemmas.Fmt.{decimal_injective}
+use Rattle.std.proofs.lemmas.List.{nil_from_length}
 use borrow.Enum.Total.{values_d}
 use Rattle.tc_lists.specs.Decimals.{IsLongestNumberAt, IsNumberAt}
 use Rattle.tucson.specs.Commands.{Asks, IsCount, IsRun, RunsOn, run_words}
@@ -16,14 +17,10 @@ count_at word workers count = record { within = count.few; text = count.text ∙
 pub count_none : (word : List ℕ) → ((n : ℕ) (rest : List ℕ) → IsNumberAt 64 word n rest → ⊥) → (workers : ℕ) → IsCount word workers → ⊥
 count_none word none workers count = none workers [] (count_at word workers count)
 
-no_more : (rest : List ℕ) → length rest ≤ 0 → rest ≡ []
-no_more [] few = refl
-no_more (x ∷ xs) few = absurd (omega (arith, few))
-
 -- a number that is told is the longest that stands at the front, with nothing behind it
 pub count_whole : (word : List ℕ) (n workers : ℕ) (rest : List ℕ) → IsLongestNumberAt 64 word n rest → IsCount word workers → (rest ≡ []) × (n ≡ workers)
 count_whole word n workers rest longest count =
-    let none : rest ≡ [] = no_more rest (longest.longest workers [] (count_at word workers count)) in
+    let none : rest ≡ [] = nil_from_length rest (omega (arith, longest.longest workers [] (count_at word workers count))) in
     let least = longest.stands.within in
     let most = count.few in (
       none,

@@ -1,20 +1,14 @@
 -- A text that is made of one part for each two elements of two lists, handed on part by part.
 use Rattle.std.proofs.Common.{◌≡◌, ◌∙◌, ◌+◌, ◌<◌, ◌≤◌, ℕ, zero, suc, List, [], ◌∷◌, ◌++◌, Some, Result, Ok, Err, Vec, Global, length, map, take, drop, get_or, sym, subst, ap, ap₂, refl, arith, append-nil, append_assoc}
 use Rattle.std.specs.Prelude.{slice_get}
+use Rattle.std.proofs.lemmas.Option.{same_Some}
 use Rattle.tc_io.specs.declared.sinks.SinkFault.{SinkFault}
-use Rattle.tc_lists.proofs.Options.{some_same}
 use Rattle.tc_model.specs.declared.entries.Entry.{Entry}
 use Rattle.tc_desk.specs.Text.{Version, history_text, histories_text, log_text, logs_text}
 use Rattle.tc_desk.specs.declared.rows.LogRow.{LogRow}
 use Rattle.tc_config.specs.declared.configs.AgentConf.{AgentConf}
 use Rattle.tc_writing.specs.Flow.{Flow, HandsOn}
 use Rattle.tc_writing.proofs.Flows.{amid, both, both_done}
-
--- what was read at a place stands there
-pub at_place : {X : Type 0} (xs : List X) (i : ℕ) (x : X) → i < length xs → x ≡ get_or xs i x → slice_get xs i ≡ Some x
-at_place [] i x within is = absurd (omega arith)
-at_place (y ∷ ys) zero x within is = ap Some (sym is)
-at_place (y ∷ ys) (suc i) x within is = at_place ys i x (omega (arith, within)) is
 
 -- the same text, by another name
 pub text_is : (text other : List ℕ) (old new : Flow) (result : Result (Unit {0}) SinkFault) → text ≡ other
@@ -31,7 +25,7 @@ module _ {X Y : Type 0} (part : X → Y → List ℕ) where
       → slice_get ys i ≡ Some y → zipped (take i xs) (take i ys) ++ part x y ≡ zipped (take (suc i) xs) (take (suc i) ys)
   zipped-suc [] ys i x y within is there = absurd (omega arith)
   zipped-suc (a ∷ xs) [] i x y within is there = absurd (cc)
-  zipped-suc (a ∷ xs) (b ∷ ys) zero x y within is there = ap₂ part is (sym (some_same b y there)) ∙ sym (append-nil (part a b))
+  zipped-suc (a ∷ xs) (b ∷ ys) zero x y within is there = ap₂ part is (sym (same_Some b y there)) ∙ sym (append-nil (part a b))
   zipped-suc (a ∷ xs) (b ∷ ys) (suc i) x y within is there =
       append_assoc (part a b) (zipped (take i xs) (take i ys)) (part x y)
       ∙ ap (λ l. part a b ++ l) (zipped-suc xs ys i x y (omega (arith, within)) is there)

@@ -1,9 +1,10 @@
-use Rattle.std.proofs.Common.{rules, ◌∙◌}
+use Rattle.std.proofs.Common.{rules, ◌∙◌, ◌≡◌, length, ap}
+use Rattle.std.proofs.lemmas.List.{nil_from_length}
 use Rattle.tc_model.specs.Choices.{TheFirst}
 use Rattle.tc_config.specs.Good.{IsGood}
 use Rattle.tc_runner.specs.Cores.{Goes, histories, rows_of}
 use Rattle.tc_lists.proofs.Parts.{take-append_all}
-use Rattle.tc_runner.proofs.Exchanges.{exchanged, nil_as_long}
+use Rattle.tc_runner.proofs.Exchanges.{exchanged}
 use Rattle.tc_runner.proofs.running.go_on.Goals as goal
 
 pub returns-clause-good : goal.returns-clause-good
@@ -24,4 +25,5 @@ pub returns-clause-none : goal.returns-clause-none
 returns-clause-none g c = λ no_agent.
     let run = c.args.opened in
     let same = take-append_all c.finish.new.cores run.cores.items run.cores.len (search rules) (search rules) in
-    same ∙ nil_as_long c.finish.new.cores run.cores.items (search rules) (c.requires.none (search rules))
+    let long : length c.finish.new.cores ≡ length run.cores.items = search rules in
+    same ∙ nil_from_length c.finish.new.cores (long ∙ ap length (c.requires.none (search rules)))

@@ -3,12 +3,12 @@ use Rattle.std.specs.Global.{Global}
 use Rattle.std.proofs.lemmas.List.{length-map, nil_from_length}
 use Rattle.tc_centre.specs.Centre.{Centre}
 use Rattle.tc_lists.proofs.Elements.{All-append_left, All-last}
+use Rattle.tc_lists.proofs.Parts.{take-append_all}
 use Rattle.tc_model.specs.State.{Origin}
 use Rattle.tc_model.specs.declared.entries.Entry.{Entry}
 use Rattle.tc_turn.specs.Passes.{PassState}
 use Rattle.tc_site.specs.Columns.{AreClosedFrom, AreColumns, HaveLasts, IsClosedOver, columns_of}
 use Rattle.tc_site.specs.Sites.{HasPasses}
-use Rattle.tc_site.proofs.Sweeps.{written-back}
 use Rattle.tc_site.proofs.Taken.{IsClosing, closing-all, closing-more, closing-none, have-lasts}
 use Rattle.tc_site.proofs.closing.close_all.Goals as goal
 
@@ -57,7 +57,7 @@ loop-centre-preserved c =
     sym (length-map news (λ (v : Vec (PassState Entry Origin) Global). v.items)) ∙ closed.whole
     ∙ length-map vecs (λ (v : Vec (PassState Entry Origin) Global). v.items) in
     let back : take c.loop-centre.columns.len (news ++ drop (length news) vecs) ≡ news =
-    written-back vecs news c.loop-centre.columns.len many c.loop-centre.columns.ok.0 in
+    take-append_all news vecs c.loop-centre.columns.len many c.loop-centre.columns.ok.0 in
     record {
       passes = All-append_left (HasPasses n) rest (t ∷ []) (subst (All (HasPasses n)) c.in-Some.ensures.items c.loop-centre.invariant.passes);
       closing = subst (λ vs. IsClosing all columns rest (columns_of vs) c.push.new.self.items) (sym back)

@@ -2,6 +2,7 @@ use Rattle.std.proofs.Common.{◌≡◌, [], ◌∷◌, ◌++◌, All, Vec, leng
 use Rattle.std.specs.Global.{Global}
 use Rattle.std.proofs.lemmas.List.{length-map}
 use Rattle.std.proofs.lemmas.List.Elements.{All-head, All-tail}
+use Rattle.tc_lists.proofs.Parts.{take-append_all}
 use Rattle.tc_centre.specs.Centre.{Centre}
 use Rattle.tc_model.specs.State.{Origin}
 use Rattle.tc_model.specs.declared.entries.Entry.{Entry}
@@ -9,7 +10,6 @@ use Rattle.tc_turn.specs.Passes.{PassState}
 use Rattle.tc_site.specs.Columns.{AreDealt, AreOpened, columns_of}
 use Rattle.tc_site.specs.Sites.{TURNS}
 use Rattle.tc_site.proofs.Dealt.{AreOpened-more, length-new_passes}
-use Rattle.tc_site.proofs.Sweeps.{written-back}
 use Rattle.tc_site.proofs.sharing.open_all.Goals as goal
 
 pub deal-requires : goal.deal-requires
@@ -40,7 +40,7 @@ loop-core-preserved c =
     sym (length-map news (λ (v : Vec (PassState Entry Origin) Global). v.items)) ∙ dealt.whole
     ∙ length-map vecs (λ (v : Vec (PassState Entry Origin) Global). v.items) in
     let back : take c.loop-core.columns.len (news ++ drop (length news) vecs) ≡ news =
-    written-back vecs news c.loop-core.columns.len many c.loop-core.columns.ok.0 in
+    take-append_all news vecs c.loop-core.columns.len many c.loop-core.columns.ok.0 in
     record {
       opened = subst (λ vs. AreOpened c.args.agents (c.loop-core.yielded ++ x ∷ []) c.push.new.self.items (columns_of vs)) (sym back)
           (subst (λ ts. AreOpened c.args.agents (c.loop-core.yielded ++ x ∷ []) ts (columns_of news)) (sym c.in_ok-push.ensures.items)

@@ -1,8 +1,10 @@
 use denote.Param.Send.{param_send, sendable}
 use Rattle.std.proofs.Common.{◌≡◌, ◌∙◌, ◌+◌, ◌*◌, ◌++◌, ℕ, true, List, All, length, map, take, drop, sym, ap, subst, rules, arith}
 use Rattle.std.proofs.lemmas.List.{length-map}
+use Rattle.std.proofs.lemmas.Result.{IfOk-weaker}
 use Rattle.tc_config.specs.declared.configs.AgentConf.{AgentConf}
 use Rattle.tc_lists.proofs.Parts.{take-append_all}
+use Rattle.tc_lists.proofs.Results.{IfOk-both}
 use Rattle.tc_policy.specs.declared.grants.Grant.{Grant}
 use Rattle.tc_sched.specs.Clients.{Client}
 use Rattle.tc_sched.specs.Steps.{AllWent, IsReady, left_in}
@@ -10,7 +12,7 @@ use Rattle.tc_site.specs.Desks.{AgentState, IsSound, desk_of}
 use Rattle.tc_site.specs.Sites.{SiteState}
 use Rattle.tc_workers.specs.Crews.{AreLeft, HasRows, bare, ended_of, given_back}
 use Rattle.tc_workers.proofs.Grants.{permits_by}
-use Rattle.tc_workers.proofs.Driven.{driven-agents, driven-free, driven-left, driven-whole, if_ok, if_ok_two, ready}
+use Rattle.tc_workers.proofs.Driven.{driven-agents, driven-free, driven-left, driven-whole, ready}
 use Rattle.tc_workers.proofs.Sends.{roles_desk_send}
 use Rattle.tc_workers.proofs.crew.drive_all.Goals as goal
 use Rattle.tc_workers.proofs.crew.drive_all.Lts as lts
@@ -58,7 +60,7 @@ returns-clause-agents g c =
     let went : Driven crew news = subst (λ (cs : List Member). Driven cs news) c.deref_mut.ensures.value c.in_ok-drive.ensures.went in
     let whole : List Member = take c.in_ok-agents.crew.len (news ++ drop (length news) crew) in
     let again = driven-agents permits_by c.args.site.now c.args.names.now agents crew news (3 * left_in desk_of crew + 2) c.requires.can c.in_ok-agents.ensures.crew went in
-    if_ok _ _ c.end_all.result
+    IfOk-weaker c.end_all.result _ _
     (λ r is. is ∙ ap (λ xs. given_back xs whole) c.in_ok-agents.ensures.agents ∙ ap (given_back (map bare agents)) same ∙ again)
     c.end_all.ensures.agents
 
@@ -69,7 +71,7 @@ returns-clause-ended g c =
     let agents = c.args.agents.items in
     let same = take-append_all news crew c.in_ok-agents.crew.len (search rules) (search rules) in
     let went : Driven crew news = subst (λ (cs : List Member). Driven cs news) c.deref_mut.ensures.value c.in_ok-drive.ensures.went in
-    if_ok_two _ _ _ c.end_all.result
+    IfOk-both c.end_all.result _ _ _
     (λ r ended rows.
     subst (AreLeft permits_by c.args.site.now agents) (sym (ended ∙ ap (map ended_of) same))
     (driven-left permits_by c.args.site.now c.args.names.now agents crew news (3 * left_in desk_of crew + 2) c.requires.can c.in_ok-agents.ensures.crew went

@@ -1,7 +1,7 @@
 use Rattle.std.proofs.Common.{refl}
+use Rattle.tc_unify.proofs.Beginnings.{pairs_kept}
 use Rattle.tc_term.specs.TreeView.{tree_of}
 use Rattle.tc_term.specs.Variables.{raised}
-use Rattle.term_table.proofs.Beginnings.{pairs_kept}
 use Rattle.term_table.proofs.sample.Sample.add.Goals as goal
 
 pub returns : goal.returns
