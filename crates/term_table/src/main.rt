@@ -39,7 +39,6 @@ mod table;
 mod terms;
 mod texts;
 
-use anyhow::anyhow;
 use table::answered;
 use tc_io::{StdSink, StdSource, read_all, write_all};
 
@@ -47,12 +46,8 @@ use tc_io::{StdSink, StdSource, read_all, write_all};
 const MOST_BYTES: usize = 1 << 20;
 
 fn main(rt: HostRuntime) -> anyhow::Result<()> {
-    let text = read_all(rt.alloc(), &mut StdSource::new(rt.stdin()), MOST_BYTES).map_err(
-        |fault| anyhow!("no table was read: {fault:?}"),
-    )?;
+    let text = read_all(rt.alloc(), &mut StdSource::new(rt.stdin()), MOST_BYTES)?;
     let table = answered(rt.alloc(), &text)?;
-    write_all(&mut StdSink::new(rt.stdout()), &table).map_err(|fault| anyhow!(
-        "the table was not written: {fault:?}"
-    ))?;
+    write_all(&mut StdSink::new(rt.stdout()), &table)?;
     Ok(())
 }
