@@ -49,7 +49,6 @@ mod texts;
 mod values;
 mod worlds;
 
-use anyhow::anyhow;
 use harm::report_damage;
 use report::{report_crowd, report_drawn, report_fixed, report_gate, report_rows};
 use tc_io::{StdSink, StdSource, read_all, write_all};
@@ -59,9 +58,7 @@ const MOST_BYTES: usize = 1 << 20;
 
 fn main(rt: HostRuntime) -> anyhow::Result<()> {
     let alloc = rt.alloc();
-    let table = read_all(alloc, &mut StdSource::new(rt.stdin()), MOST_BYTES).map_err(
-        |fault| anyhow!("no table was read: {fault:?}"),
-    )?;
+    let table = read_all(alloc, &mut StdSource::new(rt.stdin()), MOST_BYTES)?;
     let mut told = Vec::new(alloc);
     report_drawn(&rt, alloc, &mut told)?;
     report_fixed(&rt, alloc, &mut told)?;
@@ -69,8 +66,6 @@ fn main(rt: HostRuntime) -> anyhow::Result<()> {
     report_damage(&rt, alloc, &mut told)?;
     report_crowd(&rt, alloc, &mut told)?;
     report_rows(&rt, alloc, &table, &mut told)?;
-    write_all(&mut StdSink::new(rt.stdout()), &told).map_err(|fault| anyhow!(
-        "what was told was not written: {fault:?}"
-    ))?;
+    write_all(&mut StdSink::new(rt.stdout()), &told)?;
     Ok(())
 }

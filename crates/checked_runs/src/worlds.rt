@@ -1,8 +1,4 @@
 //! Configurations as this check reads them.
-ghost use Rattle.std.specs.Prelude.{◌<◌, IfSome};
-ghost use Rattle.tc_term.specs.Tree.{depth};
-ghost use Rattle.tc_term.specs.TreeView.{tree_of};
-
 use crate::agents::{Agent, Grant, Item};
 use crate::centres::{Centre, Word};
 use crate::clauses::clause_of;
@@ -122,7 +118,7 @@ impl World {
             None => 0,
         };
         let mut rest = items;
-        while let Some((item, behind)) = as_cell(rest) {
+        while let Some((item, behind)) = rest.as_cell() {
             self.add_item(alloc, agent, script, item)?;
             rest = behind;
         }
@@ -160,19 +156,6 @@ impl World {
             Some(place) => Ok(place),
             None => Err(Fault::Beyond("a name is of no centre")),
         }
-    }
-}
-
-// The first element of a list and what is behind it.
-fn as_cell<'t>(list: &'t Term) -> Option<(&'t Term, &'t Term)>
-    ensures { IfSome result (λ r. depth (tree_of r.1.now) < depth (tree_of list.now)) }
-{
-    match list {
-        Term::Comp(name, args) if name.bytes() == b".".as_slice() => match args.items() {
-            [head, tail] => Some((head, tail)),
-            _ => None,
-        },
-        _ => None,
     }
 }
 

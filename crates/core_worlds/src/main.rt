@@ -25,7 +25,6 @@ mod run;
 mod states;
 mod worlds;
 
-use anyhow::anyhow;
 use std::env;
 use tc_io::{StdSink, StdSource, read_all, write_all};
 
@@ -34,11 +33,8 @@ const MOST_BYTES: usize = 1 << 20;
 
 fn main(rt: HostRuntime) -> anyhow::Result<()> {
     let again = env::args(&rt)?.skip(1).any(|word| word.as_str() == "again");
-    let text = read_all(rt.alloc(), &mut StdSource::new(rt.stdin()), MOST_BYTES).map_err(
-        |fault| anyhow!("no worlds were read: {fault:?}"),
-    )?;
+    let text = read_all(rt.alloc(), &mut StdSource::new(rt.stdin()), MOST_BYTES)?;
     let told = worlds::tell_all(rt.alloc(), &text, again)?;
-    write_all(&mut StdSink::new(rt.stdout()), &told).map_err(|fault| anyhow!(
-        "the histories were not written: {fault:?}"
-    ))
+    write_all(&mut StdSink::new(rt.stdout()), &told)?;
+    Ok(())
 }

@@ -2,6 +2,7 @@
 ghost use Rattle.std.specs.Prelude.{◌≡◌, ◌<◌, true, length};
 ghost use Rattle.tc_site.specs.Desks.{desk_of};
 
+use crate::pairs::two_desks;
 use anyhow::bail;
 use std::alloc::Global;
 use std::sync::Wait;
@@ -38,15 +39,7 @@ fn is_served<R: Wait>(rt: &R, alloc: Global, config: &Config) -> anyhow::Result<
     }
     let roles = config.roles().copy(alloc)?;
     let (site, kits) = Site::new(alloc, config, roles)?;
-    let mut kits = kits;
-    let Some(second) = kits.pop() else {
-        bail!("there is no second kit");
-    };
-    let Some(first) = kits.pop() else {
-        bail!("there is no first kit");
-    };
-    let mut holder = AgentDesk::new(alloc, &site, first);
-    let mut caller = AgentDesk::new(alloc, &site, second);
+    let (mut holder, mut caller) = two_desks(alloc, &site, kits)?;
     let centre = Name::new(alloc, b"b")?;
     let ask = Ask::Out(Term::Atom(Name::new(alloc, b"p")?));
     serve_beside(rt, alloc, &mut holder, &mut caller, &centre, ask)

@@ -8,9 +8,9 @@
 mod driving;
 mod holding;
 mod logs;
+mod pairs;
 mod polling;
 
-use anyhow::anyhow;
 use driving::report_driving;
 use holding::report_holding;
 use polling::report_polling;
@@ -23,8 +23,6 @@ fn main(rt: HostRuntime) -> anyhow::Result<()> {
     report_polling(&rt, alloc, &mut told)?;
     report_driving(&rt, alloc, 1, b"agents a and b, 1 worker: ", &mut told)?;
     report_driving(&rt, alloc, 2, b"agents a and b, 2 workers: ", &mut told)?;
-    write_all(&mut StdSink::new(rt.stdout()), &told).map_err(|fault| anyhow!(
-        "what was told was not written: {fault:?}"
-    ))?;
+    write_all(&mut StdSink::new(rt.stdout()), &told)?;
     Ok(())
 }

@@ -4,6 +4,7 @@ ghost use Rattle.std.specs.Prelude.{◌≡◌, true};
 ghost use Rattle.tc_site.specs.Desks.{desk_of};
 
 use crate::logs::append_log;
+use crate::pairs::two_desks;
 use anyhow::bail;
 use std::alloc::Global;
 use std::sync::Wait;
@@ -55,15 +56,7 @@ fn told_at_desks<R: Wait>(rt: &R, alloc: Global, config: &Config) -> anyhow::Res
     }
     let roles = config.roles().copy(alloc)?;
     let (site, kits) = Site::new(alloc, config, roles)?;
-    let mut kits = kits;
-    let Some(second) = kits.pop() else {
-        bail!("there is no second kit");
-    };
-    let Some(first) = kits.pop() else {
-        bail!("there is no first kit");
-    };
-    let mut taker = AgentDesk::new(alloc, &site, first);
-    let mut putter = AgentDesk::new(alloc, &site, second);
+    let (mut taker, mut putter) = two_desks(alloc, &site, kits)?;
     let mut told = Vec::new(alloc);
     take_by_polls(rt, alloc, &mut taker, &mut putter, &mut told)?;
     take_by_wait(rt, alloc, &mut taker, &mut putter, &mut told)?;
@@ -93,7 +86,7 @@ fn take_by_polls<R: Wait>(
     Ok(())
 }
 
-// The first desk waits for a tuple that the second has put meanwhile.
+// The first desk waits for a tuple that the second has put meanwhile, and appends its log.
 fn take_by_wait<R: Wait>(
     rt: &R,
     alloc: Global,
@@ -108,7 +101,9 @@ fn take_by_wait<R: Wait>(
     let put = term(alloc, b"q(2)")?;
     make_ask(rt, alloc, taker, Ask::In(wanted), told)?;
     make_ask(rt, alloc, putter, Ask::Out(put), told)?;
-    make_wait(rt, alloc, taker, told)?;
+    taker.wait(rt, alloc)?;
+    told.extend_from_slice(b"wait: answered\n")?;
+    append_log(alloc, taker.log(), told)?;
     Ok(())
 }
 
@@ -152,21 +147,6 @@ fn make_poll<R: Wait>(
         Seen::Answered => b"poll: answered\n",
     };
     told.extend_from_slice(line)?;
-    append_log(alloc, desk.log(), told)?;
-    Ok(())
-}
-
-// Waits, and appends that the reply has come and the desk's log.
-fn make_wait<R: Wait>(
-    rt: &R,
-    alloc: Global,
-    desk: &mut AgentDesk<Roles>,
-    told: &mut Vec<u8>,
-) -> anyhow::Result<()>
-    requires { (desk_of desk.old).free ≡ true }
-{
-    desk.wait(rt, alloc)?;
-    told.extend_from_slice(b"wait: answered\n")?;
     append_log(alloc, desk.log(), told)?;
     Ok(())
 }

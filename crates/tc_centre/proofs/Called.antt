@@ -15,6 +15,7 @@ use Rattle.tc_model.specs.declared.outcomes.Outcome.{Outcome}
 use Rattle.tc_model.specs.declared.outcomes.Reply.{Reply}
 use Rattle.tc_model.specs.declared.entries.Entry.{Entry}
 use Rattle.tc_model.specs.declared.entries.Entry.TheVariants.{Called, Looked}
+use Rattle.tc_model.specs.declared.limits.TheConstants.{MOST_WEIGHT}
 use Rattle.tc_centre.specs.Held.{held, IsHeld, IsSettled}
 use Rattle.tc_centre.proofs.Budgets.{served-within}
 use Rattle.tc_centre.proofs.Entries.{held-push}
@@ -23,7 +24,7 @@ use Rattle.std.proofs.Common.{refl, Option}
 
 module _ (origin : Origin) (history longer : List Entry) (clauses : List Rule) (rows : List Row) (n : ℕ)
     (requests : List Request) (id : CallId) (at : IsSettled origin history clauses rows n requests) (next : IsNext origin history id)
-    (room : weight history + (length requests + 2) * (origin.budget + 1) ≤ 4000000) where
+    (room : weight history + (length requests + 2) * (origin.budget + 1) ≤ MOST_WEIGHT) where
   pub called : (kept : List Rule) (new : List Row) (m : ℕ) (others : List Request) (op : Op) (result : Outcome) (items : List Item)
       → IsServed TheFirst origin (held clauses rows requests) id op result items
       → held kept new others ≡ after_call id op result items (held clauses rows requests)

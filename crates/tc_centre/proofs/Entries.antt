@@ -9,6 +9,7 @@ use Rattle.tc_model.specs.Run.{IsLegal}
 use Rattle.tc_model.specs.State.{State, Origin, opening, after_entry, after_history}
 use Rattle.tc_model.specs.declared.calls.Request.{Request}
 use Rattle.tc_model.specs.declared.entries.Entry.{Entry}
+use Rattle.tc_model.specs.declared.limits.TheConstants.{MOST_WEIGHT}
 use Rattle.tc_model.proofs.Runs.{EachEntry-push, after_history-push}
 use Rattle.tc_centre.specs.Held.{held, IsHeld}
 
@@ -21,7 +22,7 @@ pub held-push : (origin : Origin) (history : List Entry) (clauses kept : List Ru
     → IsHeld origin history clauses rows n requests
     → IsLegal TheFirst origin history (held clauses rows requests) e
     → held kept new others ≡ after_entry e (held clauses rows requests)
-    → weight history + weight_of e + length others * (origin.budget + 1) ≤ 4000000
+    → weight history + weight_of e + length others * (origin.budget + 1) ≤ MOST_WEIGHT
     → m ≤ n + 65 * weight_of e
     → IsHeld origin (history ++ e ∷ []) kept new m others
 held-push origin history clauses kept rows new n m requests others e h legal leads light next =
@@ -32,6 +33,6 @@ held-push origin history clauses kept rows new n m requests others e h legal lea
       run = EachEntry-push (IsLegal TheFirst origin) (opening origin) history e h.run
           (subst (λ t. IsLegal TheFirst origin history t e) h.state legal);
       state = leads ∙ ap (after_entry e) h.state ∙ sym (after_history-push (opening origin) history e);
-      light = subst (λ w. w + length others * (origin.budget + 1) ≤ 4000000) (sym pushed) light;
+      light = subst (λ w. w + length others * (origin.budget + 1) ≤ MOST_WEIGHT) (sym pushed) light;
       ages = omega (arith, h.ages, next, pushed);
     }

@@ -12,6 +12,7 @@ use Rattle.tc_model.specs.declared.calls.Op.{Op}
 use Rattle.tc_model.specs.declared.calls.Request.{Request}
 use Rattle.tc_model.specs.declared.entries.Entry.{Entry}
 use Rattle.tc_model.specs.declared.entries.Entry.TheVariants.{Called, Looked}
+use Rattle.tc_model.specs.declared.limits.TheConstants.{MOST_WEIGHT}
 use Rattle.tc_centre.specs.Centre.{Centre}
 use Rattle.tc_centre.specs.Held.{origin_of, IsSettled, IsAtRest, IsSame, Keeps, Grows}
 use Rattle.tc_centre.specs.Places.{place_in, ArePlaces}
@@ -64,17 +65,17 @@ module _ (f : Founding) (old new : List Entry) (clauses : List Rule) (rows : Lis
   -- what is held stays settled behind a look
   pub look-settled : (asked waiting kept : ℕ) → IsSettled (origin_of f) old clauses rows n requests → IsNext centre.origin centre.history id
       → HasCall (earlier id asked) old → kept ≡ weight old → waiting ≡ length requests
-      → (4000000 < kept + (waiting + 2) * (f.budget + 1) → false ≡ true)
+      → (MOST_WEIGHT < kept + (waiting + 2) * (f.budget + 1) → false ≡ true)
       → new ≡ old ++ Looked id asked (reply_in old (earlier id asked)) ∷ []
       → IsSettled (origin_of f) new clauses rows n requests
   look-settled asked waiting kept settled next called weighs count light grown =
       let P : Centre → Type 0 = λ k. IsNext k.origin k.history id in
-      let room : kept + (waiting + 2) * (f.budget + 1) ≤ 4000000 =
+      let room : kept + (waiting + 2) * (f.budget + 1) ≤ MOST_WEIGHT =
       ⊎_elim (λ over. absurd (true≢false (sym (light over)))) (λ within. within)
-      (cases_lt 4000000 (kept + (waiting + 2) * (f.budget + 1))) in
+      (cases_lt MOST_WEIGHT (kept + (waiting + 2) * (f.budget + 1))) in
       looked (origin_of f) old new clauses rows n requests id settled (subst P (sym view) next)
-      (subst (λ w. w + (length requests + 2) * (f.budget + 1) ≤ 4000000) weighs
-      (subst (λ p. kept + (p + 2) * (f.budget + 1) ≤ 4000000) count room))
+      (subst (λ w. w + (length requests + 2) * (f.budget + 1) ≤ MOST_WEIGHT) weighs
+      (subst (λ p. kept + (p + 2) * (f.budget + 1) ≤ MOST_WEIGHT) count room))
       asked (reply_in old (earlier id asked)) (record { called = called; told = refl }) grown
 
   pub look-weight : (asked kept : ℕ) → kept ≡ weight old

@@ -6,6 +6,7 @@ ghost use Rattle.tc_model.specs.State.{after_taking};
 ghost use Rattle.tc_model.specs.declared.events.EventOp.TheVariants.{Out};
 ghost use Rattle.tc_model.specs.declared.events.Phase.TheVariants.{Pre, Post};
 ghost use Rattle.tc_model.specs.declared.events.Sign.TheVariants.{Neither, Success, Failure};
+ghost use Rattle.tc_cascade.specs.Ages.{most_ages};
 ghost use Rattle.tc_cascade.specs.Ends.{items_of};
 ghost use Rattle.tc_phases.specs.Phases.{IsRegime, IsPhase, IsSearch, IsOldest, asking_op, search_op};
 
@@ -33,7 +34,7 @@ pub fn put(
     bag: &mut Bag,
 ) -> Result<Cascade, NoMemory>
     requires regime { IsRegime regime.now }
-    requires next { bag.old.next + 640001 ≤ u64.MAX }
+    requires next { bag.old.next + most_ages + 1 ≤ u64.MAX }
     ensures phase { IfOk result (IsPhase regime.now (success_event Out tuple.now)
         (tuples_of bag.old.now ++ tuple.now ∷ []) bag.old bag.new) }
     ensures same { OnErr result (bag.new ≡ bag.old) }
@@ -60,7 +61,7 @@ pub fn request(
     bag: &mut Bag,
 ) -> Result<Cascade, NoMemory>
     requires regime { IsRegime regime.now }
-    requires next { bag.old.next + 640001 ≤ u64.MAX }
+    requires next { bag.old.next + most_ages + 1 ≤ u64.MAX }
     ensures phase { IfOk result (IsPhase regime.now (request_event (asking_op takes) template.now)
         (tuples_of bag.old.now) bag.old bag.new) }
     ensures same { OnErr result (bag.new ≡ bag.old) }
@@ -89,7 +90,7 @@ pub fn search(
     bag: &mut Bag,
 ) -> Result<(Option<Ground>, Cascade), NoMemory>
     requires regime { IsRegime regime.now }
-    requires next { bag.old.next + 640001 ≤ u64.MAX }
+    requires next { bag.old.next + most_ages + 1 ≤ u64.MAX }
     ensures search { IfOk result
         (λ x. IsSearch regime.now takes template.now bag.old bag.new x.0 x.1) }
     ensures same { OnErr result (bag.new ≡ bag.old) }
@@ -123,7 +124,7 @@ pub fn answer(
     bag: &mut Bag,
 ) -> Result<(Ground, Cascade), NoMemory>
     requires regime { IsRegime regime.now }
-    requires next { bag.old.next + 640001 ≤ u64.MAX }
+    requires next { bag.old.next + most_ages + 1 ≤ u64.MAX }
     requires oldest { IsOldest bag.old.now age }
     ensures tuple { IfOk result (λ x. tuple_at age bag.old.now ≡ Some x.0) }
     ensures phase { IfOk result (λ x. IsPhase regime.now (success_event (asking_op takes) x.0)
@@ -166,7 +167,7 @@ fn run_found(
     bag: &mut Bag,
 ) -> Result<Cascade, NoMemory>
     requires regime { IsRegime regime.now }
-    requires next { bag.old.next + 640001 ≤ u64.MAX }
+    requires next { bag.old.next + most_ages + 1 ≤ u64.MAX }
     requires op { MayOccur op Post Success }
     requires found { IsOldest bag.old.now age }
     requires there { tuple_at age bag.old.now ≡ Some tuple.now }

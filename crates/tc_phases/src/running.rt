@@ -4,6 +4,7 @@ ghost use Rattle.tc_bag.specs.Stock.{AddsNone, tuples_of};
 ghost use Rattle.tc_model.specs.Events.{MayOccur, success_event};
 ghost use Rattle.tc_model.specs.declared.events.Phase.TheVariants.{Post};
 ghost use Rattle.tc_model.specs.declared.events.Sign.TheVariants.{Success};
+ghost use Rattle.tc_cascade.specs.Ages.{most_ages};
 ghost use Rattle.tc_cascade.specs.Ends.{IsEnd, items_of};
 ghost use Rattle.tc_phases.specs.Phases.{IsRegime, IsPhase, setting_in};
 ghost use Rattle.tc_phases.specs.Running.{changed, event_in, IsAllowed};
@@ -60,7 +61,7 @@ pub fn run_phase(
 ) -> Result<Cascade, NoMemory>
     requires regime { IsRegime regime.now }
     requires trigger { IsAllowed trigger.now }
-    requires next { bag.old.next + 640001 ≤ u64.MAX }
+    requires next { bag.old.next + most_ages + 1 ≤ u64.MAX }
     ensures phase { IfOk result (IsPhase regime.now (event_in trigger.now)
         (tuples_of (changed change.now bag.old).now) bag.old bag.new) }
     ensures same { OnErr result (bag.new ≡ bag.old) }
@@ -91,7 +92,7 @@ fn make_and_run(
 ) -> Result<Cascade, NoMemory>
     requires regime { IsRegime regime.now }
     requires trigger { IsAllowed trigger.now }
-    requires next { bag.old.next + 640001 ≤ u64.MAX }
+    requires next { bag.old.next + most_ages + 1 ≤ u64.MAX }
     ensures ends { IfOk result (IsEnd regime.now.spec.now (setting_in regime.now) regime.now.budget
         (event_in trigger.now) (changed change.now bag.old) bag.new) }
     ensures old { OnOk result (AddsNone bag.old.next bag.old.now bag.new.now) }

@@ -8,7 +8,7 @@ use Rattle.tc_config.specs.declared.faults.ConfigCause.TheVariants as cause
 use Rattle.tc_config.specs.declared.limits.TheConstants.{MOST_BYTES}
 use Rattle.tucson.specs.declared.status.Status.{Status}
 use Rattle.tucson.specs.declared.status.Status.TheVariants.{Ended, WriteFault, Refused, Blocked, ReadFault, NoMemory, Usage}
-use Rattle.tucson.specs.Answer.{Input, Unread, Whole, TooLong, IsAnswer, IsInput, IsDue}
+use Rattle.tucson.specs.Answer.{Input, Unread, Whole, TooLong, IsDueForInput, IsInput, IsDue}
 use Rattle.tucson.specs.Commands.{IsRun}
 use Rattle.tucson.specs.Ending.{BreaksOff, Call, EndsAsDue, Ends, IsUnlessStopped, Tells, Writes}
 
@@ -38,7 +38,7 @@ Ends-written call status NoMemory input text read due wrote =
 
 -- the answer to an input that was read whole
 pub Ends-told : (call : Call) (result : Status) (input : List ℕ) → IsRun call.words → ReadsAll call.source.left call.source_after.left MOST_BYTES input
-    → Tells (IsAnswer input) call.sink call.sink_after result → Ends call result
+    → Tells (IsDueForInput input) call.sink call.sink_after result → Ends call result
 Ends-told call result input run read (inl told) =
     Ends-written call told.status result (Whole input) told.text read (run, told.is) told.writes
 Ends-told call result input run read (inr none) = subst (Ends call) (sym none.0) (inl none.1)

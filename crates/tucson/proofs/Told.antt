@@ -13,7 +13,7 @@ use Rattle.tc_config.specs.Good.{IsGood}
 use Rattle.tc_writing.specs.Flow.{Flow, HandsOn}
 use Rattle.tc_writing.proofs.Flows.{appended-nil}
 use Rattle.tc_config.specs.Texts.{Spells}
-use Rattle.tucson.specs.Answer.{IsAnswer, IsOutcome, IsTextOf}
+use Rattle.tucson.specs.Answer.{IsDueForInput, IsOutcome, IsTextOf}
 use Rattle.tucson.specs.Ending.{Tells, Writes}
 use Rattle.tucson.specs.Status.{status_of_run}
 use Rattle.tucson.specs.declared.status.Status.{Status}
@@ -93,7 +93,7 @@ module _ (c : Configuration) (histories : List (List Entry)) (logs : List (List 
 
 -- what is due for a configuration is due for the input that spells it
 answered : (input : List ℕ) (c : Configuration) → Spells input c → (status : Status) (told : List ℕ) → IsOutcome c status told
-    → IsAnswer input status told
+    → IsDueForInput input status told
 answered input c spells Ended told is = record { config = c; spells = spells; run = is }
 answered input c spells Blocked told is = record { config = c; spells = spells; run = is }
 answered input c spells WriteFault told is = absurd is
@@ -103,7 +103,7 @@ answered input c spells NoMemory told is = absurd is
 answered input c spells Usage told is = absurd is
 
 pub tells_of : (input : List ℕ) (c : Configuration) → Spells input c → (old new : SinkState) (result : Status)
-    → Tells (IsOutcome c) old new result → Tells (IsAnswer input) old new result
+    → Tells (IsOutcome c) old new result → Tells (IsDueForInput input) old new result
 tells_of input c spells old new result (inl told) = inl (record {
   status = told.status;
   text = told.text;

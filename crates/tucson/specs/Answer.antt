@@ -79,16 +79,16 @@ IsInput left rest (Whole input) = ReadsAll left rest MOST_BYTES input
 IsInput left rest TooLong = ReadsPast left rest MOST_BYTES
 
 -- the status and the text that are due for the whole input
-abbrev pub IsAnswer : List ℕ → Status → List ℕ → Type 0
-IsAnswer input Ended text = IsTextOfRun false input text
-IsAnswer input Blocked text = IsTextOfRun true input text
-IsAnswer input (Refused clause why) text = IsRefusal input clause why text
-IsAnswer input status text = ⊥
+abbrev pub IsDueForInput : List ℕ → Status → List ℕ → Type 0
+IsDueForInput input Ended text = IsTextOfRun false input text
+IsDueForInput input Blocked text = IsTextOfRun true input text
+IsDueForInput input (Refused clause why) text = IsRefusal input clause why text
+IsDueForInput input status text = ⊥
 
 -- a call with these words and this input is to end with this status, and to write this text
 abbrev pub IsDue : List (List ℕ) → Input → Status → List ℕ → Type 0
 IsDue words Unread Usage text = (IsRun words → ⊥) × (text ≡ usage_text)
-IsDue words (Whole input) status text = IsRun words × IsAnswer input status text
+IsDue words (Whole input) status text = IsRun words × IsDueForInput input status text
 IsDue words TooLong (Refused clause cause.Length) text =
     IsRun words × (clause ≡ 0) × (text ≡ refused_text 0 cause.Length)
 IsDue words input status text = ⊥

@@ -7,7 +7,7 @@ ghost use Rattle.tc_config.specs.Good.{IsGood};
 ghost use Rattle.tc_config.specs.Texts.{IsRefused, Spells};
 ghost use Rattle.tc_config.specs.declared.faults.ConfigCause.{ConfigCause};
 ghost use Rattle.tc_runner.specs.Cores.{Goes, histories, rows_of};
-ghost use Rattle.tucson.specs.Answer.{IsAnswer, IsOutcome};
+ghost use Rattle.tucson.specs.Answer.{IsDueForInput, IsOutcome};
 ghost use Rattle.tucson.specs.Commands.{run_words};
 ghost use Rattle.tucson.specs.Ending.{Ends, IsEndOfRun, IsUnlessStopped, Tells, sink_of, source_of};
 
@@ -75,7 +75,7 @@ fn answer<R: Threads + Wait + Sync, K: Sink, G: Gate + Sync>(
     gate: &G,
 ) -> Status
     requires { 0 < workers }
-    ensures tells { Tells (IsAnswer input.now) (sink_of K.taken K.write_faults K.sure sink.old)
+    ensures tells { Tells (IsDueForInput input.now) (sink_of K.taken K.write_faults K.sure sink.old)
         (sink_of K.taken K.write_faults K.sure sink.new) result }
     ensures writes { Counts (result ≡ Status.WriteFault)
         (K.write_faults sink.old) (K.write_faults sink.new) }

@@ -27,7 +27,6 @@ mod calls;
 mod ends;
 mod rows;
 
-use anyhow::anyhow;
 use calls::print_row;
 use rows::rows;
 use tc_io::{StdSink, StdSource, read_all, write_all};
@@ -37,15 +36,11 @@ const MOST_BYTES: usize = 1 << 20;
 
 fn main(rt: HostRuntime) -> anyhow::Result<()> {
     let alloc = rt.alloc();
-    let table = read_all(alloc, &mut StdSource::new(rt.stdin()), MOST_BYTES).map_err(
-        |fault| anyhow!("no table was read: {fault:?}"),
-    )?;
+    let table = read_all(alloc, &mut StdSource::new(rt.stdin()), MOST_BYTES)?;
     let mut ends = Vec::new(alloc);
     for row in rows(alloc, &table)? {
         print_row(&rt, alloc, &row, &mut ends)?;
     }
-    write_all(&mut StdSink::new(rt.stdout()), &ends).map_err(|fault| anyhow!(
-        "what came of it was not written: {fault:?}"
-    ))?;
+    write_all(&mut StdSink::new(rt.stdout()), &ends)?;
     Ok(())
 }
