@@ -381,7 +381,7 @@ module _ {W : Type 0} (d : AgentState W) (is : IsDesk d) (site : IsSite d.site.n
           row = waiting.row_is;
           is = pending-row d is site w waiting;
           turn = takes-gone d w.centre p q at-p log (Some w) centre waiting.named room.sees.finds.left
-          (ap (λ (x : PassState Entry Origin). x.turns) room.sees.after);
+              (ap (λ (x : PassState Entry Origin). x.turns) room.sees.after);
         }))
         (λ (same : q ≡ p).
         let whole : set d.passes w.centre q ≡ d.passes = ap (λ x. set d.passes w.centre x) same ∙ set-slice_get d.passes w.centre p at-p in
