@@ -5,12 +5,12 @@ use Rattle.std.specs.declared.result.Result.{Result}
 use Rattle.std.proofs.lemmas.List.Elements.{All-append, All-cons, All-nil, All-weaker}
 use Rattle.tc_centre.specs.declared.answers.Answer.{Answer}
 use Rattle.tc_centre.specs.declared.answers.Poll.{Poll}
-use Rattle.tc_model.specs.Calls.{id_of}
+use Rattle.tc_model.specs.Calls.{id_of, call_of}
 use Rattle.tc_model.specs.State.{Origin}
 use Rattle.tc_model.specs.declared.calls.Op.{Op}
 use Rattle.tc_model.specs.declared.entries.Entry.{Entry}
 use Rattle.tc_model.specs.declared.entries.Entry.TheVariants.{Called, Looked}
-use Rattle.tc_shared.specs.Passes.{IsCallRefused, IsSharedPollRefused, Makes, Tells, call_id}
+use Rattle.tc_shared.specs.Passes.{IsCallRefused, IsSharedPollRefused, Makes, Tells}
 use Rattle.tc_shared.specs.declared.answers.CallFault.{CallFault}
 use Rattle.tc_shared.specs.declared.answers.CallFault.TheVariants as call
 use Rattle.tc_shared.specs.declared.answers.SharedPollFault.{SharedPollFault}
@@ -37,7 +37,7 @@ module _ (p q : PassState Entry Origin) (n : ℕ) (below : NumbersBelow n p) whe
   pub numbers-call : (t : TurnstileState Origin) (op : Op) (r : Result Answer CallFault) → IfOk r (λ told. Makes t p n op told q)
       → IfErr r (λ fault. IsCallRefused t p fault q) → NumbersBelow (n + 1) q
   numbers-call t op (Ok told) makes refused =
-      numbers-own (Called (call_id p n) op makes.result makes.items) refl (ap (λ (x : PassState Entry Origin). x.mine) makes.after)
+      numbers-own (Called (call_of p.number n) op makes.result makes.items) refl (ap (λ (x : PassState Entry Origin). x.mine) makes.after)
   numbers-call t op (Err call.TurnsSpent) makes refused = numbers-same (ap (λ (x : PassState Entry Origin). x.mine) refused.1)
   numbers-call t op (Err (call.Full weight pending)) makes refused =
       numbers-same (ap (λ (x : PassState Entry Origin). x.mine) refused.sees.after)
@@ -47,7 +47,7 @@ module _ (p q : PassState Entry Origin) (n : ℕ) (below : NumbersBelow n p) whe
   pub numbers-poll : (t : TurnstileState Origin) (asked : ℕ) (r : Result Poll SharedPollFault) → IfOk r (λ told. Tells t p n asked told q)
       → IfErr r (λ fault. IsSharedPollRefused t p asked fault q) → NumbersBelow (n + 1) q
   numbers-poll t asked (Ok told) tells refused =
-      numbers-own (Looked (call_id p n) asked tells.reply) refl (ap (λ (x : PassState Entry Origin). x.mine) tells.after)
+      numbers-own (Looked (call_of p.number n) asked tells.reply) refl (ap (λ (x : PassState Entry Origin). x.mine) tells.after)
   numbers-poll t asked (Err poll.TurnsSpent) tells refused = numbers-same (ap (λ (x : PassState Entry Origin). x.mine) refused.1)
   numbers-poll t asked (Err poll.Stranger) tells refused = numbers-same (ap (λ (x : PassState Entry Origin). x.mine) refused.0.after)
   numbers-poll t asked (Err (poll.Full weight pending)) tells refused =

@@ -1,7 +1,8 @@
 //! An agent's moves at a shared centre.
 ghost use Rattle.std.specs.Prelude.{◌≡◌, ◌+◌, false};
 ghost use Rattle.tc_model.specs.Run.{HasCall};
-ghost use Rattle.tc_shared.specs.Passes.{IsFreshPassOf, IsPassOf, Keeps, call_id};
+ghost use Rattle.tc_model.specs.Calls.{call_of};
+ghost use Rattle.tc_shared.specs.Passes.{IsFreshPassOf, IsPassOf, Keeps};
 ghost use Rattle.shared_rows.specs.Plays.{IsPlayed, MayMove, Moves};
 
 use crate::fault::Fault;
@@ -157,7 +158,7 @@ fn wait<R: Wait>(
     number: u64,
 ) -> Result<Told, Fault>
     requires may { MayMove centre.now pass.old (number + 1) }
-    requires called { HasCall (call_id pass.old number) pass.old.seen }
+    requires called { HasCall (call_of pass.old.number number) pass.old.seen }
     ensures { Moves centre.now pass.old number pass.new }
 {
     match centre.wait(rt, alloc, pass, number) {

@@ -5,7 +5,8 @@ use Rattle.tc_bag.specs.Stock.{Row}
 use Rattle.tc_model.specs.Entries.{weight}
 use Rattle.tc_model.specs.Reactions.{Rule}
 use Rattle.tc_model.specs.Replies.{reply_in}
-use Rattle.tc_model.specs.Run.{IsNext, IsFirstRun, HasCall, earlier}
+use Rattle.tc_model.specs.Calls.{call_of}
+use Rattle.tc_model.specs.Run.{IsNext, IsFirstRun, HasCall}
 use Rattle.tc_model.specs.State.{IsQuiescent}
 use Rattle.tc_model.specs.declared.calls.CallId.{CallId}
 use Rattle.tc_model.specs.declared.calls.Op.{Op}
@@ -49,9 +50,9 @@ module _ (f : Founding) (old new : List Entry) (clauses : List Rule) (rows : Lis
         answer = told;
       }
 
-  pub tells : (asked : ℕ) (poll : Poll) → HasCall (earlier id asked) old
-      → new ≡ old ++ Looked id asked (reply_in old (earlier id asked)) ∷ []
-      → IsFirstRun (origin_of f) new → IsPoll (reply_in old (earlier id asked)) poll
+  pub tells : (asked : ℕ) (poll : Poll) → HasCall (call_of id.agent asked) old
+      → new ≡ old ++ Looked id asked (reply_in old (call_of id.agent asked)) ∷ []
+      → IsFirstRun (origin_of f) new → IsPoll (reply_in old (call_of id.agent asked)) poll
       → Tells centre (centre_with f new) id asked poll
   tells asked poll called grown run told =
       let P : Centre → Type 0 = λ k. Tells k (centre_with f new) id asked poll in
@@ -64,9 +65,9 @@ module _ (f : Founding) (old new : List Entry) (clauses : List Rule) (rows : Lis
 
   -- what is held stays settled behind a look
   pub look-settled : (asked waiting kept : ℕ) → IsSettled (origin_of f) old clauses rows n requests → IsNext centre.origin centre.history id
-      → HasCall (earlier id asked) old → kept ≡ weight old → waiting ≡ length requests
+      → HasCall (call_of id.agent asked) old → kept ≡ weight old → waiting ≡ length requests
       → (MOST_WEIGHT < kept + (waiting + 2) * (f.budget + 1) → false ≡ true)
-      → new ≡ old ++ Looked id asked (reply_in old (earlier id asked)) ∷ []
+      → new ≡ old ++ Looked id asked (reply_in old (call_of id.agent asked)) ∷ []
       → IsSettled (origin_of f) new clauses rows n requests
   look-settled asked waiting kept settled next called weighs count light grown =
       let P : Centre → Type 0 = λ k. IsNext k.origin k.history id in
@@ -76,20 +77,20 @@ module _ (f : Founding) (old new : List Entry) (clauses : List Rule) (rows : Lis
       looked (origin_of f) old new clauses rows n requests id settled (subst P (sym view) next)
       (subst (λ w. w + (length requests + 2) * (f.budget + 1) ≤ MOST_WEIGHT) weighs
       (subst (λ p. kept + (p + 2) * (f.budget + 1) ≤ MOST_WEIGHT) count room))
-      asked (reply_in old (earlier id asked)) (record { called = called; told = refl }) grown
+      asked (reply_in old (call_of id.agent asked)) (record { called = called; told = refl }) grown
 
   pub look-weight : (asked kept : ℕ) → kept ≡ weight old
-      → new ≡ old ++ Looked id asked (reply_in old (earlier id asked)) ∷ [] → kept + 1 ≡ weight new
+      → new ≡ old ++ Looked id asked (reply_in old (call_of id.agent asked)) ∷ [] → kept + 1 ≡ weight new
   look-weight asked kept weighs grown =
-      ap (λ w. w + 1) weighs ∙ sym (ap weight grown ∙ weight-push old (Looked id asked (reply_in old (earlier id asked))))
+      ap (λ w. w + 1) weighs ∙ sym (ap weight grown ∙ weight-push old (Looked id asked (reply_in old (call_of id.agent asked))))
 
   -- the places of the old history are those of the new
   pub look-places : (asked : ℕ) (lists : List (List (ℕ × ℕ))) → IsNext centre.origin centre.history id → ArePlaces lists old
-      → new ≡ old ++ Looked id asked (reply_in old (earlier id asked)) ∷ [] → ArePlaces lists new
+      → new ≡ old ++ Looked id asked (reply_in old (call_of id.agent asked)) ∷ [] → ArePlaces lists new
   look-places asked lists next places grown =
       let P : Centre → Type 0 = λ k. IsNext k.origin k.history id in
       subst (ArePlaces lists) (sym grown) (record {
-        index = index-looked old id asked (reply_in old (earlier id asked)) (place_in lists) (subst P (sym view) next).number
+        index = index-looked old id asked (reply_in old (call_of id.agent asked)) (place_in lists) (subst P (sym view) next).number
             places.index;
         rise = places.rise;
       })

@@ -1,7 +1,8 @@
 -- What a turn of a centre does.
 use Rattle.std.specs.Prelude.{◌≡◌, ℕ, Option, Some, None, List, [], ◌∷◌, ◌++◌, All}
 use Rattle.tc_model.specs.Replies.{reply_in}
-use Rattle.tc_model.specs.Run.{IsFirstRun, HasCall, earlier}
+use Rattle.tc_model.specs.Calls.{call_of}
+use Rattle.tc_model.specs.Run.{IsFirstRun, HasCall}
 use Rattle.tc_model.specs.State.{IsQuiescent}
 use Rattle.tc_model.specs.declared.calls.CallId.{CallId}
 use Rattle.tc_model.specs.declared.calls.Op.{Op}
@@ -66,17 +67,17 @@ IsPoll reply poll.NotYet = reply ≡ None
 
 -- an agent is told what became of an earlier call of its own, and an entry of that is appended
 pub record Tells (old new : Centre) (id : CallId) (asked : ℕ) (told : Poll) : Type 0 where
-  pub called : HasCall (earlier id asked) old.history
+  pub called : HasCall (call_of id.agent asked) old.history
   pub appended : new ≡ record old {
-    history = old.history ++ Looked id asked (reply_in old.history (earlier id asked)) ∷ [];
+    history = old.history ++ Looked id asked (reply_in old.history (call_of id.agent asked)) ∷ [];
   }
   pub run : IsFirstRun new.origin new.history
-  pub poll : IsPoll (reply_in old.history (earlier id asked)) told
+  pub poll : IsPoll (reply_in old.history (call_of id.agent asked)) told
 
 -- why a look is refused: the agent has made no such call, or the centre is full
 abbrev pub IsPollRefused : Centre → CallId → ℕ → PollFault → Type 0
-IsPollRefused centre id asked fault.Stranger = HasCall (earlier id asked) centre.history → ⊥
+IsPollRefused centre id asked fault.Stranger = HasCall (call_of id.agent asked) centre.history → ⊥
 IsPollRefused centre id asked (fault.Full weight pending) =
-    HasCall (earlier id asked) centre.history × IsFullCentre centre
+    HasCall (call_of id.agent asked) centre.history × IsFullCentre centre
     × (weight ≡ weight_in centre) × (pending ≡ waiting_in centre)
 IsPollRefused centre id asked fault.NoMemory = Unit {0}

@@ -3,7 +3,8 @@ ghost use Rattle.std.specs.Prelude.{◌≡◌, ◌↔◌, ◌+◌, ◌*◌, ◌<
 ghost use Rattle.std.specs.Prelude.{IfOk, OnOk, OnErr};
 ghost use Rattle.tc_model.specs.Replies.{reply_in};
 ghost use Rattle.tc_model.specs.declared.limits.TheConstants.{MOST_BUDGET, MOST_WEIGHT};
-ghost use Rattle.tc_model.specs.Run.{HasCall, earlier};
+ghost use Rattle.tc_model.specs.Calls.{call_of};
+ghost use Rattle.tc_model.specs.Run.{HasCall};
 ghost use Rattle.tc_centre.specs.Places.{lists_of, ArePlaces};
 ghost use Rattle.tc_centre.specs.Turns.{IsPoll};
 
@@ -57,7 +58,7 @@ impl Core {
     ghost use Rattle.tc_model.specs.Replies.{reply_in};
     ghost use Rattle.tc_model.specs.declared.limits.TheConstants.{MOST_WEIGHT};
     ghost use Rattle.tc_model.specs.State.{IsOrigin, IsQuiescent, origin_from};
-    ghost use Rattle.tc_model.specs.Run.{IsNext, IsRun, IsFirstRun, HasCall, earlier};
+    ghost use Rattle.tc_model.specs.Run.{IsNext, IsRun, IsFirstRun, HasCall};
     ghost use Rattle.tc_centre.specs.Centre.{centre_from, state_of, weight_in, waiting_in, IsFullCentre};
     ghost use Rattle.tc_model.specs.Typed.{IsTyped};
     ghost use Rattle.tc_centre.specs.Numbers.{IsLast, IsAbove, IsNextCall};
@@ -147,9 +148,9 @@ impl Core {
         requires { IsNext self.old.origin self.old.history id }
         ensures told { IfOk result (Tells self.old self.new id asked) }
         ensures refused { IfErr result (IsPollRefused self.old id asked) }
-        ensures stranger { (HasCall (earlier id asked) self.old.history → ⊥)
+        ensures stranger { (HasCall (call_of id.agent asked) self.old.history → ⊥)
             → result ≡ Err PollFault.Stranger }
-        ensures full { HasCall (earlier id asked) self.old.history → IsFullCentre self.old
+        ensures full { HasCall (call_of id.agent asked) self.old.history → IsFullCentre self.old
             → result ≡ Err (PollFault.Full (weight_in self.old) (waiting_in self.old)) }
         ensures same { OnErr result (self.new ≡ self.old) }
     {
@@ -302,10 +303,10 @@ fn look_up(
     history: &mut Vec<Entry>,
 ) -> Result<Poll, NoMemory>
     requires places { ArePlaces (lists_of places.now.items) history.old.items }
-    requires called { HasCall (earlier id asked) history.old.items }
-    ensures poll { IfOk result (IsPoll (reply_in history.old.items (earlier id asked))) }
+    requires called { HasCall (call_of id.agent asked) history.old.items }
+    ensures poll { IfOk result (IsPoll (reply_in history.old.items (call_of id.agent asked))) }
     ensures appended { OnOk result (history.new.items ≡ history.old.items
-        ++ Entry.Looked id asked (reply_in history.old.items (earlier id asked)) ∷ []) }
+        ++ Entry.Looked id asked (reply_in history.old.items (call_of id.agent asked)) ∷ []) }
     ensures same { OnErr result (history.new.items ≡ history.old.items) }
 {
     let call = CallId {

@@ -2,7 +2,7 @@
 use Rattle.std.specs.Prelude.{◌≡◌, ℕ, ◌+◌, true, false, List, All, Contains}
 use Rattle.std.specs.Prelude.{length, take, slice_get, Some, None}
 use Rattle.tc_model.specs.Asks.{primitive_of}
-use Rattle.tc_model.specs.Calls.{id_of, calls_of}
+use Rattle.tc_model.specs.Calls.{call_of, id_of, calls_of}
 use Rattle.tc_model.specs.Choices.{Choice}
 use Rattle.tc_model.specs.Replies.{reply_in}
 use Rattle.tc_model.specs.Run.{IsRunBy}
@@ -29,10 +29,6 @@ origin_of c centre = origin_from centre.name (agent_names c) centre.budget centr
 -- a grant permits agents of the role to use the primitive on the centre
 abbrev pub Permits : Configuration → ℕ → ℕ → Primitive → Type 0
 Permits c role centre primitive = Contains c.roles (grant role centre primitive)
-
--- an agent's call of this number
-abbrev pub call : ℕ → ℕ → CallId
-call agent number = record { agent = agent; number = number }
 
 -- the entry is no look at an earlier call
 abbrev pub IsNoLook : Entry → Type 0
@@ -69,7 +65,7 @@ pub record IsRow (c : Configuration) (histories : List (List Entry)) (agent : �
   pub history : List Entry
   pub there : slice_get histories step.item.centre ≡ Some history
   pub result : IsResult (Permits c a.role step.item.centre (primitive_of asked)) (origin_of c centre) history
-      (call agent (k + 1)) asked row.result
+      (call_of agent (k + 1)) asked row.result
 
 -- the number is that of a row whose ask was served, at the centre of this place
 pub record IsServedNumber (a : AgentConf) (log : List LogRow) (place number : ℕ) : Type 0 where
@@ -104,7 +100,7 @@ pub record IsEnded (histories : List (List Entry)) (agent : ℕ) (a : AgentConf)
     : Type 0 where
   pub waits : (k : ℕ) (row : LogRow) (step : ScriptStep) (history : List Entry) → slice_get log k ≡ Some row
       → row.result ≡ Pending → slice_get (steps_of a.scripts) k ≡ Some step
-      → slice_get histories step.item.centre ≡ Some history → reply_in history (call agent (k + 1)) ≡ None
+      → slice_get histories step.item.centre ≡ Some history → reply_in history (call_of agent (k + 1)) ≡ None
   pub complete : any_pending log ≡ false → length log ≡ length (steps_of a.scripts)
 
 -- histories and logs of a run of the configuration that may go on

@@ -5,7 +5,7 @@ use Rattle.std.proofs.lemmas.Bool.{cases_eq, true≢false}
 use Rattle.std.proofs.lemmas.List.{append-nil, length-append}
 use Rattle.std.proofs.lemmas.List.Elements.{All-nil, All-weaker, Contains-append_left}
 use Rattle.std.proofs.lemmas.Option.{none-some, same_Some, slice_get_within}
-use Rattle.tc_desk.specs.Agreeing.{Agrees, AgreesRefused, AgreesRow, AreLonger, HasComeTo, HasPolled, HasReply, HasRow, HasWaited, HaveRows, IsLastServed, IsLonger, IsMadeBy, IsNextRow, NamesCentre, numbered}
+use Rattle.tc_desk.specs.Agreeing.{Agrees, AgreesRefused, AgreesRow, AreLonger, HasComeTo, HasPolled, HasReply, HasRow, HasWaited, HaveRows, IsLastServed, IsLonger, IsMadeBy, IsNextRow, NamesCentre}
 use Rattle.tc_desk.specs.Desks.{replied}
 use Rattle.tc_desk.specs.Logs.{is_pending, is_served}
 use Rattle.tc_desk.specs.declared.rows.LogResult.{LogResult}
@@ -15,7 +15,7 @@ use Rattle.tc_desk.specs.declared.rows.Refusal.{Refusal}
 use Rattle.tc_desk.specs.declared.rows.Refusal.TheVariants as refusal
 use Rattle.tc_desk.proofs.Histories.{IsServedAs-append, WasFull-append}
 use Rattle.tc_lists.proofs.Places.{slice_get_longer, slice_get_push, slice_get_pushed, slice_get_shorter, slice_get_seam, slice_get_beside}
-use Rattle.tc_model.specs.Calls.{id_of, calls_of}
+use Rattle.tc_model.specs.Calls.{id_of, calls_of, call_of}
 use Rattle.tc_model.specs.Replies.{reply_in}
 use Rattle.tc_model.specs.State.{Origin}
 use Rattle.tc_model.specs.declared.calls.CallId.{CallId}
@@ -158,12 +158,12 @@ module _ (origins : List Origin) (names : List (List ℕ)) (olds news : List (Li
   pub rows-longer : (log log' : List LogRow) (top k place : ℕ) (row : LogRow) (origin : Origin) (history : List Entry) → Agrees origins names olds agent log
       → AreLonger agent top olds news → k + 1 ≤ top → AreLike k log log'
       → slice_get log k ≡ Some row → slice_get names place ≡ Some row.centre → slice_get origins place ≡ Some origin → slice_get news place ≡ Some history
-      → AgreesRow origin history (numbered agent (k + 1)) log' k row row.result
+      → AgreesRow origin history (call_of agent (k + 1)) log' k row row.result
   rows-longer log log' top k place row origin history agrees longer within like at named began there =
       let was = as_long olds news place history longer.whole there in
       let grown : IsLonger agent top was.0 history = longer.each place was.0 history was.1 there in
-      subst (λ h. AgreesRow origin h (numbered agent (k + 1)) log' k row row.result) (sym grown.grown)
-      (AgreesRow-longer origin was.0 grown.more (numbered agent (k + 1)) log log' k row row.result like
+      subst (λ h. AgreesRow origin h (call_of agent (k + 1)) log' k row row.result) (sym grown.grown)
+      (AgreesRow-longer origin was.0 grown.more (call_of agent (k + 1)) log log' k row row.result like
       (above-top (k + 1) top (calls_of agent grown.more) within grown.above)
       (agrees.rows k place row origin was.0 at named began was.1))
 
@@ -190,9 +190,9 @@ module _ (origins : List Origin) (names : List (List ℕ)) (olds news : List (Li
         rows-longer log (log ++ row ∷ []) (length log) k place x origin history agrees longer (omega (arith, before.0))
         (AreLike-longer k log (row ∷ []) (omega (arith, before.0))) before.1 named began there)
         (λ (last : (k ≡ length log) × (x ≡ row)).
-        subst (λ j. AgreesRow origin history (numbered agent (j + 1)) (log ++ row ∷ []) j x x.result) (sym last.0)
-        (subst (λ (r : LogRow). AgreesRow origin history (numbered agent (length log + 1)) (log ++ row ∷ []) (length log) r r.result) (sym last.1)
-        (AgreesRow-like origin history (numbered agent (length log + 1)) log (log ++ row ∷ []) (length log) row row.result
+        subst (λ j. AgreesRow origin history (call_of agent (j + 1)) (log ++ row ∷ []) j x x.result) (sym last.0)
+        (subst (λ (r : LogRow). AgreesRow origin history (call_of agent (length log + 1)) (log ++ row ∷ []) (length log) r r.result) (sym last.1)
+        (AgreesRow-like origin history (call_of agent (length log + 1)) log (log ++ row ∷ []) (length log) row row.result
         (AreLike-longer (length log) log (row ∷ []) (omega arith))
         (next.agrees place origin history (subst (λ (r : LogRow). slice_get names place ≡ Some r.centre) last.1 named) began there))))
         (slice_get_push log row k x at);
@@ -283,10 +283,10 @@ module _ (front : List LogRow) (row : LogRow) (back : List LogRow) (reply : Repl
       (agrees : Agrees origins names histories agent (front ++ row ∷ back)) (has : HasReply names histories agent (length front) row reply) where
     answered-row : (place : ℕ) (origin : Origin) (history : List Entry) → slice_get names place ≡ Some row.centre → slice_get origins place ≡ Some origin
         → slice_get histories place ≡ Some history
-        → AgreesRow origin history (numbered agent (length front + 1)) after (length front) (replied row reply) (Replied reply)
+        → AgreesRow origin history (call_of agent (length front + 1)) after (length front) (replied row reply) (Replied reply)
     answered-row place origin history named began there =
-        let was : AgreesRow origin history (numbered agent (length front + 1)) before (length front) row Pending =
-        subst (λ r. AgreesRow origin history (numbered agent (length front + 1)) before (length front) row r) pending
+        let was : AgreesRow origin history (call_of agent (length front + 1)) before (length front) row Pending =
+        subst (λ r. AgreesRow origin history (call_of agent (length front + 1)) before (length front) row r) pending
         (agrees.rows (length front) place row origin history (slice_get_seam front row back) named began there) in
         record {
           ask = was.0.ask;
@@ -316,11 +316,11 @@ module _ (front : List LogRow) (row : LogRow) (back : List LogRow) (reply : Repl
           ⊎_elim
           (λ (here : k ≡ length front).
           let is : x ≡ replied row reply = same_Some x (replied row reply) (sym at ∙ ap (slice_get after) here ∙ slice_get_seam front (replied row reply) back) in
-          subst (λ j. AgreesRow origin history (numbered agent (j + 1)) after j x x.result) (sym here)
-          (subst (λ (r : LogRow). AgreesRow origin history (numbered agent (length front + 1)) after (length front) r r.result) (sym is)
+          subst (λ j. AgreesRow origin history (call_of agent (j + 1)) after j x x.result) (sym here)
+          (subst (λ (r : LogRow). AgreesRow origin history (call_of agent (length front + 1)) after (length front) r r.result) (sym is)
           (answered-row place origin history (subst (λ (r : LogRow). slice_get names place ≡ Some r.centre) is named) began there)))
           (λ (other : k ≡ length front → ⊥).
-          AgreesRow-like origin history (numbered agent (k + 1)) before after k x x.result (AreLike-answered k)
+          AgreesRow-like origin history (call_of agent (k + 1)) before after k x x.result (AreLike-answered k)
           (agrees.rows k place x origin history (slice_get_beside front row (replied row reply) back k other ∙ at) named began there))
           (cases_eq k (length front));
       calls = λ place centre history named there.

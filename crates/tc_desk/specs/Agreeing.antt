@@ -1,7 +1,7 @@
 -- When an agent's log agrees with the histories of the centres that it went to.
 use Rattle.std.specs.Prelude.{◌≡◌, ℕ, ◌+◌, ◌<◌, true, List, ◌++◌, All}
 use Rattle.std.specs.Prelude.{Contains, length, Option, Some, slice_get}
-use Rattle.tc_model.specs.Calls.{id_of, calls_of}
+use Rattle.tc_model.specs.Calls.{call_of, id_of, calls_of}
 use Rattle.tc_model.specs.Replies.{reply_in}
 use Rattle.tc_model.specs.State.{Origin}
 use Rattle.tc_model.specs.declared.asks.Ask.{Ask}
@@ -20,10 +20,6 @@ use Rattle.tc_desk.specs.declared.rows.LogResult.{LogResult}
 use Rattle.tc_desk.specs.declared.rows.LogResult.TheVariants.{Replied, Pending, Refused, Polled}
 use Rattle.tc_desk.specs.declared.rows.Refusal.{Refusal}
 use Rattle.tc_desk.specs.declared.rows.Refusal.TheVariants as refusal
-
--- the call of this number of the agent
-abbrev pub numbered : ℕ → ℕ → CallId
-numbered agent number = record { agent = agent; number = number }
 
 -- the ask has come to this, by the history of its centre
 pub record HasComeTo (origin : Origin) (history : List Entry) (id : CallId) (row : LogRow)
@@ -115,7 +111,7 @@ pub record Agrees (origins : List Origin) (names : List (List ℕ)) (histories :
   pub rows : (k place : ℕ) (row : LogRow) (origin : Origin) (history : List Entry)
       → slice_get log k ≡ Some row → slice_get names place ≡ Some row.centre
       → slice_get origins place ≡ Some origin → slice_get histories place ≡ Some history
-      → AgreesRow origin history (numbered agent (k + 1)) log k row row.result
+      → AgreesRow origin history (call_of agent (k + 1)) log k row row.result
   pub calls : (place : ℕ) (centre : List ℕ) (history : List Entry) → slice_get names place ≡ Some centre
       → slice_get histories place ≡ Some history → All (HasRow log centre) (calls_of agent history)
 
@@ -144,11 +140,11 @@ pub record IsNextRow (origins : List Origin) (names : List (List ℕ)) (historie
   pub known : NamesCentre names row.centre row.result
   pub agrees : (place : ℕ) (origin : Origin) (history : List Entry) → slice_get names place ≡ Some row.centre
       → slice_get origins place ≡ Some origin → slice_get histories place ≡ Some history
-      → AgreesRow origin history (numbered agent (length log + 1)) log (length log) row row.result
+      → AgreesRow origin history (call_of agent (length log + 1)) log (length log) row row.result
 
 -- the pending row has this reply in the history of its centre
 pub record HasReply (names : List (List ℕ)) (histories : List (List Entry)) (agent place : ℕ) (row : LogRow)
     (reply : Reply) : Type 0 where
   pub pending : row.result ≡ Pending
   pub told : (k : ℕ) (history : List Entry) → slice_get names k ≡ Some row.centre
-      → slice_get histories k ≡ Some history → reply_in history (numbered agent (place + 1)) ≡ Some reply
+      → slice_get histories k ≡ Some history → reply_in history (call_of agent (place + 1)) ≡ Some reply

@@ -1,5 +1,6 @@
 -- What a log says.
-use Rattle.std.specs.Prelude.{Bool, true, false, List, map}
+use Rattle.std.specs.Prelude.{Bool, true, false, List, Vec, map}
+use Rattle.std.specs.Global.{Global}
 use Rattle.std.specs.List.{list_any}
 use Rattle.tc_desk.specs.declared.rows.LogRow.{LogRow}
 use Rattle.tc_desk.specs.declared.rows.LogResult.{LogResult}
@@ -22,6 +23,10 @@ is_served (Polled reply) = false
 -- the results of the rows, in order
 abbrev pub results_of : List LogRow → List LogResult
 results_of log = map (λ (row : LogRow). row.result) log
+
+-- the rows of each log, in order
+abbrev pub rows_of : List (Vec LogRow Global) → List (List LogRow)
+rows_of logs = map (λ (log : Vec LogRow Global). log.items) logs
 
 -- whether some row of the log is pending
 abbrev pub any_pending : List LogRow → Bool

@@ -19,10 +19,10 @@ use Rattle.tc_model.specs.Bodies.{scene_of, beginning}
 use Rattle.tc_model.specs.Triggers.{IsClause}
 use Rattle.tc_model.specs.Cascades.{Wave, IsTried, Cascades, IsWhole, IsOver}
 use Rattle.tc_model.specs.State.{State, Origin, IsOrigin, IsTypedState, IsMatch, opening, after_taking, after_history}
-use Rattle.tc_model.specs.Calls.{IsCallOf}
+use Rattle.tc_model.specs.Calls.{IsCallOf, call_of}
 use Rattle.tc_model.specs.Replies.{reply_of, outcome_given, or_given, outcome_in, reply_in}
 use Rattle.tc_model.specs.Tables.{IsServed, IsGiven, setting_of}
-use Rattle.tc_model.specs.Run.{IsLegal, IsFirstRun, earlier}
+use Rattle.tc_model.specs.Run.{IsLegal, IsFirstRun}
 use Rattle.tc_model.specs.Calls.{same_id}
 use Rattle.tc_model.specs.declared.calls.CallId.{CallId}
 use Rattle.tc_model.specs.declared.calls.Op.{Op}
@@ -284,12 +284,12 @@ legal-typed origin history s (Gave id result items) typed all legal call =
     (subst IsTypedId legal.asked asked.id, given.0, given.1)
 legal-typed origin history s (Looked id asked told) typed all legal call =
     let is = legal.2 in
-    let of : IsTypedId (earlier id asked) =
-    call-typed (earlier id asked) is.called.entry is.called.call
+    let of : IsTypedId (call_of id.agent asked) =
+    call-typed (call_of id.agent asked) is.called.entry is.called.call
     (All-contains IsTyped history is.called.entry all is.called.stands) in (
       call,
       of.number,
-      subst (λ o. IfSome o IsTypedReply) (sym is.told) (reply_in-typed history (earlier id asked) all),
+      subst (λ o. IfSome o IsTypedReply) (sym is.told) (reply_in-typed history (call_of id.agent asked) all),
     )
 
 pub IsTyped-first_run : (origin : Origin) (history : List Entry) → IsOrigin origin → IsFirstRun origin history

@@ -4,6 +4,10 @@ use Rattle.tc_model.specs.declared.calls.CallId.{CallId}
 use Rattle.tc_model.specs.declared.entries.Entry.{Entry}
 use Rattle.tc_model.specs.declared.entries.Entry.TheVariants.{Called, Gave, Looked}
 
+-- the agent's call of this number
+abbrev pub call_of : ℕ → ℕ → CallId
+call_of agent number = record { agent = agent; number = number }
+
 -- the id of an entry
 abbrev pub id_of : Entry → CallId
 id_of (Called id op outcome items) = id

@@ -49,7 +49,12 @@ IsOutcomeWellFormed (outcome.Spec text) = Unit {0}
 abbrev pub IsAnswerOutcome : Outcome → Type 0
 IsAnswerOutcome (outcome.Took tuple) = Unit {0}
 IsAnswerOutcome (outcome.Over Post (Some tuple)) = Unit {0}
-IsAnswerOutcome _ = ⊥
+IsAnswerOutcome (outcome.Over Post None) = ⊥
+IsAnswerOutcome (outcome.Over Pre tuple) = ⊥
+IsAnswerOutcome outcome.Done = ⊥
+IsAnswerOutcome outcome.NoTuple = ⊥
+IsAnswerOutcome outcome.Pending = ⊥
+IsAnswerOutcome (outcome.Spec text) = ⊥
 
 -- the entry is well formed
 abbrev pub IsWellFormed : Entry → Type 0

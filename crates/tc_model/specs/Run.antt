@@ -2,7 +2,7 @@
 use Rattle.std.specs.Prelude.{◌≡◌, ℕ, ◌<◌, List, Some, All, Contains, length, slice_get, take}
 use Rattle.tc_model.specs.Choices.{Choice, AnyOne, TheFirst, IsChosen}
 use Rattle.tc_model.specs.State.{State, Origin, IsAnswerable, IsQuiescent, opening, after_history}
-use Rattle.tc_model.specs.Calls.{id_of, calls_of, IsCallOf}
+use Rattle.tc_model.specs.Calls.{call_of, id_of, calls_of, IsCallOf}
 use Rattle.tc_model.specs.Replies.{reply_in}
 use Rattle.tc_model.specs.Tables.{IsServed, IsGiven}
 use Rattle.tc_model.specs.declared.calls.CallId.{CallId}
@@ -25,10 +25,6 @@ pub record HasCall (id : CallId) (history : List Entry) : Type 0 where
   pub stands : Contains history entry
   pub call : IsCallOf id entry
 
--- an agent's earlier call
-abbrev pub earlier : CallId → ℕ → CallId
-earlier id asked = record { agent = id.agent; number = asked }
-
 -- a request that may be chosen is answered
 pub record IsAnswered
     (choice : Choice) (origin : Origin) (s : State) (id : CallId) (result : Outcome) (items : List Item)
@@ -40,8 +36,8 @@ pub record IsAnswered
 
 -- an agent is told what became of an earlier call of its own
 pub record IsTold (history : List Entry) (id : CallId) (asked : ℕ) (reply : Option Reply) : Type 0 where
-  pub called : HasCall (earlier id asked) history
-  pub told : reply ≡ reply_in history (earlier id asked)
+  pub called : HasCall (call_of id.agent asked) history
+  pub told : reply ≡ reply_in history (call_of id.agent asked)
 
 -- the entry may follow the history, which has led to this state; agents are listened to only where
 -- no request can be answered

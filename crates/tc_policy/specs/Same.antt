@@ -45,13 +45,11 @@ same_primitive p q e =
     let same : Some p ≡ Some q = sym (primitive_at-number p) ∙ ap primitive_at e ∙ primitive_at-number q in
     cc
 
-abbrev made : ℕ → ℕ → Primitive → Grant
-made role centre primitive = record { role = role; centre = centre; primitive = primitive }
-
 same_parts : (g h : Grant) → g.role ≡ h.role → g.centre ≡ h.centre → g.primitive ≡ h.primitive → g ≡ h
 same_parts g h role centre primitive =
-    ap (λ r. made r g.centre g.primitive) role ∙ ap (λ c. made h.role c g.primitive) centre
-    ∙ ap (made h.role h.centre) primitive
+    ap (λ r. record { role = r; centre = g.centre; primitive = g.primitive }) role
+    ∙ ap (λ c. record { role = h.role; centre = c; primitive = g.primitive }) centre
+    ∙ ap (λ p. record { role = h.role; centre = h.centre; primitive = p }) primitive
 
 -- the test tells equality
 pub same_grant-Decides : (g h : Grant) → Decides (same_grant g h) (g ≡ h)

@@ -8,7 +8,8 @@ use Rattle.tc_asks.specs.Nexts.{IsNextAsk}
 use Rattle.tc_asks.specs.declared.next.Next.{Next}
 use Rattle.tc_centre.specs.Centre.{Centre}
 use Rattle.tc_config.specs.Configurations.{Configuration, IsConfig, centre_names}
-use Rattle.tc_config.specs.Good.{IsRow, call, origin_of}
+use Rattle.tc_model.specs.Calls.{call_of}
+use Rattle.tc_config.specs.Good.{IsRow, origin_of}
 use Rattle.tc_config.specs.declared.configs.AgentConf.{AgentConf}
 use Rattle.tc_config.specs.declared.configs.CentreConf.{CentreConf}
 use Rattle.tc_desk.specs.Asks.{IsAsk}
@@ -36,7 +37,7 @@ module _ (c : Configuration) (agent : ℕ) (a : AgentConf) (cores : List Centre)
 
   -- the agent's next number at a core
   pub is-next : (place : ℕ) (s : CentreConf) (x : Centre) → slice_get cores place ≡ Some x → x.origin ≡ origin_of c s
-      → IsNext x.origin x.history (call agent (length log + 1))
+      → IsNext x.origin x.history (call_of agent (length log + 1))
   is-next place s x at from =
       let named = slice_get_within c.agents agent a goes.stands in
       record {
@@ -67,7 +68,7 @@ module _ (c : Configuration) (agent : ℕ) (a : AgentConf) (cores : List Centre)
     module _ (s : CentreConf) (known : slice_get c.centres next.centre ≡ Some s) (before after : Centre)
         (stands : slice_get cores next.centre ≡ Some before) (row : LogRow) (number : row.number ≡ length log + 1) (named : row.centre ≡ s.name)
         (is-asked : row.ask ≡ Some next.ask)
-        (became : IsResult (Contains c.roles (grant a.role next.centre (primitive_of next.ask))) before.origin after.history (call agent (length log + 1)) next.ask row.result)
+        (became : IsResult (Contains c.roles (grant a.role next.centre (primitive_of next.ask))) before.origin after.history (call_of agent (length log + 1)) next.ask row.result)
         (settled : any_pending log ≡ false) where
       abbrev pushed : List LogRow
       pushed = log ++ row ∷ []
@@ -87,15 +88,15 @@ module _ (c : Configuration) (agent : ℕ) (a : AgentConf) (cores : List Centre)
           named = named;
           history = after.history;
           there = ap (slice_get hs) (sym asks.centre) ∙ there;
-          result = subst (λ (p : ℕ). IsResult (Contains c.roles (grant a.role p (primitive_of next.ask))) (origin_of c s) after.history (call agent (length log + 1)) next.ask row.result)
+          result = subst (λ (p : ℕ). IsResult (Contains c.roles (grant a.role p (primitive_of next.ask))) (origin_of c s) after.history (call_of agent (length log + 1)) next.ask row.result)
               asks.centre
-              (subst (λ (o : Origin). IsResult (Contains c.roles (grant a.role next.centre (primitive_of next.ask))) o after.history (call agent (length log + 1)) next.ask row.result)
+              (subst (λ (o : Origin). IsResult (Contains c.roles (grant a.role next.centre (primitive_of next.ask))) o after.history (call_of agent (length log + 1)) next.ask row.result)
               (core-of s before known stands) became);
         },
         sym asks.centre,
       )
 
-      goes-served : HasServed (call agent (length log + 1)) before after → is_served row.result ≡ true
+      goes-served : HasServed (call_of agent (length log + 1)) before after → is_served row.result ≡ true
           → GoesOn c agent a (set cores next.centre after) pushed × Touches agent cores (set cores next.centre after)
       goes-served served is-row =
           let are = AreCores-set c some-agent cores goes.are agent (length log + 1) next.centre before after stands served in
@@ -139,11 +140,11 @@ module _ (c : Configuration) (agent : ℕ) (a : AgentConf) (cores : List Centre)
           (subst (λ xs. GoesOn c agent a xs pushed) (sym kept) on, inl kept)
 
       -- the run may go on with the row
-      pub goes-asked : Changes (call agent (length log + 1)) before after (is_served row.result)
+      pub goes-asked : Changes (call_of agent (length log + 1)) before after (is_served row.result)
           → GoesOn c agent a (set cores next.centre after) pushed × Touches agent cores (set cores next.centre after)
       goes-asked change =
           elim (is_served row.result) as
-          (λ b. is_served row.result ≡ b → Changes (call agent (length log + 1)) before after b
+          (λ b. is_served row.result ≡ b → Changes (call_of agent (length log + 1)) before after b
           → GoesOn c agent a (set cores next.centre after) pushed × Touches agent cores (set cores next.centre after))
           [ true ↦ λ is-row served. goes-served served is-row | false ↦ λ none same. goes-refused same ] refl change
 
@@ -164,20 +165,20 @@ module _ (c : Configuration) (agent : ℕ) (a : AgentConf) (cores : List Centre)
       reads : slice_get cores next.centre ≡ Some (get_or cores next.centre r)
       reads = slice_get-get_or cores next.centre r next-core
 
-      pub next-number : (n : ℕ) → n ≡ length log + 1 → IsNext (get_or cores next.centre r).origin (get_or cores next.centre r).history (call agent n)
+      pub next-number : (n : ℕ) → n ≡ length log + 1 → IsNext (get_or cores next.centre r).origin (get_or cores next.centre r).history (call_of agent n)
       next-number n count =
-          subst (λ m. IsNext read.origin read.history (call agent m)) (sym count)
+          subst (λ m. IsNext read.origin read.history (call_of agent m)) (sym count)
           (is-next next.centre the-conf.0 read reads (core-of the-conf.0 read the-conf.1 reads))
 
       -- the run may go on with a row of what the ask came to there
       pub asked : (after : Centre) (n : ℕ) (grants : List Grant) (row : LogRow) → any_pending log ≡ false → n ≡ length log + 1 → grants ≡ c.roles
           → row.number ≡ n → row.centre ≡ the-conf.0.name → row.ask ≡ Some next.ask
-          → IsResult (Contains grants (grant a.role next.centre (primitive_of next.ask))) (get_or cores next.centre r).origin after.history (call agent n) next.ask row.result
-          → Changes (call agent n) (get_or cores next.centre r) after (is_served row.result)
+          → IsResult (Contains grants (grant a.role next.centre (primitive_of next.ask))) (get_or cores next.centre r).origin after.history (call_of agent n) next.ask row.result
+          → Changes (call_of agent n) (get_or cores next.centre r) after (is_served row.result)
           → GoesOn c agent a (set cores next.centre after) (log ++ row ∷ []) × Touches agent cores (set cores next.centre after)
       asked after n grants row settled count granted number named is-asked became change =
           let may : List Grant → Type 0 = λ gs. Contains gs (grant a.role next.centre (primitive_of next.ask)) in
           goes-asked the-conf.0 the-conf.1 read after reads row (number ∙ count) named is-asked
-          (subst (λ m. IsResult (may c.roles) read.origin after.history (call agent m) next.ask row.result) count
-          (subst (λ gs. IsResult (may gs) read.origin after.history (call agent n) next.ask row.result) granted became))
-          settled (subst (λ m. Changes (call agent m) read after (is_served row.result)) count change)
+          (subst (λ m. IsResult (may c.roles) read.origin after.history (call_of agent m) next.ask row.result) count
+          (subst (λ gs. IsResult (may gs) read.origin after.history (call_of agent n) next.ask row.result) granted became))
+          settled (subst (λ m. Changes (call_of agent m) read after (is_served row.result)) count change)

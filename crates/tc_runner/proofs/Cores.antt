@@ -11,13 +11,13 @@ use Rattle.tc_centre.proofs.Numbered.{gaves-unmade}
 use Rattle.tc_centre.specs.Centre.{Centre}
 use Rattle.tc_centre.specs.Turns.{IsGave}
 use Rattle.tc_config.specs.Configurations.{Configuration}
-use Rattle.tc_config.specs.Good.{AreHistories, Follows, IsHistory, IsNoLook, IsRow, IsServedNumber, call, origin_of}
+use Rattle.tc_config.specs.Good.{AreHistories, Follows, IsHistory, IsNoLook, IsRow, IsServedNumber, origin_of}
 use Rattle.tc_config.specs.declared.configs.AgentConf.{AgentConf}
 use Rattle.tc_config.specs.declared.configs.CentreConf.{CentreConf}
 use Rattle.tc_desk.specs.Logs.{any_pending, is_served}
 use Rattle.tc_desk.specs.declared.rows.LogRow.{LogRow}
 use Rattle.tc_lists.proofs.Places.{slice_get_pushed}
-use Rattle.tc_model.specs.Calls.{calls_of, id_of, is_call_of}
+use Rattle.tc_model.specs.Calls.{calls_of, id_of, is_call_of, call_of}
 use Rattle.tc_model.specs.Choices.{TheFirst}
 use Rattle.tc_model.specs.Run.{IsFirstRun}
 use Rattle.tc_model.specs.State.{Origin, IsQuiescent, opening, after_history}
@@ -65,9 +65,9 @@ module _ (c : Configuration) (some : 0 < length c.agents) where
 
   -- a call is served at one core
   module _ (cores : List Centre) (are : AreCores c cores) (agent number place : ℕ) (before after : Centre)
-      (stands : slice_get cores place ≡ Some before) (served : HasServed (call agent number) before after) where
+      (stands : slice_get cores place ≡ Some before) (served : HasServed (call_of agent number) before after) where
     abbrev called : Entry
-    called = Called (call agent number) served.op served.serves.result served.serves.items
+    called = Called (call_of agent number) served.op served.serves.result served.serves.items
 
     abbrev gaves : List Entry
     gaves = served.serves.gaves

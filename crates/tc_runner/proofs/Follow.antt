@@ -5,7 +5,7 @@ use Rattle.std.proofs.lemmas.Bool.{false≢true}
 use Rattle.std.proofs.lemmas.List.{length-append}
 use Rattle.std.proofs.lemmas.Option.{same_Some, slice_get_within, slice_get-get_or}
 use Rattle.tc_config.specs.Configurations.{Configuration}
-use Rattle.tc_config.specs.Good.{Follows, IsEnded, IsRow, IsServedNumber, Permits, call, origin_of}
+use Rattle.tc_config.specs.Good.{Follows, IsEnded, IsRow, IsServedNumber, Permits, origin_of}
 use Rattle.tc_config.specs.declared.configs.AgentConf.{AgentConf}
 use Rattle.tc_desk.specs.Asks.{IsAsk, ScriptStep, steps_of}
 use Rattle.tc_desk.specs.Logs.{any_pending, is_pending, results_of}
@@ -14,7 +14,7 @@ use Rattle.tc_desk.specs.declared.rows.LogRow.{LogRow}
 use Rattle.tc_desk.specs.declared.rows.LogResult.TheVariants.{Pending, Replied}
 use Rattle.tc_lists.proofs.Places.{slice_get_longer, slice_get_push, slice_get_pushed}
 use Rattle.tc_model.specs.Asks.{primitive_of}
-use Rattle.tc_model.specs.Calls.{id_of, calls_of}
+use Rattle.tc_model.specs.Calls.{id_of, calls_of, call_of}
 use Rattle.tc_model.specs.Replies.{reply_in}
 use Rattle.tc_model.specs.Run.{HasCall}
 use Rattle.tc_model.specs.State.{Origin}
@@ -118,13 +118,13 @@ module _ (c : Configuration) (agent : ℕ) (a : AgentConf) (histories : List (Li
   origin = origin_of c pending-row.centre
 
   abbrev id : CallId
-  id = call agent (length front + 1)
+  id = call_of agent (length front + 1)
 
   came : permits × IsCalled pending-row.history id pending-row.asked
   came = subst (IsResult permits origin pending-row.history id pending-row.asked) pending pending-row.result
 
   -- its call stands in the history of its centre
-  pub pending-called : HasCall (call agent (length front + 1)) pending-row.history
+  pub pending-called : HasCall (call_of agent (length front + 1)) pending-row.history
   pending-called = record {
     entry = Called id came.1.op came.1.called.result came.1.called.items;
     stands = came.1.called.stands;
@@ -132,7 +132,7 @@ module _ (c : Configuration) (agent : ℕ) (a : AgentConf) (histories : List (Li
   }
 
   -- nothing is left, where it has no reply
-  pub IsEnded-waits : reply_in pending-row.history (call agent (length front + 1)) ≡ None → IsEnded histories agent a (front ++ row ∷ [])
+  pub IsEnded-waits : reply_in pending-row.history (call_of agent (length front + 1)) ≡ None → IsEnded histories agent a (front ++ row ∷ [])
   IsEnded-waits none = record {
     waits = λ k x step history at waits item there.
         let last = follows.last k x at waits in
@@ -141,11 +141,11 @@ module _ (c : Configuration) (agent : ℕ) (a : AgentConf) (histories : List (Li
         same_Some step pending-row.step (sym item ∙ ap (slice_get (steps_of a.scripts)) same ∙ pending-row.asks.stands) in
         let history_is : history ≡ pending-row.history =
         same_Some history pending-row.history (sym there ∙ ap (λ (s : ScriptStep). slice_get histories s.item.centre) step_is ∙ pending-row.there) in
-        ap (λ h. reply_in h (call agent (k + 1))) history_is ∙ ap (λ j. reply_in pending-row.history (call agent (j + 1))) same ∙ none;
+        ap (λ h. reply_in h (call_of agent (k + 1))) history_is ∙ ap (λ j. reply_in pending-row.history (call_of agent (j + 1))) same ∙ none;
     complete = λ settled. absurd (any_pending-none (front ++ row ∷ []) (length front) row settled (slice_get_pushed front row) pending);
   }
 
-  module _ (reply : Reply) (replied : reply_in pending-row.history (call agent (length front + 1)) ≡ Some reply) where
+  module _ (reply : Reply) (replied : reply_in pending-row.history (call_of agent (length front + 1)) ≡ Some reply) where
     abbrev now : LogRow
     now = record row { result = Replied reply }
 

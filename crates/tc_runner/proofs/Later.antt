@@ -5,7 +5,7 @@ use Rattle.std.proofs.lemmas.List.{append-nil}
 use Rattle.std.proofs.lemmas.List.Elements.{All-nil}
 use Rattle.std.proofs.lemmas.Option.{same_Some}
 use Rattle.tc_config.specs.Configurations.{Configuration}
-use Rattle.tc_config.specs.Good.{IsRow, Permits, call, origin_of}
+use Rattle.tc_config.specs.Good.{IsRow, Permits, origin_of}
 use Rattle.tc_config.specs.declared.configs.AgentConf.{AgentConf}
 use Rattle.tc_desk.specs.Logs.{results_of}
 use Rattle.tc_desk.specs.Asks.{IsAsk}
@@ -17,7 +17,7 @@ use Rattle.tc_desk.specs.declared.rows.Refusal.TheVariants as refusal
 use Rattle.tc_desk.proofs.Histories.{IsServedAs-append}
 use Rattle.tc_desk.proofs.Growing.{above-top}
 use Rattle.tc_model.specs.Asks.{primitive_of}
-use Rattle.tc_model.specs.Calls.{id_of, calls_of}
+use Rattle.tc_model.specs.Calls.{id_of, calls_of, call_of}
 use Rattle.tc_model.specs.State.{Origin}
 use Rattle.tc_model.specs.declared.asks.Ask.{Ask}
 use Rattle.tc_model.specs.declared.calls.CallId.{CallId}
@@ -64,7 +64,7 @@ pub IsRow-later : (c : Configuration) (old new : List (List Entry)) (agent : ℕ
 IsRow-later c old new agent a log log' k top row within later same is =
     let here = slice_get-as_long old new is.step.item.centre is.history later.whole is.there in
     let longer : IsLonger agent top is.history here.0 = later.each is.step.item.centre is.history here.0 is.there here.1 in
-    let id : CallId = call agent (k + 1) in
+    let id : CallId = call_of agent (k + 1) in
     let permits : Type 0 = Permits c a.role is.step.item.centre (primitive_of is.asked) in
     let origin : Origin = origin_of c is.centre in
     record {

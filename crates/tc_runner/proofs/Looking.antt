@@ -6,7 +6,8 @@ use Rattle.std.proofs.lemmas.Option.{same_Some, slice_get-get_or, slice_get_with
 use Rattle.tc_asks.specs.Progress.{HasTaken, Progress}
 use Rattle.tc_centre.specs.Centre.{Centre}
 use Rattle.tc_config.specs.Configurations.{Configuration}
-use Rattle.tc_config.specs.Good.{Follows, IsEnded, IsRow, call}
+use Rattle.tc_model.specs.Calls.{call_of}
+use Rattle.tc_config.specs.Good.{Follows, IsEnded, IsRow}
 use Rattle.tc_config.specs.declared.configs.AgentConf.{AgentConf}
 use Rattle.tc_desk.specs.Asks.{ScriptStep}
 use Rattle.tc_desk.specs.Logs.{any_pending}
@@ -64,26 +65,26 @@ module _ (c : Configuration) (agent : ℕ) (a : AgentConf) (cores : List Centre)
       (sym row-is.there ∙ ap (slice_get (histories c cores)) place-is
       ∙ history-at c (some-agent c agent a cores log goes) cores goes.are place x at)
 
-  pub waiting-called : (x : Centre) → slice_get cores place ≡ Some x → HasCall (call agent (length log)) x.history
+  pub waiting-called : (x : Centre) → slice_get cores place ≡ Some x → HasCall (call_of agent (length log)) x.history
   waiting-called x at =
-      subst (HasCall (call agent (length log))) (history-is x at)
-      (subst (λ n. HasCall (call agent n) row-is.history) (sym last-number)
+      subst (HasCall (call_of agent (length log))) (history-is x at)
+      (subst (λ n. HasCall (call_of agent n) row-is.history) (sym last-number)
       (pending-called c agent a (histories c cores) w.front w.row w.pending follows))
 
-  told : (x : Centre) (reply : Option Reply) → slice_get cores place ≡ Some x → reply_in x.history (call agent (length log)) ≡ reply
-      → reply_in row-is.history (call agent (length w.front + 1)) ≡ reply
+  told : (x : Centre) (reply : Option Reply) → slice_get cores place ≡ Some x → reply_in x.history (call_of agent (length log)) ≡ reply
+      → reply_in row-is.history (call_of agent (length w.front + 1)) ≡ reply
   told x reply at is =
-      ap (λ h. reply_in h (call agent (length w.front + 1))) (history-is x at)
-      ∙ ap (λ n. reply_in x.history (call agent n)) (sym last-number) ∙ is
+      ap (λ h. reply_in h (call_of agent (length w.front + 1))) (history-is x at)
+      ∙ ap (λ n. reply_in x.history (call_of agent n)) (sym last-number) ∙ is
 
   -- nothing is left to do now, where the last ask has no reply
-  pub waiting-ended : (x : Centre) → slice_get cores place ≡ Some x → reply_in x.history (call agent (length log)) ≡ None
+  pub waiting-ended : (x : Centre) → slice_get cores place ≡ Some x → reply_in x.history (call_of agent (length log)) ≡ None
       → IsEnded (histories c cores) agent a log
   waiting-ended x at none =
       subst (IsEnded (histories c cores) agent a) (sym w.last)
       (IsEnded-waits c agent a (histories c cores) w.front w.row w.pending follows (told x None at none))
 
-  module _ (x : Centre) (at : slice_get cores place ≡ Some x) (reply : Reply) (replied : reply_in x.history (call agent (length log)) ≡ Some reply)
+  module _ (x : Centre) (at : slice_get cores place ≡ Some x) (reply : Reply) (replied : reply_in x.history (call_of agent (length log)) ≡ Some reply)
       (new : List LogRow) (answered : IsAnswered reply log new) where
     parts : (answered.front ≡ w.front) × (answered.row ∷ [] ≡ w.row ∷ [])
     parts =
@@ -121,39 +122,39 @@ module _ (c : Configuration) (agent : ℕ) (a : AgentConf) (cores : List Centre)
     reads : slice_get cores place ≡ Some (get_or cores place r)
     reads = slice_get-get_or cores place r waiting-core
 
-    pub read-called : HasCall (call agent n) (get_or cores place r).history
+    pub read-called : HasCall (call_of agent n) (get_or cores place r).history
     read-called =
-        subst (λ m. HasCall (call agent m) (get_or cores place r).history) (sym count) (waiting-called (get_or cores place r) reads)
+        subst (λ m. HasCall (call_of agent m) (get_or cores place r).history) (sym count) (waiting-called (get_or cores place r) reads)
 
     abbrev reply-now : Option Reply
-    reply-now = reply_in (get_or cores place r).history (call agent n)
+    reply-now = reply_in (get_or cores place r).history (call_of agent n)
 
-    same-call : (told : Option Reply) → reply-now ≡ told → reply_in (get_or cores place r).history (call agent (length log)) ≡ told
-    same-call told is = ap (λ m. reply_in (get_or cores place r).history (call agent m)) (sym count) ∙ is
+    same-call : (told : Option Reply) → reply-now ≡ told → reply_in (get_or cores place r).history (call_of agent (length log)) ≡ told
+    same-call told is = ap (λ m. reply_in (get_or cores place r).history (call_of agent m)) (sym count) ∙ is
 
-    pub read-none : (new : List LogRow) → Looks (reply_in (get_or cores place r).history (call agent n)) log new false
+    pub read-none : (new : List LogRow) → Looks (reply_in (get_or cores place r).history (call_of agent n)) log new false
         → (new ≡ log) × IsEnded (histories c cores) agent a new
     read-none new looks =
         let none = looks-none reply-now log new looks in
         (none.1, subst (IsEnded (histories c cores) agent a) (sym none.1) (waiting-ended (get_or cores place r) reads (same-call None none.0)))
 
-    pub read-goes : (new : List LogRow) → Looks (reply_in (get_or cores place r).history (call agent n)) log new true → GoesOn c agent a cores new
+    pub read-goes : (new : List LogRow) → Looks (reply_in (get_or cores place r).history (call_of agent n)) log new true → GoesOn c agent a cores new
     read-goes new looks =
         let some = looks-reply reply-now log new looks in
         answered-goes (get_or cores place r) reads some.0 (same-call (Some some.0) some.1) new some.2
 
-    pub read-settled : (new : List LogRow) → Looks (reply_in (get_or cores place r).history (call agent n)) log new true → any_pending new ≡ false
+    pub read-settled : (new : List LogRow) → Looks (reply_in (get_or cores place r).history (call_of agent n)) log new true → any_pending new ≡ false
     read-settled new looks =
         let some = looks-reply reply-now log new looks in
         answered-settled (get_or cores place r) reads some.0 (same-call (Some some.0) some.1) new some.2
 
-    pub read-left : (new : List LogRow) → Looks (reply_in (get_or cores place r).history (call agent n)) log new true → left_of a new < left_of a log
+    pub read-left : (new : List LogRow) → Looks (reply_in (get_or cores place r).history (call_of agent n)) log new true → left_of a new < left_of a log
     read-left new looks =
         let some = looks-reply reply-now log new looks in
         answered-left (get_or cores place r) reads some.0 (same-call (Some some.0) some.1) new some.2
 
     -- what an asker has taken in of the log, it has of the new one
-    pub read-taken : (new : List LogRow) → Looks (reply_in (get_or cores place r).history (call agent n)) log new true → (p : Progress)
+    pub read-taken : (new : List LogRow) → Looks (reply_in (get_or cores place r).history (call_of agent n)) log new true → (p : Progress)
         → ((scripts : List Lines) (before more : List LogRow) (q : Progress) → HasTaken scripts before q → HasTaken scripts (before ++ more) q)
         → ((scripts : List Lines) (before : List LogRow) (row : LogRow) (q : Progress) → row.result ≡ Pending → HasTaken scripts (before ++ row ∷ []) q → HasTaken scripts before q)
         → HasTaken a.scripts log p → HasTaken a.scripts new p

@@ -10,7 +10,8 @@ use Rattle.tc_config.specs.Configurations.{Configuration}
 use Rattle.tc_config.specs.declared.configs.AgentConf.{AgentConf}
 use Rattle.tc_desk.specs.declared.rows.LogRow.{LogRow}
 use Rattle.tc_runner.specs.Clients.{AreClients, IsClient}
-use Rattle.tc_runner.specs.Cores.{Goes, rows_of}
+use Rattle.tc_desk.specs.Logs.{rows_of}
+use Rattle.tc_runner.specs.Cores.{Goes}
 use Rattle.tc_runner.specs.Steps.{GoesOn, Moves, Touches}
 use Rattle.tc_runner.specs.declared.clients.Client.{Client}
 use Rattle.tc_lists.proofs.Sets.{slice_get-map_at}

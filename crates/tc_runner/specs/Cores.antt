@@ -1,6 +1,5 @@
 -- The cores of a configuration's centres, and the logs of its agents.
-use Rattle.std.specs.Prelude.{◌≡◌, ◌<◌, List, [], ◌∷◌, map, length, Vec}
-use Rattle.std.specs.Global.{Global}
+use Rattle.std.specs.Prelude.{◌≡◌, ◌<◌, List, [], ◌∷◌, map, length}
 use Rattle.tc_model.specs.Choices.{TheFirst}
 use Rattle.tc_model.specs.declared.entries.Entry.{Entry}
 use Rattle.tc_centre.specs.Centre.{Centre}
@@ -17,10 +16,6 @@ histories_of (s ∷ ss) (x ∷ xs) = x.history ∷ histories_of ss xs
 
 abbrev pub histories : Configuration → List Centre → List (List Entry)
 histories c cores = histories_of c.centres cores
-
--- the rows of each log, in order
-abbrev pub rows_of : List (Vec LogRow Global) → List (List LogRow)
-rows_of logs = map (λ (log : Vec LogRow Global). log.items) logs
 
 -- each centre is opened, if there is an agent, with what the configuration says
 abbrev pub AreCores : Configuration → List Centre → Type 0

@@ -3,7 +3,8 @@ use Rattle.std.specs.Prelude.{◌≡◌, ℕ, ◌<◌, ◌⊎◌, Bool, true, fa
 use Rattle.std.specs.Prelude.{◌∷◌, ◌++◌, Option, Some, None, set, slice_get}
 use Rattle.tc_centre.specs.Centre.{Centre}
 use Rattle.tc_config.specs.Configurations.{Configuration}
-use Rattle.tc_config.specs.Good.{AreHistories, Follows, IsEnded, call}
+use Rattle.tc_model.specs.Calls.{call_of}
+use Rattle.tc_config.specs.Good.{AreHistories, Follows, IsEnded}
 use Rattle.tc_config.specs.declared.configs.AgentConf.{AgentConf}
 use Rattle.tc_desk.specs.declared.rows.LogRow.{LogRow}
 use Rattle.tc_desk.specs.declared.rows.LogResult.TheVariants.{Replied}
@@ -29,7 +30,7 @@ pub record ServesAt (agent : ℕ) (old new : List Centre) : Type 0 where
   pub before : Centre
   pub after : Centre
   pub stands : slice_get old place ≡ Some before
-  pub served : HasServed (call agent number) before after
+  pub served : HasServed (call_of agent number) before after
   pub changed : new ≡ set old place after
 
 -- at most one call of the agent was served

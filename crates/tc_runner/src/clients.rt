@@ -2,7 +2,8 @@
 ghost use Rattle.std.specs.Prelude.{◌≡◌, ◌<◌, Some, length, slice_get, IfOk};
 ghost use Rattle.tc_desk.specs.Asks.{ScriptStep, steps_of};
 ghost use Rattle.tc_runner.specs.Clients.{AreClients, IsClient, IsLog, WaitsAt};
-ghost use Rattle.tc_runner.specs.Cores.{Goes, rows_of};
+ghost use Rattle.tc_desk.specs.Logs.{rows_of};
+ghost use Rattle.tc_runner.specs.Cores.{Goes};
 
 use crate::plans::Plan;
 use std::alloc::Global;

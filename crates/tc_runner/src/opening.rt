@@ -1,7 +1,7 @@
 //! The centres of a configuration, as they are opened.
 ghost use Rattle.std.specs.Prelude.{◌≡◌, ◌<◌, [], All, length, map, IfOk};
 ghost use Rattle.tc_config.specs.Configurations.{IsCentre};
-ghost use Rattle.tc_runner.specs.Cores.{rows_of};
+ghost use Rattle.tc_desk.specs.Logs.{rows_of};
 ghost use Rattle.tc_runner.specs.Plans.{AreAgentNames, IsFresh, fresh_core, fresh_cores, names_of};
 
 use crate::plans::Plan;

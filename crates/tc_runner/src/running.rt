@@ -3,7 +3,8 @@ ghost use Rattle.std.specs.Prelude.{◌≡◌, ◌<◌, [], true, false, length,
 ghost use Rattle.tc_config.specs.Good.{IsGood};
 ghost use Rattle.tc_model.specs.Choices.{TheFirst};
 ghost use Rattle.tc_runner.specs.Clients.{AreClients, left_in};
-ghost use Rattle.tc_runner.specs.Cores.{Goes, histories, rows_of};
+ghost use Rattle.tc_desk.specs.Logs.{rows_of};
+ghost use Rattle.tc_runner.specs.Cores.{Goes, histories};
 
 use crate::clients::{Client, clients};
 use crate::opening::Opened;

@@ -1,7 +1,7 @@
 -- What every call keeps of a pass.
 use Rattle.std.proofs.Common.{◌≡◌, ℕ, ◌+◌, ◌<◌, List, [], ◌∷◌, ◌++◌, All, false, refl, sym, ap, ◌∙◌, subst, arith}
 use Rattle.std.proofs.lemmas.List.Elements.{All-weaker, All-push, Contains-append_right, Contains-append_left, Contains-push}
-use Rattle.tc_model.specs.Calls.{id_of}
+use Rattle.tc_model.specs.Calls.{id_of, call_of}
 use Rattle.tc_model.specs.Run.{HasCall}
 use Rattle.tc_model.specs.State.{Origin}
 use Rattle.tc_model.specs.declared.calls.Op.{Op}
@@ -16,7 +16,7 @@ use Rattle.tc_shared.specs.declared.answers.LookFault.{LookFault}
 use Rattle.tc_shared.specs.declared.answers.LookFault.TheVariants as look
 use Rattle.tc_shared.specs.declared.answers.SharedPollFault.{SharedPollFault}
 use Rattle.tc_shared.specs.declared.answers.SharedPollFault.TheVariants as shared
-use Rattle.tc_shared.specs.Passes.{IsPassOf, Keeps, Makes, Tells, Sees, IsCallRefused, IsSharedPollRefused, IsLookRefused, Waits, after_turn, call_id}
+use Rattle.tc_shared.specs.Passes.{IsPassOf, Keeps, Makes, Tells, Sees, IsCallRefused, IsSharedPollRefused, IsLookRefused, Waits, after_turn}
 
 -- all numbers below one are below the next
 below-next : (number : ℕ) (mine : List Entry) → All (λ e. (id_of e).number < number) mine → All (λ e. (id_of e).number < number + 1) mine
@@ -70,23 +70,23 @@ module _ (t : TurnstileState Origin) (p q : PassState Entry Origin) (own : IsPas
     keeps-makes = keeps-turn _ _ makes.finds.own makes.after
 
     -- the pass knows its call then
-    pub makes-call : HasCall (call_id p number) q.seen
+    pub makes-call : HasCall (call_of p.number number) q.seen
     makes-call =
-        let e : Entry = Called (call_id p number) op makes.result makes.items in
-        subst (HasCall (call_id p number)) (sym (ap (λ (x : PassState Entry Origin). x.seen) makes.after)) (record {
+        let e : Entry = Called (call_of p.number number) op makes.result makes.items in
+        subst (HasCall (call_of p.number number)) (sym (ap (λ (x : PassState Entry Origin). x.seen) makes.after)) (record {
           entry = e;
           stands = Contains-append_right makes.found (e ∷ makes.gaves) e (Contains-append_left (e ∷ []) makes.gaves e (Contains-push [] e));
           call = refl;
         })
 
-    pub makes-own_call : HasCall (call_id q number) q.seen
+    pub makes-own_call : HasCall (call_of q.number number) q.seen
     makes-own_call =
         subst (λ (k : ℕ). HasCall (record { agent = k; number = number }) q.seen) (sym keeps-makes.number) makes-call
 
     -- the next number is above all of the agent's
     pub makes-below : All (λ e. (id_of e).number < number) p.mine → All (λ e. (id_of e).number < number + 1) q.mine
     makes-below below =
-        let e : Entry = Called (call_id p number) op makes.result makes.items in
+        let e : Entry = Called (call_of p.number number) op makes.result makes.items in
         subst (All (λ x. (id_of x).number < number + 1)) (sym (ap (λ (x : PassState Entry Origin). x.mine) makes.after))
         (All-push (λ x. (id_of x).number < number + 1) p.mine e (below-next number p.mine below) (omega arith))
 

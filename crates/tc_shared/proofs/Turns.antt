@@ -4,7 +4,7 @@ use Rattle.std.specs.declared.result.Result.{Result}
 use Rattle.std.proofs.lemmas.List.{append-nil}
 use Rattle.std.proofs.lemmas.Bool.{true≢false}
 use mathlib.Core.List.{IsPrefix}
-use Rattle.tc_model.specs.Calls.{calls_of, id_of}
+use Rattle.tc_model.specs.Calls.{calls_of, id_of, call_of}
 use Rattle.tc_model.specs.Run.{IsNext, HasCall}
 use Rattle.tc_model.specs.Entries.{IsFull, pending_after}
 use Rattle.tc_model.specs.Entries as entries
@@ -30,7 +30,7 @@ use Rattle.tc_centre.specs.declared.answers.TurnFault.TheVariants as turn
 use Rattle.tc_shared.specs.declared.answers.CallFault.{CallFault}
 use Rattle.tc_turn.specs.Owners.{entries_of, OthersOwnNone}
 use Rattle.tc_turn.specs.Passes.{TurnstileState, PassState, Enters, Leaves}
-use Rattle.tc_shared.specs.Passes.{IsPassOf, IsAtRest, IsPaused, IsPausedOf, IsCallRefused, IsSharedPollRefused, IsSameFault, IsSamePollFault, Makes, Tells, Sees, SeesFull, SeesRoom, Finds, call_id, after_turn}
+use Rattle.tc_shared.specs.Passes.{IsPassOf, IsAtRest, IsPaused, IsPausedOf, IsCallRefused, IsSharedPollRefused, IsSameFault, IsSamePollFault, Makes, Tells, Sees, SeesFull, SeesRoom, Finds, after_turn}
 use Rattle.tc_centre.proofs.Owned.{owned-calls}
 use Rattle.tc_shared.proofs.Adding.{others-none, own-more, none-of-none}
 
@@ -73,7 +73,7 @@ poll-no-fault r told why ok err = absurd (true≢false (ap (λ (x : Result Poll 
 module _ (t : TurnstileState Origin) (p m q : PassState Entry Origin) (old new : Centre) (own : IsPassOf t p) (free : p.holds ≡ false)
     (origin : old.origin ≡ t.origin) (enters : Enters owner_of p old.history m) where
   -- the agent's next call
-  pub is-next : (number : ℕ) → All (λ e. (id_of e).number < number) p.mine → IsNext old.origin old.history (call_id p number)
+  pub is-next : (number : ℕ) → All (λ e. (id_of e).number < number) p.mine → IsNext old.origin old.history (call_of p.number number)
   is-next number below = record {
     agent = subst (λ (o : Origin). p.number < length o.agents) (sym origin) own.agent;
     number = subst (λ (es : List Entry). All (λ e. (id_of e).number < number) es) (sym enters.mine ∙ owned-calls p.number old.history) below;
@@ -87,11 +87,11 @@ module _ (t : TurnstileState Origin) (p m q : PassState Entry Origin) (old new :
 
   -- what a turn adds: nothing, where it is refused
   pub adds : (number : ℕ) (op : Op) (served : Result Answer TurnFault)
-      → IfOk served (Serves old new (call_id p number) op) → OnErr served (new ≡ old)
+      → IfOk served (Serves old new (call_of p.number number) op) → OnErr served (new ≡ old)
       → (more : List Entry) × (new.history ≡ m.seen ++ more) × OthersOwnNone owner_of m.number more
   adds number op (Ok told) serves same =
-      let s : Serves old new (call_id p number) op told = serves in
-      let e : Entry = Called (call_id p number) op s.result s.items in (
+      let s : Serves old new (call_of p.number number) op told = serves in
+      let e : Entry = Called (call_of p.number number) op s.result s.items in (
         e ∷ s.gaves,
         ap (λ (c : Centre). c.history) s.appended ∙ ap (λ (h : List Entry). h ++ e ∷ s.gaves) seen-old,
         others-none e m.number (ap (λ (n : ℕ). Some n) (sym number-same)) s.gaves s.answers,
@@ -118,10 +118,10 @@ module _ (t : TurnstileState Origin) (p m q : PassState Entry Origin) (old new :
       (sym free)
 
   pub makes : (number : ℕ) (op : Op) (told : Answer) → (IsFullCentre old → ⊥)
-      → Serves old new (call_id p number) op told → IsAtRest new.origin new.history
+      → Serves old new (call_of p.number number) op told → IsAtRest new.origin new.history
       → Leaves owner_of m new.history q → Makes t p number op told q
   makes number op told room s rest leaves =
-      let e : Entry = Called (call_id p number) op s.result s.items in
+      let e : Entry = Called (call_of p.number number) op s.result s.items in
       let grown : new.history ≡ old.history ++ e ∷ s.gaves = ap (λ (c : Centre). c.history) s.appended in
       let same : new.origin ≡ t.origin = ap (λ (c : Centre). c.origin) s.appended ∙ origin in
       let mine : entries_of owner_of p.number new.history ≡ p.mine ++ e ∷ [] =
@@ -141,7 +141,7 @@ module _ (t : TurnstileState Origin) (p m q : PassState Entry Origin) (old new :
         answers = s.answers;
         after = state ∙ ap (λ (h : List Entry). after_turn p h (entries_of owner_of p.number new.history)) grown
             ∙ ap (after_turn p (old.history ++ e ∷ s.gaves)) mine;
-        answer = subst (λ (h : List Entry). centre.IsAnswer (reply_in h (call_id p number)) told)
+        answer = subst (λ (h : List Entry). centre.IsAnswer (reply_in h (call_of p.number number)) told)
             (sym (ap (λ (x : PassState Entry Origin). x.seen) state)) s.answer;
       }
 
@@ -198,11 +198,11 @@ module _ (t : TurnstileState Origin) (p m q : PassState Entry Origin) (old new :
   pub looks : (number agent : ℕ) (reply : Option Reply) → agent ≡ p.number
       → reply ≡ reply_in old.history (record { agent = agent; number = number }) → new ≡ old
       → IsAtRest new.origin new.history → Leaves owner_of m new.history q
-      → Sees t p q × (reply ≡ reply_in q.seen (call_id p number))
+      → Sees t p q × (reply ≡ reply_in q.seen (call_of p.number number))
   looks number agent reply same told kept rest leaves = (
     sees kept rest leaves,
     told ∙ ap (λ (k : ℕ). reply_in old.history (record { agent = k; number = number })) same
-        ∙ ap (λ (h : List Entry). reply_in h (call_id p number)) (found-seen kept leaves),
+        ∙ ap (λ (h : List Entry). reply_in h (call_of p.number number)) (found-seen kept leaves),
   )
 
   -- why a turn was refused
@@ -243,12 +243,12 @@ module _ (t : TurnstileState Origin) (p m q : PassState Entry Origin) (old new :
       }
 
   -- what an earlier call came to was told
-  pub tells : (number asked : ℕ) (told : Poll) → (HasCall (call_id p asked) old.history → IsFullCentre old → ⊥)
-      → centre.Tells old new (call_id p number) asked told → IsAtRest new.origin new.history
+  pub tells : (number asked : ℕ) (told : Poll) → (HasCall (call_of p.number asked) old.history → IsFullCentre old → ⊥)
+      → centre.Tells old new (call_of p.number number) asked told → IsAtRest new.origin new.history
       → Leaves owner_of m new.history q → Tells t p number asked told q
   tells number asked told room s rest leaves =
-      let reply : Option Reply = reply_in old.history (call_id p asked) in
-      let e : Entry = Looked (call_id p number) asked reply in
+      let reply : Option Reply = reply_in old.history (call_of p.number asked) in
+      let e : Entry = Looked (call_of p.number number) asked reply in
       let grown : new.history ≡ old.history ++ e ∷ [] = ap (λ (c : Centre). c.history) s.appended in
       let same : new.origin ≡ t.origin = ap (λ (c : Centre). c.origin) s.appended ∙ origin in
       let mine : entries_of owner_of p.number new.history ≡ p.mine ++ e ∷ [] =
@@ -272,11 +272,11 @@ module _ (t : TurnstileState Origin) (p m q : PassState Entry Origin) (old new :
 
   -- what a look with an entry adds: nothing, where it is refused
   pub adds-look : (number asked : ℕ) (polled : Result Poll PollFault)
-      → IfOk polled (λ told. centre.Tells old new (call_id p number) asked told) → OnErr polled (new ≡ old)
+      → IfOk polled (λ told. centre.Tells old new (call_of p.number number) asked told) → OnErr polled (new ≡ old)
       → (more : List Entry) × (new.history ≡ m.seen ++ more) × OthersOwnNone owner_of m.number more
   adds-look number asked (Ok told) tells same =
-      let s : centre.Tells old new (call_id p number) asked told = tells in
-      let e : Entry = Looked (call_id p number) asked (reply_in old.history (call_id p asked)) in (
+      let s : centre.Tells old new (call_of p.number number) asked told = tells in
+      let e : Entry = Looked (call_of p.number number) asked (reply_in old.history (call_of p.number asked)) in (
         e ∷ [],
         ap (λ (c : Centre). c.history) s.appended ∙ ap (λ (h : List Entry). h ++ e ∷ []) seen-old,
         others-none e m.number (ap (λ (n : ℕ). Some n) (sym number-same)) [] (All-nil IsGave),
@@ -289,23 +289,23 @@ module _ (t : TurnstileState Origin) (p m q : PassState Entry Origin) (old new :
 
   -- why a look with an entry was refused
   pub refuses-look : (number asked : ℕ) (r : Result Poll PollFault) (why : PollFault) (told : SharedPollFault) → r ≡ Err why
-      → ((HasCall (call_id p asked) old.history → ⊥) → r ≡ Err poll.Stranger)
-      → (HasCall (call_id p asked) old.history → IsFullCentre old → r ≡ Err (poll.Full (weight_in old) (waiting_in old)))
-      → centre.IsPollRefused old (call_id p number) asked why → IsSamePollFault why told → new ≡ old
+      → ((HasCall (call_of p.number asked) old.history → ⊥) → r ≡ Err poll.Stranger)
+      → (HasCall (call_of p.number asked) old.history → IsFullCentre old → r ≡ Err (poll.Full (weight_in old) (waiting_in old)))
+      → centre.IsPollRefused old (call_of p.number number) asked why → IsSamePollFault why told → new ≡ old
       → IsAtRest new.origin new.history → Leaves owner_of m new.history q → IsSharedPollRefused t p asked told q
   refuses-look number asked r poll.Stranger told is strange full refused same kept rest leaves =
       subst (λ (f : SharedPollFault). IsSharedPollRefused t p asked f q) (sym same)
-      (sees kept rest leaves, subst (λ (h : List Entry). HasCall (call_id p asked) h → ⊥) (found-seen kept leaves) refused)
+      (sees kept rest leaves, subst (λ (h : List Entry). HasCall (call_of p.number asked) h → ⊥) (found-seen kept leaves) refused)
   refuses-look number asked r (poll.Full weight pending) told is strange full refused same kept rest leaves =
       subst (λ (f : SharedPollFault). IsSharedPollRefused t p asked f q) (sym same) (
         sees-full weight pending refused.1 refused.2 refused.3 kept rest leaves,
-        subst (λ (h : List Entry). HasCall (call_id p asked) h) (found-seen kept leaves) refused.0,
+        subst (λ (h : List Entry). HasCall (call_of p.number asked) h) (found-seen kept leaves) refused.0,
       )
   refuses-look number asked r poll.NoMemory told is strange full refused same kept rest leaves =
-      let called : (HasCall (call_id p asked) old.history → ⊥) → ⊥ = λ none. not-stranger r is (strange none) in
+      let called : (HasCall (call_of p.number asked) old.history → ⊥) → ⊥ = λ none. not-stranger r is (strange none) in
       subst (λ (f : SharedPollFault). IsSharedPollRefused t p asked f q) (sym same) (
         sees-room (λ f. called (λ has. not-full-poll r (weight_in old) (waiting_in old) is (full has f))) kept rest leaves,
-        subst (λ (h : List Entry). (HasCall (call_id p asked) h → ⊥) → ⊥) (found-seen kept leaves) called,
+        subst (λ (h : List Entry). (HasCall (call_of p.number asked) h → ⊥) → ⊥) (found-seen kept leaves) called,
       )
 
 -- a turn that was held is given back

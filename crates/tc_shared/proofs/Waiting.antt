@@ -11,7 +11,8 @@ use Rattle.tc_turn.specs.Passes.{TurnstileState, PassState}
 use Rattle.tc_shared.specs.declared.answers.LookFault.{LookFault}
 use Rattle.tc_shared.specs.declared.answers.LookFault.TheVariants as look
 use Rattle.tc_model.specs.Replies.{reply_in}
-use Rattle.tc_shared.specs.Passes.{IsPassOf, Sees, Rests, Waits, IsLookRefused, IsWaitRefused, after_turn, call_id}
+use Rattle.tc_model.specs.Calls.{call_of}
+use Rattle.tc_shared.specs.Passes.{IsPassOf, Sees, Rests, Waits, IsLookRefused, IsWaitRefused, after_turn}
 
 -- a pass that has only waited since p, and so many entries that it will know at least after its next turn
 pub record Ahead (t : TurnstileState Origin) (p r : PassState Entry Origin) (m : ℕ) : Type 0 where
@@ -92,7 +93,7 @@ module _ (t : TurnstileState Origin) (p : PassState Entry Origin) where
 
 -- a call that the pass knew stands in what it knows later
 pub called-later : (t : TurnstileState Origin) (l r n : PassState Entry Origin) (number : ℕ)
-    → HasCall (call_id l number) l.seen → Rests t l r → Sees t r n → HasCall (call_id n number) n.seen
+    → HasCall (call_of l.number number) l.seen → Rests t l r → Sees t r n → HasCall (call_of n.number number) n.seen
 called-later t l r n number called rests sees =
     let same_seen : r.seen ≡ l.seen = ap (λ (x : PassState Entry Origin). x.seen) rests.after in
     let same_number : n.number ≡ l.number =
@@ -107,14 +108,14 @@ called-later t l r n number called rests sees =
 
 -- a call that had no reply at the last look has none where no turn was left for another
 pub waited-in-vain : (t : TurnstileState Origin) (p l r n : PassState Entry Origin) (number : ℕ) (fault : LookFault)
-    → 0 < p.turns → reply_in l.seen (call_id p number) ≡ None → Rests t l r → IsLookRefused t r fault n
+    → 0 < p.turns → reply_in l.seen (call_of p.number number) ≡ None → Rests t l r → IsLookRefused t r fault n
     → IsWaitRefused p number fault n
 waited-in-vain t p l r n number look.TurnsSpent some none rests refused =
     let same_seen : n.seen ≡ l.seen =
     ap (λ (x : PassState Entry Origin). x.seen) refused.1 ∙ ap (λ (x : PassState Entry Origin). x.seen) rests.after in (
       ap (λ (x : PassState Entry Origin). x.turns) refused.1 ∙ refused.0,
       λ spent. absurd (omega (arith, some, spent)),
-      λ _. ap (λ (h : List Entry). reply_in h (call_id p number)) same_seen ∙ none,
+      λ _. ap (λ (h : List Entry). reply_in h (call_of p.number number)) same_seen ∙ none,
     )
 waited-in-vain t p l r n number look.NoMemory some none rests refused = some
 

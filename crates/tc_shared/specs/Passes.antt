@@ -2,7 +2,7 @@
 use Rattle.std.specs.Prelude.{◌≡◌, ℕ, ◌+◌, ◌-◌, ◌<◌, ◌≤◌, Option, None, List, [], ◌∷◌, ◌++◌, All}
 use Rattle.std.specs.Prelude.{false, true, length}
 use mathlib.Core.List.{IsPrefix}
-use Rattle.tc_model.specs.Calls.{calls_of}
+use Rattle.tc_model.specs.Calls.{call_of, calls_of}
 use Rattle.tc_model.specs.Entries as entries
 use Rattle.tc_model.specs.Entries.{IsFull, pending_after}
 use Rattle.tc_model.specs.Replies.{reply_in}
@@ -65,10 +65,6 @@ pub record IsFreshPassOf (t : TurnstileState Origin) (p : PassState Entry Origin
   pub free : p.holds ≡ false
   pub none : p.mine ≡ []
 
--- the call of this number of the pass's agent
-abbrev pub call_id : PassState Entry Origin → ℕ → CallId
-call_id p number = record { agent = p.number; number = number }
-
 -- the pass p after a turn in which it came to know the history, of which these entries are its own
 abbrev pub after_turn : PassState Entry Origin → List Entry → List Entry → PassState Entry Origin
 after_turn p history mine = record p { turns = p.turns - 1; seen = history; mine = mine }
@@ -99,22 +95,22 @@ pub record Makes (t : TurnstileState Origin) (p : PassState Entry Origin) (numbe
   pub gaves : List Entry
   pub answers : All IsGave gaves
   pub after : q ≡ after_turn p
-      (found ++ Called (call_id p number) op result items ∷ gaves)
-      (p.mine ++ Called (call_id p number) op result items ∷ [])
-  pub answer : IsAnswer (reply_in q.seen (call_id p number)) told
+      (found ++ Called (call_of p.number number) op result items ∷ gaves)
+      (p.mine ++ Called (call_of p.number number) op result items ∷ [])
+  pub answer : IsAnswer (reply_in q.seen (call_of p.number number)) told
 
 -- what became of an earlier call was told in a turn that found room, and an entry of that appended
 pub record Tells (t : TurnstileState Origin) (p : PassState Entry Origin) (number asked : ℕ)
     (told : Poll) (q : PassState Entry Origin) : Type 0 where
   pub found : List Entry
   pub finds : Finds t p found q
-  pub called : HasCall (call_id p asked) found
+  pub called : HasCall (call_of p.number asked) found
   pub room : IsFull t.origin found → ⊥
   pub reply : Option Reply
-  pub is : reply ≡ reply_in found (call_id p asked)
+  pub is : reply ≡ reply_in found (call_of p.number asked)
   pub after : q ≡ after_turn p
-      (found ++ Looked (call_id p number) asked reply ∷ [])
-      (p.mine ++ Looked (call_id p number) asked reply ∷ [])
+      (found ++ Looked (call_of p.number number) asked reply ∷ [])
+      (p.mine ++ Looked (call_of p.number number) asked reply ∷ [])
   pub poll : IsPoll reply told
 
 -- a turn was taken that added nothing
@@ -153,11 +149,11 @@ abbrev pub IsSharedPollRefused : TurnstileState Origin → PassState Entry Origi
     → SharedPollFault → PassState Entry Origin → Type 0
 IsSharedPollRefused t p asked shared.TurnsSpent q = IsSpent p q
 IsSharedPollRefused t p asked shared.Stranger q =
-    Sees t p q × (HasCall (call_id p asked) q.seen → ⊥)
+    Sees t p q × (HasCall (call_of p.number asked) q.seen → ⊥)
 IsSharedPollRefused t p asked (shared.Full weight pending) q =
-    SeesFull t p weight pending q × HasCall (call_id p asked) q.seen
+    SeesFull t p weight pending q × HasCall (call_of p.number asked) q.seen
 IsSharedPollRefused t p asked shared.NoMemory q =
-    SeesRoom t p q × ((HasCall (call_id p asked) q.seen → ⊥) → ⊥)
+    SeesRoom t p q × ((HasCall (call_of p.number asked) q.seen → ⊥) → ⊥)
 
 -- why a look was refused: no turn was left, or memory ran out in the turn
 abbrev pub IsLookRefused : TurnstileState Origin → PassState Entry Origin → LookFault
@@ -170,7 +166,7 @@ IsLookRefused t p look.NoMemory q = Sees t p q
 abbrev pub IsWaitRefused : PassState Entry Origin → ℕ → LookFault → PassState Entry Origin → Type 0
 IsWaitRefused p number look.TurnsSpent q =
     (q.turns ≡ 0) × (p.turns ≡ 0 → q ≡ p)
-    × (0 < p.turns → reply_in q.seen (call_id p number) ≡ None)
+    × (0 < p.turns → reply_in q.seen (call_of p.number number) ≡ None)
 IsWaitRefused p number look.NoMemory q = 0 < p.turns
 
 -- q is the pass p once more entries stand than it knows

@@ -1,6 +1,6 @@
 //! The centre, its passes, and a turn that is kept.
 ghost use Rattle.std.specs.Prelude.{◌≡◌, [], ◌<◌, ◌≤◌, ℕ, false, true, Some, length, IfOk, IfErr, OnErr, All};
-ghost use Rattle.tc_model.specs.Calls.{id_of, calls_of};
+ghost use Rattle.tc_model.specs.Calls.{id_of, calls_of, call_of};
 ghost use Rattle.tc_model.specs.Run.{HasCall};
 ghost use Rattle.tc_model.specs.Replies.{reply_in};
 ghost use Rattle.tc_centre.specs.Owners.{owner_of};
@@ -9,7 +9,7 @@ ghost use Rattle.tc_turn.specs.Passes.{end_of, new_passes, ended_count, AgreesWi
 ghost use Rattle.tc_shared.specs.Passes.{IsPassOf, IsFreshPassOf, IsAtRest, Keeps, Makes};
 ghost use Rattle.tc_shared.specs.Passes.{Tells, Sees, Rests, Waits, IsSharedPollRefused};
 ghost use Rattle.tc_shared.specs.Passes.{IsCallRefused, IsLookRefused, IsWaitRefused};
-ghost use Rattle.tc_shared.specs.Passes.{IsSpent, IsPaused, IsPausedOf, call_id};
+ghost use Rattle.tc_shared.specs.Passes.{IsSpent, IsPaused, IsPausedOf};
 
 use crate::answers::{CallFault, LookFault, SharedPollFault, call_fault, poll_fault};
 use crate::waking::{rung, sleep, wake};
@@ -118,7 +118,7 @@ impl SharedCentre {
         ensures refused { IfErr result (λ fault. IsCallRefused self.now pass.old fault pass.new) }
         ensures spent { pass.old.turns ≡ 0 → result ≡ Err CallFault.TurnsSpent }
         ensures kept { Keeps self.now pass.old pass.new }
-        ensures called { IfOk result (λ _. HasCall (call_id pass.new number) pass.new.seen) }
+        ensures called { IfOk result (λ _. HasCall (call_of pass.new.number number) pass.new.seen) }
     {
         let Ok(held) = self.turnstile.enter(rt, pass) else {
             return Err(CallFault::TurnsSpent);
@@ -150,9 +150,9 @@ impl SharedCentre {
     ) -> Result<Option<Reply>, LookFault>
         requires own { IsPassOf self.now pass.old }
         requires free { pass.old.holds ≡ false }
-        requires called { HasCall (call_id pass.old number) pass.old.seen }
+        requires called { HasCall (call_of pass.old.number number) pass.old.seen }
         ensures seen { IfOk result (λ reply. Sees self.now pass.old pass.new
-            × (reply ≡ reply_in pass.new.seen (call_id pass.old number))) }
+            × (reply ≡ reply_in pass.new.seen (call_of pass.old.number number))) }
         ensures refused { IfErr result (λ fault. IsLookRefused self.now pass.old fault pass.new) }
         ensures spent { pass.old.turns ≡ 0 → result ≡ Err LookFault.TurnsSpent }
         ensures kept { Keeps self.now pass.old pass.new }
@@ -187,9 +187,9 @@ impl SharedCentre {
     ) -> Result<Reply, LookFault>
         requires own { IsPassOf self.now pass.old }
         requires free { pass.old.holds ≡ false }
-        requires called { HasCall (call_id pass.old number) pass.old.seen }
+        requires called { HasCall (call_of pass.old.number number) pass.old.seen }
         ensures answered { IfOk result (λ reply.
-            reply_in pass.new.seen (call_id pass.old number) ≡ Some reply) }
+            reply_in pass.new.seen (call_of pass.old.number number) ≡ Some reply) }
         ensures waited { Waits self.now pass.old pass.new }
         ensures refused { IfErr result (λ fault. IsWaitRefused pass.old number fault pass.new) }
         ensures spent { pass.old.turns ≡ 0 → result ≡ Err LookFault.TurnsSpent }

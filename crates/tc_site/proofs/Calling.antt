@@ -7,7 +7,7 @@ use Rattle.std.proofs.lemmas.List.{append-nil, append_assoc, length-map, length-
 use Rattle.std.proofs.lemmas.List.Elements.{All-nil, All-cons, filter-append}
 use Rattle.std.proofs.lemmas.Option.{same_Some}
 use Rattle.tc_lists.proofs.Parts.{append_parts}
-use Rattle.tc_model.specs.Calls.{id_of, is_call_of, calls_of}
+use Rattle.tc_model.specs.Calls.{id_of, is_call_of, calls_of, call_of}
 use Rattle.tc_model.specs.State.{Origin}
 use Rattle.tc_model.specs.declared.calls.Op.{Op}
 use Rattle.tc_model.specs.declared.entries.Entry.{Entry}
@@ -17,7 +17,7 @@ use Rattle.std.specs.Prelude.{Ok, Err, IfOk, IfErr, OnErr}
 use Rattle.std.specs.declared.result.Result.{Result}
 use Rattle.tc_centre.specs.declared.answers.Answer.{Answer}
 use Rattle.tc_centre.specs.declared.answers.Answer.TheVariants as answer
-use Rattle.tc_shared.specs.Passes.{IsPassOf, IsCallRefused, Makes, Sees, SeesRoom, call_id}
+use Rattle.tc_shared.specs.Passes.{IsPassOf, IsCallRefused, Makes, Sees, SeesRoom}
 use Rattle.tc_shared.specs.declared.answers.CallFault.{CallFault}
 use Rattle.tc_shared.specs.declared.answers.CallFault.TheVariants as call
 use Rattle.tc_turn.specs.Passes.{TurnstileState, PassState}
@@ -29,7 +29,7 @@ use Rattle.tc_lists.proofs.Sets.{slice_get-set_same, slice_get-set_other, slice_
 module _ (t : TurnstileState Origin) (p q : PassState Entry Origin) (top : ℕ) where
   pub grown-makes : (op : Op) (told : Answer) → Makes t p (top + 1) op told q → HasGrown top p q
   grown-makes op told makes =
-      let e : Entry = Called (call_id p (top + 1)) op makes.result makes.items in
+      let e : Entry = Called (call_of p.number (top + 1)) op makes.result makes.items in
       let known = makes.finds.known in
       record {
         more = known.0 ++ e ∷ makes.gaves;

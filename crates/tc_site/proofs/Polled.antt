@@ -8,7 +8,7 @@ use Rattle.std.proofs.lemmas.List.Elements.{All-cons, All-nil, Contains-append_r
 use Rattle.std.proofs.lemmas.Option.{none-some, same_Some, slice_get_within, get_or_from_slice_get}
 use Rattle.tc_centre.specs.declared.answers.Poll.{Poll}
 use Rattle.tc_centre.specs.declared.answers.Poll.TheVariants as poll
-use Rattle.tc_desk.specs.Agreeing.{AgreesRow, HasRow, IsLastServed, numbered}
+use Rattle.tc_desk.specs.Agreeing.{AgreesRow, HasRow, IsLastServed}
 use Rattle.tc_desk.specs.Decided.{IsDecided, IsRead}
 use Rattle.tc_desk.specs.Desks as desks
 use Rattle.tc_desk.specs.Desks.{IsAnswered, Keeps, Polls, Spends, StandsStill, TakesTurn, TakesTurnAtPending, TellsFull, replied, with_row}
@@ -23,7 +23,7 @@ use Rattle.tc_desk.specs.declared.rows.LogRow.{LogRow}
 use Rattle.tc_desk.specs.declared.rows.Refusal.TheVariants as refusal
 use Rattle.tc_desk.proofs.Fitting.{reply-fits_ask}
 use Rattle.tc_lists.proofs.Places.{slice_get_push, slice_get_pushed, Contains-slice_get}
-use Rattle.tc_model.specs.Calls.{id_of, same_id}
+use Rattle.tc_model.specs.Calls.{id_of, same_id, call_of}
 use Rattle.tc_model.specs.Replies.{reply_in}
 use Rattle.tc_model.specs.State.{Origin}
 use Rattle.tc_model.specs.declared.asks.Primitive.{Primitive}
@@ -33,7 +33,7 @@ use Rattle.tc_model.specs.declared.outcomes.Reply.{Reply}
 use Rattle.tc_model.proofs.Histories.{same_id-below}
 use Rattle.tc_model.proofs.NextEntry.{reply_in-other, same_id-back}
 use Rattle.tc_shared.specs.Passes as passes
-use Rattle.tc_shared.specs.Passes.{SeesFull, SeesRoom, Tells, call_id}
+use Rattle.tc_shared.specs.Passes.{SeesFull, SeesRoom, Tells}
 use Rattle.tc_turn.specs.Passes.{TurnstileState, PassState}
 use Rattle.tc_site.specs.Desks.{AgentState, IsDesk, IsSound, IsWaitingAt, Permits, counts_of, desk_of, turns_of}
 use Rattle.tc_site.specs.Looking.{HasPut, still_of}
@@ -148,7 +148,7 @@ module _ {W : Type 0} (d : AgentState W) (is : IsDesk d) (site : IsSite d.site.n
     -- a poll that was told something
     module _ (told : Poll) (m : Tells t p (length d.log + 1) (w.row + 1) told q) where
       abbrev entry : Entry
-      entry = Looked (call_id p next) asked m.reply
+      entry = Looked (call_of p.number next) asked m.reply
 
       abbrev row : LogRow
       row = row-of (Polled m.reply)
@@ -168,14 +168,14 @@ module _ {W : Type 0} (d : AgentState W) (is : IsDesk d) (site : IsSite d.site.n
         above = All-cons (λ e. length d.log < (id_of e).number) entry [] (omega arith) (All-nil (λ e. length d.log < (id_of e).number));
       }
 
-      entry-stands : Contains q.seen (Looked (numbered d.agent next) waiting.row_is.number m.reply)
+      entry-stands : Contains q.seen (Looked (call_of d.agent next) waiting.row_is.number m.reply)
       entry-stands =
           let head : Contains (entry ∷ []) entry = (0, omega arith, refl) in
           let there : Contains q.seen entry = subst (λ es. Contains es entry) (sym seen-is) (Contains-append_right m.found (entry ∷ []) entry head) in
-          subst (λ n. Contains q.seen (Looked (numbered d.agent next) n m.reply)) (sym (is.agrees.numbers w.row waiting.row_is here))
-          (subst (λ n. Contains q.seen (Looked (numbered n next) asked m.reply)) own.number there)
+          subst (λ n. Contains q.seen (Looked (call_of d.agent next) n m.reply)) (sym (is.agrees.numbers w.row waiting.row_is here))
+          (subst (λ n. Contains q.seen (Looked (call_of n next) asked m.reply)) own.number there)
 
-      told-agrees : AgreesRow t.origin q.seen (numbered d.agent (length d.log + 1)) d.log (length d.log) row (Polled m.reply)
+      told-agrees : AgreesRow t.origin q.seen (call_of d.agent (length d.log + 1)) d.log (length d.log) row (Polled m.reply)
       told-agrees = record {
         earlier = waiting.row_is;
         last = last-served d.site.names d.log w waiting here;
@@ -201,13 +201,13 @@ module _ {W : Type 0} (d : AgentState W) (is : IsDesk d) (site : IsSite d.site.n
           (waits-behind d.site.names d.log w row waiting refl)
 
       -- the reply that was told is the one that is known
-      told-reply : reply_in q.seen (call_id p asked) ≡ m.reply
+      told-reply : reply_in q.seen (call_of p.number asked) ≡ m.reply
       told-reply =
           let within = slice_get_within d.log w.row waiting.row_is here in
           let less : w.row + 1 < length d.log + 1 = omega (arith, within) in
-          let other : same_id (call_id p next) (call_id p asked) ≡ false =
-          same_id-back (call_id p asked) (call_id p next) (same_id-below (call_id p asked) (call_id p next) (λ same. less)) in
-          ap (λ es. reply_in es (call_id p asked)) seen-is ∙ reply_in-other m.found entry (call_id p asked) other ∙ sym m.is
+          let other : same_id (call_of p.number next) (call_of p.number asked) ≡ false =
+          same_id-back (call_of p.number asked) (call_of p.number next) (same_id-below (call_of p.number asked) (call_of p.number next) (λ same. less)) in
+          ap (λ es. reply_in es (call_of p.number asked)) seen-is ∙ reply_in-other m.found entry (call_of p.number asked) other ∙ sym m.is
 
       told-takes : (log : List LogRow) (pending : Option WaitingAt) → TakesTurn (desk_of d) centre (desk_of (now log pending))
       told-takes log pending =
@@ -225,8 +225,8 @@ module _ {W : Type 0} (d : AgentState W) (is : IsDesk d) (site : IsSite d.site.n
 
       waiting-waits : (desk_of (now log (Some w))).waits ≡ true
       waiting-waits =
-          ap (λ h. is_none (reply_in h (numbered d.agent asked))) (get_or_from_slice_get (histories_of (set d.passes w.centre q)) w.centre q.seen [] seen-at)
-          ∙ ap (λ n. is_none (reply_in q.seen (numbered n asked))) (sym own.number) ∙ ap is_none (told-reply poll.NotYet m ∙ m.poll)
+          ap (λ h. is_none (reply_in h (call_of d.agent asked))) (get_or_from_slice_get (histories_of (set d.passes w.centre q)) w.centre q.seen [] seen-at)
+          ∙ ap (λ n. is_none (reply_in q.seen (call_of n asked))) (sym own.number) ∙ ap is_none (told-reply poll.NotYet m ∙ m.poll)
 
       waiting-tells : desks.Tells (desk_of d) None (desk_of (now log (Some w)))
       waiting-tells = record {
@@ -262,13 +262,13 @@ module _ {W : Type 0} (d : AgentState W) (is : IsDesk d) (site : IsSite d.site.n
       kept1 : passes.Keeps t q q
       kept1 = record { own = keeps.own; number = refl; free = keeps.free }
 
-      reply-at : reply_in q.seen (numbered d.agent asked) ≡ Some m.reply
-      reply-at = ap (λ n. reply_in q.seen (numbered n asked)) (sym own.number) ∙ told-reply found m.tells ∙ m.tells.poll.0
+      reply-at : reply_in q.seen (call_of d.agent asked) ≡ Some m.reply
+      reply-at = ap (λ n. reply_in q.seen (call_of n asked)) (sym own.number) ∙ told-reply found m.tells ∙ m.tells.poll.0
 
       has : HasPut w.row d1.log q log
       has = record {
         reply = m.reply;
-        told = ap (λ n. reply_in q.seen (numbered n asked)) (keeps.number ∙ own.number) ∙ reply-at;
+        told = ap (λ n. reply_in q.seen (call_of n asked)) (keeps.number ∙ own.number) ∙ reply-at;
         put = m.put;
       }
 
@@ -317,7 +317,7 @@ module _ {W : Type 0} (d : AgentState W) (is : IsDesk d) (site : IsSite d.site.n
                 (unserved-settled waiting.back waiting.unserved_behind);
             ask = row.0.ask;
             asked = row.0.asked;
-            fits = reply-fits_ask t.origin q.seen (numbered d.agent asked) row.0.ask keeps.own.rest.run row.0.served m.reply reply-at;
+            fits = reply-fits_ask t.origin q.seen (call_of d.agent asked) row.0.ask keeps.own.rest.run row.0.served m.reply reply-at;
           }
 
       found-tells : desks.Tells (desk_of d) (Some m.reply) (desk_of (now log None))

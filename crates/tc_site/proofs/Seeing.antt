@@ -11,7 +11,7 @@ use Rattle.std.proofs.lemmas.Option.{same_Some, slice_get_read, slice_get_within
 use Rattle.std.proofs.Math.Bool.{or-true}
 use Rattle.tc_desk.proofs.Fitting.{reply-fits_ask}
 use Rattle.tc_desk.proofs.Growing.{Agrees-answered, Agrees-longer}
-use Rattle.tc_desk.specs.Agreeing.{Agrees, AgreesRow, HasReply, HasRow, HaveRows, numbered}
+use Rattle.tc_desk.specs.Agreeing.{Agrees, AgreesRow, HasReply, HasRow, HaveRows}
 use Rattle.tc_desk.specs.Decided.{IsDecided, IsRead}
 use Rattle.tc_desk.specs.Desks.{DeskState, Gets, HasNoTurn, IsPendingRow, Keeps, Leaves, Looks, Spends, Stays, TakesTurn, TakesTurnAtPending, replied}
 use Rattle.tc_desk.specs.Desks as desks
@@ -22,7 +22,7 @@ use Rattle.tc_desk.specs.declared.desks.Seen.TheVariants as seen
 use Rattle.tc_desk.specs.Logs.{any_pending, is_pending}
 use Rattle.tc_desk.specs.declared.rows.LogRow.{LogRow}
 use Rattle.tc_desk.specs.declared.rows.LogResult.TheVariants.{Pending}
-use Rattle.tc_model.specs.Calls.{id_of, calls_of}
+use Rattle.tc_model.specs.Calls.{id_of, calls_of, call_of}
 use Rattle.tc_model.specs.Replies.{reply_in}
 use Rattle.tc_model.specs.Run.{HasCall}
 use Rattle.tc_model.specs.State.{Origin}
@@ -32,7 +32,7 @@ use Rattle.tc_model.specs.declared.entries.Entry.TheVariants.{Called}
 use Rattle.tc_model.specs.declared.outcomes.Outcome.TheVariants as outcome
 use Rattle.tc_model.specs.declared.outcomes.Reply.TheVariants as reply
 use Rattle.tc_shared.specs.Passes as passes
-use Rattle.tc_shared.specs.Passes.{IsSpent, Sees, call_id}
+use Rattle.tc_shared.specs.Passes.{IsSpent, Sees}
 use Rattle.tc_turn.specs.Passes.{TurnstileState, PassState}
 use Rattle.tc_site.specs.Desks.{AgentState, IsDesk, IsSound, IsWaitingAt, Permits, WaitsAt, desk_of, is_held}
 use Rattle.tc_site.specs.Looking.{HasPut, HasWaitedInVain, IsLook, IsWait, MayLook, left_of, still_of}
@@ -136,22 +136,22 @@ module _ {W : Type 0} (d : AgentState W) (is : IsDesk d) (site : IsSite d.site.n
     own-pass = is.are.each w.centre t p at-t at-p
 
     pub row-at : (histories : List (List Entry)) (history : List Entry) → Agrees (origins_of d.site.centres) d.site.names histories d.agent d.log → slice_get histories w.centre ≡ Some history
-        → AgreesRow t.origin history (numbered d.agent (w.row + 1)) d.log w.row waiting.row_is Pending
+        → AgreesRow t.origin history (call_of d.agent (w.row + 1)) d.log w.row waiting.row_is Pending
     row-at histories history agrees there =
-        subst (AgreesRow t.origin history (numbered d.agent (w.row + 1)) d.log w.row waiting.row_is) waiting.pending
+        subst (AgreesRow t.origin history (call_of d.agent (w.row + 1)) d.log w.row waiting.row_is) waiting.pending
         (agrees.rows w.row w.centre waiting.row_is t.origin history stands waiting.named
         (slice_get-map_at (λ (x : TurnstileState Origin). x.origin) d.site.centres w.centre t at-t) there)
 
-    pub waits-called : HasCall (call_id p (w.row + 1)) p.seen
+    pub waits-called : HasCall (call_of p.number (w.row + 1)) p.seen
     waits-called =
         let row = row-at (histories_of d.passes) p.seen is.agrees
         (slice_get-map_at (λ (x : PassState Entry Origin). x.seen) d.passes w.centre p at-p) in
-        let has : HasCall (numbered d.agent (w.row + 1)) p.seen = record {
-          entry = Called (numbered d.agent (w.row + 1)) row.1.op outcome.Pending row.1.items;
+        let has : HasCall (call_of d.agent (w.row + 1)) p.seen = record {
+          entry = Called (call_of d.agent (w.row + 1)) row.1.op outcome.Pending row.1.items;
           stands = row.1.stands;
           call = refl;
         } in
-        subst (λ n. HasCall (numbered n (w.row + 1)) p.seen) (sym own-pass.number) has
+        subst (λ n. HasCall (call_of n (w.row + 1)) p.seen) (sym own-pass.number) has
 
     module _ (q : PassState Entry Origin) (kept : passes.Keeps t p q) (held : p.holds ≡ false) (more : HasSeen p q) where
       abbrev later : List (PassState Entry Origin)
@@ -228,13 +228,13 @@ module _ {W : Type 0} (d : AgentState W) (is : IsDesk d) (site : IsSite d.site.n
       seen-at =
           slice_get-map_at (λ (x : PassState Entry Origin). x.seen) later w.centre q (slice_get-set_same d.passes w.centre q p at-p)
 
-      row-later : AgreesRow t.origin q.seen (numbered d.agent (w.row + 1)) d.log w.row waiting.row_is Pending
+      row-later : AgreesRow t.origin q.seen (call_of d.agent (w.row + 1)) d.log w.row waiting.row_is Pending
       row-later = row-at (histories_of later) q.seen agrees-later seen-at
 
-      later-waits : reply_in q.seen (call_id q (w.row + 1)) ≡ None → (desk_of (with_log d.log (Some w))).waits ≡ true
+      later-waits : reply_in q.seen (call_of q.number (w.row + 1)) ≡ None → (desk_of (with_log d.log (Some w))).waits ≡ true
       later-waits none =
-          ap (λ h. is_none (reply_in h (numbered d.agent (w.row + 1)))) (get_or_from_slice_get (histories_of later) w.centre q.seen [] seen-at)
-          ∙ ap (λ n. is_none (reply_in q.seen (numbered n (w.row + 1)))) (sym agent-is) ∙ ap is_none none
+          ap (λ h. is_none (reply_in h (call_of d.agent (w.row + 1)))) (get_or_from_slice_get (histories_of later) w.centre q.seen [] seen-at)
+          ∙ ap (λ n. is_none (reply_in q.seen (call_of n (w.row + 1)))) (sym agent-is) ∙ ap is_none none
 
       later-takes : p.turns ≡ q.turns + 1 → (log : List LogRow) (pending : Option WaitingAt)
           → TakesTurn (desk_of d) waiting.row_is.centre (desk_of (with_log log pending))
@@ -278,8 +278,8 @@ module _ {W : Type 0} (d : AgentState W) (is : IsDesk d) (site : IsSite d.site.n
         log-is : log ≡ answered
         log-is = has.put waiting.front waiting.row_is waiting.back waiting.from waiting.place
 
-        told-at : reply_in q.seen (numbered d.agent (w.row + 1)) ≡ Some has.reply
-        told-at = ap (λ n. reply_in q.seen (numbered n (w.row + 1))) (sym agent-is) ∙ has.told
+        told-at : reply_in q.seen (call_of d.agent (w.row + 1)) ≡ Some has.reply
+        told-at = ap (λ n. reply_in q.seen (call_of n (w.row + 1))) (sym agent-is) ∙ has.told
 
         has-reply : HasReply d.site.names (histories_of later) d.agent (length waiting.front) waiting.row_is has.reply
         has-reply = record {
@@ -287,8 +287,8 @@ module _ {W : Type 0} (d : AgentState W) (is : IsDesk d) (site : IsSite d.site.n
           told = λ k history named there.
               let place = AllPairs-one_place d.site.names k w.centre waiting.row_is.centre site.differ named waiting.named in
               let e : history ≡ q.seen = same_Some history q.seen (sym there ∙ ap (slice_get (histories_of later)) place ∙ seen-at) in
-              ap (λ h. reply_in h (numbered d.agent (length waiting.front + 1))) e
-              ∙ ap (λ n. reply_in q.seen (numbered d.agent (n + 1))) (sym waiting.place) ∙ told-at;
+              ap (λ h. reply_in h (call_of d.agent (length waiting.front + 1))) e
+              ∙ ap (λ n. reply_in q.seen (call_of d.agent (n + 1))) (sym waiting.place) ∙ told-at;
         }
 
         answered-settled : any_pending log ≡ false
@@ -332,7 +332,7 @@ module _ {W : Type 0} (d : AgentState W) (is : IsDesk d) (site : IsSite d.site.n
             settled = answered-settled;
             ask = row-later.0.ask;
             asked = row-later.0.asked;
-            fits = reply-fits_ask t.origin q.seen (numbered d.agent (w.row + 1)) row-later.0.ask kept.own.rest.run row-later.0.served has.reply told-at;
+            fits = reply-fits_ask t.origin q.seen (call_of d.agent (w.row + 1)) row-later.0.ask kept.own.rest.run row-later.0.served has.reply told-at;
           };
           waits = refl;
         }
@@ -537,7 +537,7 @@ module _ {W : Type 0} (d : AgentState W) (is : IsDesk d) (site : IsSite d.site.n
           (λ (none : p.turns ≡ 0). inr (none-left none, same-desk (wait.same none) at log wait.log_same))
           (λ (some : p.turns ≡ 0 → ⊥).
           inl (later-waits t p at-t at-p q kept held more
-          (ap (λ n. reply_in q.seen (numbered n (w.row + 1))) kept.number ∙ wait.none (omega (arith, some)))))
+          (ap (λ n. reply_in q.seen (call_of n (w.row + 1))) kept.number ∙ wait.none (omega (arith, some)))))
           (cases_eq p.turns 0)
 
       pub wait-became : {A : Type 0} (log : List LogRow) (r : Result A DeskFault) → d.pending ≡ Some w → IsWait w.row p d.log r q log

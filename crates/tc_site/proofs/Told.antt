@@ -12,7 +12,7 @@ use Rattle.std.proofs.lemmas.Option.{none-some, same_Some, slice_get_read, slice
 use Rattle.tc_lists.proofs.Places.{slice_get_push, Contains-slice_get}
 use Rattle.tc_centre.specs.declared.answers.Answer.{Answer}
 use Rattle.tc_centre.specs.declared.answers.Answer.TheVariants as answer
-use Rattle.tc_desk.specs.Agreeing.{numbered}
+use Rattle.tc_model.specs.Calls.{call_of}
 use Rattle.tc_desk.specs.Decided.{IsRead, IsReadAs, IsDecided, IsDecidedAs}
 use Rattle.tc_desk.specs.Fits.{FitsAsk}
 use Rattle.tc_desk.specs.Desks.{HasNoTurn, IsReady, IsServedBy, Keeps, Makes, MayRefuse, Refuses, Spends, StandsStill, TakesTurn, refused_log, with_row}
@@ -35,7 +35,7 @@ use Rattle.tc_model.specs.declared.asks.Primitive.{Primitive}
 use Rattle.tc_model.specs.declared.calls.Op.{Op}
 use Rattle.tc_model.specs.declared.entries.Entry.{Entry}
 use Rattle.tc_model.specs.declared.entries.Entry.TheVariants.{Called}
-use Rattle.tc_shared.specs.Passes.{after_turn, call_id}
+use Rattle.tc_shared.specs.Passes.{after_turn}
 use Rattle.tc_shared.specs.Passes as pass
 use Rattle.tc_turn.specs.Passes.{TurnstileState, PassState}
 use Rattle.tc_site.specs.Desks as site
@@ -115,8 +115,8 @@ module _ (t : TurnstileState Origin) (p q : PassState Entry Origin) where
 
   goes-makes : (number : ℕ) (op : Op) (told : Answer) → pass.Makes t p number op told q → Goes p q
   goes-makes number op told makes =
-      goes-after (makes.found ++ Called (call_id p number) op makes.result makes.items ∷ makes.gaves)
-      (p.mine ++ Called (call_id p number) op makes.result makes.items ∷ []) makes.after
+      goes-after (makes.found ++ Called (call_of p.number number) op makes.result makes.items ∷ makes.gaves)
+      (p.mine ++ Called (call_of p.number number) op makes.result makes.items ∷ []) makes.after
 
   pub goes-turn : (number : ℕ) (op : Op) (became : LogResult) → IsTurn t p number op became q → Goes p q
   goes-turn number op (Replied reply) turn = goes-makes number op (answer.Replied reply) turn
@@ -305,9 +305,9 @@ module _ {W : Type 0} (permits : W → ℕ → ℕ → Primitive → Option ℕ)
       takes-gone d place p q at-p (with_row d.log centre (Some ask) became) (waiting_of became (length d.log) place) centre allowed.named left
       (ap (λ (x : PassState Entry Origin). x.turns) after)
 
-  called : (told : Answer) → pass.Makes t p number op told q → IsCalled q.seen (call_id p number) ask
+  called : (told : Answer) → pass.Makes t p number op told q → IsCalled q.seen (call_of p.number number) ask
   called told makes =
-      let e : Entry = Called (call_id p number) op makes.result makes.items in
+      let e : Entry = Called (call_of p.number number) op makes.result makes.items in
       let seen : q.seen ≡ makes.found ++ e ∷ makes.gaves = ap (λ (x : PassState Entry Origin). x.seen) makes.after in
       let head : Contains (e ∷ makes.gaves) e = (0, omega arith, refl) in
       record {
@@ -320,15 +320,15 @@ module _ {W : Type 0} (permits : W → ℕ → ℕ → Primitive → Option ℕ)
         };
       }
 
-  waiting : reply_in q.seen (call_id p number) ≡ None
+  waiting : reply_in q.seen (call_of p.number number) ≡ None
       → waits_in (histories_of (set d.passes place q)) d.agent (Some (record { row = length d.log; centre = place })) ≡ true
   waiting none =
       let there : get_or (histories_of (set d.passes place q)) place [] ≡ q.seen =
       get_or_from_slice_get (histories_of (set d.passes place q)) place q.seen []
       (slice_get-map_at (λ (x : PassState Entry Origin). x.seen) (set d.passes place q) place q (slice_get-set_same d.passes place q p at-p)) in
       let own : p.number ≡ d.agent = (is.are.each place t p at-t at-p).number in
-      subst (λ es. is_none (reply_in es (numbered d.agent number)) ≡ true) (sym there)
-      (subst (λ n. is_none (reply_in q.seen (numbered n number)) ≡ true) own (ap is_none none))
+      subst (λ es. is_none (reply_in es (call_of d.agent number)) ≡ true) (sym there)
+      (subst (λ n. is_none (reply_in q.seen (call_of n number)) ≡ true) own (ap is_none none))
 
   makes-made : (told : Answer) (how : Served) (became : LogResult) → pass.Makes t p number op told q → FitsAsk ask became
       → IsServedBy how became → waits_in (histories_of (set d.passes place q)) d.agent (waiting_of became (length d.log) place) ≡ is_pending became
@@ -336,8 +336,8 @@ module _ {W : Type 0} (permits : W → ℕ → ℕ → Primitive → Option ℕ)
   makes-made told how became makes fits by waits' = record {
     ready = ready;
     sound = (op, sound);
-    turn = takes-makes became (makes.found ++ Called (call_id p number) op makes.result makes.items ∷ makes.gaves)
-        (p.mine ++ Called (call_id p number) op makes.result makes.items ∷ []) makes.finds.left makes.after;
+    turn = takes-makes became (makes.found ++ Called (call_of p.number number) op makes.result makes.items ∷ makes.gaves)
+        (p.mine ++ Called (call_of p.number number) op makes.result makes.items ∷ []) makes.finds.left makes.after;
     result = became;
     served = by;
     fits = fits;
@@ -393,10 +393,10 @@ module _ {W : Type 0} (permits : W → ℕ → ℕ → Primitive → Option ℕ)
       → MatchResult (told_of became) (λ how. Makes (desk_of d) centre ask how (desk_of (then became))) (λ why. Refuses (desk_of d) centre ask why (desk_of (then became)))
   tells-turn (Replied reply) turn =
       makes-made (answer.Replied reply) served.Replied (Replied reply) turn
-      (reply-fits_ask t.origin q.seen (call_id p number) ask kept.own.rest.run (called (answer.Replied reply) turn) reply turn.answer) (reply, refl) refl
+      (reply-fits_ask t.origin q.seen (call_of p.number number) ask kept.own.rest.run (called (answer.Replied reply) turn) reply turn.answer) (reply, refl) refl
   tells-turn Pending turn =
       makes-made answer.Pending served.Pending Pending turn
-      (none-waits_ask t.origin q.seen (call_id p number) ask kept.own.rest.run (called answer.Pending turn) turn.answer) refl (waiting turn.answer)
+      (none-waits_ask t.origin q.seen (call_of p.number number) ask kept.own.rest.run (called answer.Pending turn) turn.answer) refl (waiting turn.answer)
   tells-turn (Refused why) turn = refuses-turn why turn
   tells-turn (Polled told) turn = absurd turn
 

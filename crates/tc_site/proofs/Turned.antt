@@ -10,7 +10,7 @@ use Rattle.std.proofs.lemmas.List.Folds.{list_any-append}
 use Rattle.std.proofs.lemmas.Option.{none-some, same_Some, slice_get_within}
 use Rattle.tc_centre.specs.declared.answers.Answer.{Answer}
 use Rattle.tc_centre.specs.declared.answers.Answer.TheVariants as answer
-use Rattle.tc_desk.specs.Agreeing.{AgreesRefused, AgreesRow, AreLonger, HasRow, HaveRows, IsLonger, IsNextRow, NamesCentre, numbered}
+use Rattle.tc_desk.specs.Agreeing.{AgreesRefused, AgreesRow, AreLonger, HasRow, HaveRows, IsLonger, IsNextRow, NamesCentre}
 use Rattle.tc_desk.specs.Desks.{with_row}
 use Rattle.tc_desk.specs.Logs.{any_pending, is_served}
 use Rattle.tc_desk.specs.Operands.{OpOf, Sound}
@@ -23,7 +23,7 @@ use Rattle.tc_desk.specs.declared.rows.Refusal.TheVariants as refusal
 use Rattle.tc_desk.proofs.Growing.{Agrees-longer, Agrees-push, HaveRow-longer}
 use Rattle.tc_desk.proofs.Logs.{any_pending-push_settled}
 use Rattle.tc_lists.proofs.Places.{slice_get_pushed, Contains-slice_get, slice_get_seam}
-use Rattle.tc_model.specs.Calls.{id_of, calls_of}
+use Rattle.tc_model.specs.Calls.{id_of, calls_of, call_of}
 use Rattle.tc_model.specs.Choices.{TheFirst}
 use Rattle.tc_model.specs.Entries.{IsFull, pending_after}
 use Rattle.tc_model.specs.Entries as entries
@@ -42,7 +42,7 @@ use Rattle.tc_model.specs.declared.outcomes.Reply.{Reply}
 use Rattle.tc_model.specs.declared.outcomes.Reply.TheVariants as reply
 use Rattle.tc_model.proofs.Histories.{reply_in-IsPrefix}
 use Rattle.tc_model.proofs.NextEntry.{reply_in-called}
-use Rattle.tc_shared.specs.Passes.{Keeps, Makes, SeesFull, SeesRoom, call_id}
+use Rattle.tc_shared.specs.Passes.{Keeps, Makes, SeesFull, SeesRoom}
 use Rattle.tc_turn.specs.Passes.{TurnstileState, PassState}
 use Rattle.tc_site.specs.Desks.{AgentState, IsDesk, IsWaitingAt, WaitsAt, is_held}
 use Rattle.tc_site.specs.Judging.{IsRefusedFor}
@@ -123,20 +123,20 @@ pending-outcome (outcome.Over phase tuple) none = absurd (none (reply.OverBudget
 -- a call that was made
 module _ (t : TurnstileState Origin) (p q : PassState Entry Origin) (number : ℕ) (op : Op) (told : Answer) (m : Makes t p number op told q) where
   abbrev entry : Entry
-  entry = Called (call_id p number) op m.result m.items
+  entry = Called (call_of p.number number) op m.result m.items
 
   seen-is : q.seen ≡ m.found ++ entry ∷ m.gaves
   seen-is = ap (λ (x : PassState Entry Origin). x.seen) m.after
 
-  pub makes-stands : Contains q.seen (Called (call_id p number) op m.result m.items)
+  pub makes-stands : Contains q.seen (Called (call_of p.number number) op m.result m.items)
   makes-stands =
       let behind : Contains (entry ∷ m.gaves) entry = (0, omega arith, refl) in
       subst (λ es. Contains es entry) (sym seen-is) (Contains-append_right m.found (entry ∷ m.gaves) entry behind)
 
   -- the reply of its entry is the reply that is known
-  pub makes-reply : (r : Reply) → reply_of m.result ≡ Some r → reply_in q.seen (call_id p number) ≡ Some r
+  pub makes-reply : (r : Reply) → reply_of m.result ≡ Some r → reply_in q.seen (call_of p.number number) ≡ Some r
   makes-reply r is =
-      let id : CallId = call_id p number in
+      let id : CallId = call_of p.number number in
       let k : ℕ = length m.found in
       let at : slice_get q.seen k ≡ Some entry = ap (λ es. slice_get es k) seen-is ∙ slice_get_seam m.found entry m.gaves in
       let legal : IsLegal TheFirst t.origin (take k q.seen) (after_history (opening t.origin) (take k q.seen)) entry = m.finds.own.rest.run k entry at in
@@ -148,7 +148,7 @@ module _ (t : TurnstileState Origin) (p q : PassState Entry Origin) (number : �
       (reply_in-called m.found id op m.result m.items above ∙ is)
 
   -- a call without a reply has waited
-  pub makes-waits : reply_in q.seen (call_id p number) ≡ None → m.result ≡ outcome.Pending
+  pub makes-waits : reply_in q.seen (call_of p.number number) ≡ None → m.result ≡ outcome.Pending
   makes-waits none = pending-outcome m.result (λ r is. none-some r (sym none ∙ makes-reply r is))
 
 module _ {W : Type 0} (d : AgentState W) (is : IsDesk d) (site : IsSite d.site.names d.site.centres d.site.roles) (free : is_none d.held ≡ true)
@@ -240,7 +240,7 @@ module _ {W : Type 0} (d : AgentState W) (is : IsDesk d) (site : IsSite d.site.n
         (All-push (HasRow (d.log ++ row ∷ []) centre) p.mine e (HaveRow-longer d.log (row ∷ []) centre p.mine mine-rows) has)
 
     -- a turn that found the centre full
-    pub was-full : (weight pending : ℕ) → SeesFull t p weight pending q → WasFull t.origin q.seen (numbered d.agent (length d.log + 1)) weight pending
+    pub was-full : (weight pending : ℕ) → SeesFull t p weight pending q → WasFull t.origin q.seen (call_of d.agent (length d.log + 1)) weight pending
     was-full weight pending h =
         let whole : q.seen ≡ take (length q.seen) q.seen = sym (take_all (length q.seen) q.seen (omega arith)) in
         let same : p.mine ≡ calls_of d.agent q.seen = sym (ap (λ (x : PassState Entry Origin). x.mine) h.sees.after) ∙ mine-new in
@@ -260,7 +260,7 @@ module _ {W : Type 0} (d : AgentState W) (is : IsDesk d) (site : IsSite d.site.n
 
     -- with a row more that agrees with what the pass has seen
     module _ (row : LogRow) (pending : Option WaitingAt) (counted : row.number ≡ length d.log + 1) (of : row.centre ≡ centre) where
-      next-row : AgreesRow t.origin q.seen (numbered d.agent (length d.log + 1)) d.log (length d.log) row row.result
+      next-row : AgreesRow t.origin q.seen (call_of d.agent (length d.log + 1)) d.log (length d.log) row row.result
           → NamesCentre d.site.names centre row.result
           → IsNextRow (origins_of d.site.centres) d.site.names (histories_of (set d.passes place q)) d.agent d.log row
       next-row agrees known = record {
@@ -273,11 +273,11 @@ module _ {W : Type 0} (d : AgentState W) (is : IsDesk d) (site : IsSite d.site.n
             let same : t ≡ first.0 = same_Some t first.0 (sym at-t ∙ ap (slice_get d.site.centres) (sym here) ∙ first.1) in
             let origins : t.origin ≡ origin = ap (λ (x : TurnstileState Origin). x.origin) same ∙ first.2 in
             let now : q.seen ≡ history = ap seen (sym (is-set k after.0 after.1 here)) ∙ after.2 in
-            subst (λ (o : Origin). AgreesRow o history (numbered d.agent (length d.log + 1)) d.log (length d.log) row row.result) origins
-            (subst (λ (h : List Entry). AgreesRow t.origin h (numbered d.agent (length d.log + 1)) d.log (length d.log) row row.result) now agrees);
+            subst (λ (o : Origin). AgreesRow o history (call_of d.agent (length d.log + 1)) d.log (length d.log) row row.result) origins
+            (subst (λ (h : List Entry). AgreesRow t.origin h (call_of d.agent (length d.log + 1)) d.log (length d.log) row row.result) now agrees);
       }
 
-      pub desk-pushed : HasGrown (length d.log) p q → AgreesRow t.origin q.seen (numbered d.agent (length d.log + 1)) d.log (length d.log) row row.result
+      pub desk-pushed : HasGrown (length d.log) p q → AgreesRow t.origin q.seen (call_of d.agent (length d.log + 1)) d.log (length d.log) row row.result
           → NamesCentre d.site.names centre row.result → All (HasRow (d.log ++ row ∷ []) centre) q.mine → WaitsAt d.site.names (d.log ++ row ∷ []) pending
           → IsDesk (record d { passes = set d.passes place q; log = d.log ++ row ∷ []; pending = pending })
       desk-pushed grown agrees known made waits = record {
@@ -297,20 +297,20 @@ module _ {W : Type 0} (d : AgentState W) (is : IsDesk d) (site : IsSite d.site.n
       abbrev row-of : LogResult → LogRow
       row-of became = record { number = length d.log + 1; centre = centre; ask = Some ask; result = became }
 
-      id-is : call_id p next ≡ numbered d.agent next
-      id-is = ap (λ n. numbered n next) own-pass.number
+      id-is : call_of p.number next ≡ call_of d.agent next
+      id-is = ap (λ n. call_of n next) own-pass.number
 
-      call-stands : (told : Answer) (m : Makes t p next op told q) → Contains q.seen (Called (numbered d.agent next) op m.result m.items)
+      call-stands : (told : Answer) (m : Makes t p next op told q) → Contains q.seen (Called (call_of d.agent next) op m.result m.items)
       call-stands told m = subst (λ (i : CallId). Contains q.seen (Called i op m.result m.items)) id-is (makes-stands t p q next op told m)
 
-      called : (told : Answer) → Makes t p next op told q → IsCalled q.seen (numbered d.agent next) ask
+      called : (told : Answer) → Makes t p next op told q → IsCalled q.seen (call_of d.agent next) ask
       called told m = record {
         op = op;
         is = sound;
         called = record { result = m.result; items = m.items; stands = call-stands told m };
       }
 
-      refused-agrees : (why : Refusal) → IsTurn t p next op (Refused why) q → AgreesRefused t.origin q.seen (numbered d.agent next) why
+      refused-agrees : (why : Refusal) → IsTurn t p next op (Refused why) q → AgreesRefused t.origin q.seen (call_of d.agent next) why
       refused-agrees (refusal.Full weight pending) turn = was-full weight pending turn
       refused-agrees refusal.TurnsSpent turn = tt
       refused-agrees refusal.UnknownCentre turn = tt
@@ -341,7 +341,7 @@ module _ {W : Type 0} (d : AgentState W) (is : IsDesk d) (site : IsSite d.site.n
 
       -- the row agrees with what the pass has seen
       row-agrees : (became : LogResult) → IsTurn t p next op became q
-          → AgreesRow t.origin q.seen (numbered d.agent next) d.log (length d.log) (row-of became) became
+          → AgreesRow t.origin q.seen (call_of d.agent next) d.log (length d.log) (row-of became) became
       row-agrees (Replied r) turn = record {
         ask = ask;
         asked = refl;
@@ -352,17 +352,17 @@ module _ {W : Type 0} (d : AgentState W) (is : IsDesk d) (site : IsSite d.site.n
         record {
           op = op;
           items = turn.items;
-          stands = subst (λ (r : Outcome). Contains q.seen (Called (numbered d.agent next) op r turn.items))
+          stands = subst (λ (r : Outcome). Contains q.seen (Called (call_of d.agent next) op r turn.items))
               (makes-waits t p q next op answer.Pending turn turn.answer) (call-stands answer.Pending turn);
         },
       )
       row-agrees (Refused why) turn = refused-agrees why turn
       row-agrees (Polled told) turn = absurd turn
 
-      made-rows : (became : LogResult) (told : Answer) (m : Makes t p next op told q) → (let e : Entry = Called (call_id p next) op m.result m.items in HasRow (d.log ++ row-of became ∷ []) centre e)
+      made-rows : (became : LogResult) (told : Answer) (m : Makes t p next op told q) → (let e : Entry = Called (call_of p.number next) op m.result m.items in HasRow (d.log ++ row-of became ∷ []) centre e)
           → All (HasRow (d.log ++ row-of became ∷ []) centre) q.mine
       made-rows became told m has =
-          rows-made (row-of became) (Called (call_id p next) op m.result m.items) (ap (λ (x : PassState Entry Origin). x.mine) m.after) has
+          rows-made (row-of became) (Called (call_of p.number next) op m.result m.items) (ap (λ (x : PassState Entry Origin). x.mine) m.after) has
 
       same-rows : (became : LogResult) → q.mine ≡ p.mine → All (HasRow (d.log ++ row-of became ∷ []) centre) q.mine
       same-rows became same = rows-same (row-of became) same
@@ -448,7 +448,7 @@ module _ {W : Type 0} (permits : W → ℕ → ℕ → Primitive → Option ℕ)
       let next : IsNextRow (origins_of d.site.centres) d.site.names (histories_of d.passes) d.agent d.log row = record {
         counted = refl;
         known = judged-named why other refused;
-        agrees = λ k origin history at began there. judged-agrees why origin history (numbered d.agent (length d.log + 1)) other refused;
+        agrees = λ k origin history at began there. judged-agrees why origin history (call_of d.agent (length d.log + 1)) other refused;
       } in
       record {
         agent_is = is.agent_is;

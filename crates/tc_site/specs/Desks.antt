@@ -4,7 +4,7 @@ use Rattle.std.specs.Prelude.{Option, None, Some, slice_get, slice_index}
 use Rattle.std.specs.List.{list_any}
 use Rattle.std.specs.Option.{is_none}
 use Rattle.std.proofs.Common.{get_or}
-use Rattle.tc_desk.specs.Agreeing.{numbered}
+use Rattle.tc_model.specs.Calls.{call_of}
 use Rattle.tc_desk.specs.Decided.{IsDecided}
 use Rattle.tc_desk.specs.Desks.{DeskState}
 use Rattle.tc_desk.specs.Logs.{any_pending, is_served}
@@ -39,7 +39,7 @@ counts_of passes = map (λ (p : PassState Entry Origin). length p.seen) passes
 abbrev pub waits_in : List (List Entry) → ℕ → Option WaitingAt → Bool
 waits_in histories agent None = false
 waits_in histories agent (Some w) =
-    is_none (reply_in (get_or histories w.centre []) (numbered agent (w.row + 1)))
+    is_none (reply_in (get_or histories w.centre []) (call_of agent (w.row + 1)))
 
 -- the desk, as one that makes calls
 abbrev pub desk_of : {W : Type 0} → AgentState W → DeskState

@@ -12,7 +12,8 @@ use Rattle.tc_model.specs.Run.{HasCall}
 use Rattle.tc_model.specs.State.{Origin}
 use Rattle.tc_model.specs.declared.entries.Entry.{Entry}
 use Rattle.tc_model.specs.declared.outcomes.Reply.{Reply}
-use Rattle.tc_shared.specs.Passes.{IsPassOf, IsSpent, Sees, call_id}
+use Rattle.tc_model.specs.Calls.{call_of}
+use Rattle.tc_shared.specs.Passes.{IsPassOf, IsSpent, Sees}
 use Rattle.tc_turn.specs.Passes.{TurnstileState, PassState}
 use Rattle.tc_site.specs.declared.waiting.WaitingAt.{WaitingAt}
 
@@ -22,7 +23,7 @@ pub record MayLook (t : TurnstileState Origin) (p : PassState Entry Origin) (log
   pub own : IsPassOf t p
   pub free : p.holds ≡ false
   pub inside : place < length log
-  pub called : HasCall (call_id p (place + 1)) p.seen
+  pub called : HasCall (call_of p.number (place + 1)) p.seen
 
 -- the log with this reply in the row at a place
 abbrev pub IsPut : List LogRow → ℕ → Reply → List LogRow → Type 0
@@ -33,13 +34,13 @@ IsPut log place reply after = (front : List LogRow) (row : LogRow) (back : List 
 pub record HasPut (place : ℕ) (log : List LogRow) (q : PassState Entry Origin) (after : List LogRow)
     : Type 0 where
   pub reply : Reply
-  pub told : reply_in q.seen (call_id q (place + 1)) ≡ Some reply
+  pub told : reply_in q.seen (call_of q.number (place + 1)) ≡ Some reply
   pub put : IsPut log place reply after
 
 -- it has none, and the log is as it was
 pub record HasNone (place : ℕ) (log : List LogRow) (q : PassState Entry Origin) (after : List LogRow)
     : Type 0 where
-  pub none : reply_in q.seen (call_id q (place + 1)) ≡ None
+  pub none : reply_in q.seen (call_of q.number (place + 1)) ≡ None
   pub same : after ≡ log
 
 -- what came of one look
@@ -63,7 +64,7 @@ pub record HasWaitedInVain (place : ℕ) (p : PassState Entry Origin) (log : Lis
     (q : PassState Entry Origin) (after : List LogRow) : Type 0 where
   pub spent : q.turns ≡ 0
   pub same : p.turns ≡ 0 → q ≡ p
-  pub none : 0 < p.turns → reply_in q.seen (call_id p (place + 1)) ≡ None
+  pub none : 0 < p.turns → reply_in q.seen (call_of p.number (place + 1)) ≡ None
   pub log_same : after ≡ log
 
 -- what came of a wait

@@ -1,7 +1,6 @@
 -- What contracts see of a site, of its kits and of the desks that have ended.
 use Rattle.std.specs.Prelude.{◌≡◌, ◌≢◌, ℕ, ◌<◌, ◌^◌, false, List, [], All, AllPairs}
-use Rattle.std.specs.Prelude.{length, map, Some, slice_get, Vec}
-use Rattle.std.specs.Global.{Global}
+use Rattle.std.specs.Prelude.{length, map, Some, slice_get}
 use Rattle.tc_centre.specs.Centre.{Centre}
 use Rattle.tc_config.specs.declared.configs.AgentConf.{AgentConf}
 use Rattle.tc_desk.specs.Agreeing.{Agrees}
@@ -113,10 +112,6 @@ pub record AreOfSite {W V : Type 0} (site : V → SiteState W) (agent : V → �
     : Type 0 where
   pub whole : length vs ≡ length s.roles
   pub each : (k : ℕ) (v : V) → slice_get vs k ≡ Some v → (site v ≡ s) × (agent v ≡ k)
-
--- the rows of each log, in order
-abbrev pub rows_of : List (Vec LogRow Global) → List (List LogRow)
-rows_of logs = map (λ (log : Vec LogRow Global). log.items) logs
 
 -- the cores that are left of a site: each begins as its centre did, and its history is at rest
 pub record AreClosed {W : Type 0} (s : SiteState W) (cores : List Centre) : Type 0 where

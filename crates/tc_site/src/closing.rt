@@ -4,7 +4,8 @@ ghost use Rattle.std.specs.List.{AllZip};
 ghost use Rattle.tc_shared.specs.Passes.{IsAtRest};
 ghost use Rattle.tc_site.specs.Columns.{AreClosedFrom, AreColumns, AreTaken, HaveLasts};
 ghost use Rattle.tc_site.specs.Columns.{IsClosedOver, columns_of};
-ghost use Rattle.tc_site.specs.Sites.{EndedState, HasPasses, IsEndedDesk, rows_of};
+ghost use Rattle.tc_desk.specs.Logs.{rows_of};
+ghost use Rattle.tc_site.specs.Sites.{EndedState, HasPasses, IsEndedDesk};
 
 use crate::kits::EndedDesk;
 use std::alloc::Global;

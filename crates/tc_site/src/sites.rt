@@ -3,8 +3,9 @@ ghost use Rattle.std.specs.Prelude.{◌≡◌, ◌≤◌, ◌<◌, [], ℕ, Some
 ghost use Rattle.tc_centre.specs.Centre.{Centre};
 ghost use Rattle.tc_model.specs.Calls.{calls_of};
 ghost use Rattle.tc_site.specs.Founding.{IsFounded};
+ghost use Rattle.tc_desk.specs.Logs.{rows_of};
 ghost use Rattle.tc_site.specs.Sites.{AreClosed, AreFreshCores, AreOfSite, AllAgree, IsSiteOf};
-ghost use Rattle.tc_site.specs.Sites.{EndedState, KitState, rows_of};
+ghost use Rattle.tc_site.specs.Sites.{EndedState, KitState};
 
 use crate::closing::{Left, close_all, take_apart};
 use crate::founding::cores;

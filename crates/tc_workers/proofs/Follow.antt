@@ -3,10 +3,10 @@ use Rattle.std.proofs.Common.{◌≡◌, ◌∙◌, ℕ, ◌+◌, true, List, So
 use Rattle.std.specs.List.{slice_get}
 use Rattle.std.proofs.lemmas.Option.{same_Some}
 use Rattle.tc_config.specs.Configurations.{Configuration, IsConfig, centre_names}
-use Rattle.tc_config.specs.Good.{AreHistories, Follows, IsHistory, IsNoLook, IsRow, IsServedNumber, Permits, call, origin_of}
+use Rattle.tc_config.specs.Good.{AreHistories, Follows, IsHistory, IsNoLook, IsRow, IsServedNumber, Permits, origin_of}
 use Rattle.tc_config.specs.declared.configs.AgentConf.{AgentConf}
 use Rattle.tc_config.specs.declared.configs.CentreConf.{CentreConf}
-use Rattle.tc_desk.specs.Agreeing.{Agrees, AgreesRow, HasRow, IsMadeBy, numbered}
+use Rattle.tc_desk.specs.Agreeing.{Agrees, AgreesRow, HasRow, IsMadeBy}
 use Rattle.tc_desk.specs.Decided.{IsDecided, IsDecidedAs, IsReadAs}
 use Rattle.tc_desk.specs.Logs.{is_served}
 use Rattle.tc_desk.specs.Served.{IsResult, IsServedAs}
@@ -15,7 +15,7 @@ use Rattle.tc_desk.specs.declared.rows.LogResult.{LogResult}
 use Rattle.tc_desk.specs.declared.rows.LogResult.TheVariants.{Replied, Pending, Refused, Polled}
 use Rattle.tc_desk.specs.declared.rows.Refusal.TheVariants as refusal
 use Rattle.tc_model.specs.Asks.{primitive_of}
-use Rattle.tc_model.specs.Calls.{id_of, calls_of}
+use Rattle.tc_model.specs.Calls.{id_of, calls_of, call_of}
 use Rattle.tc_model.specs.State.{Origin}
 use Rattle.tc_model.specs.declared.asks.Ask.{Ask}
 use Rattle.tc_model.specs.declared.calls.CallId.{CallId}
@@ -78,7 +78,7 @@ module _ (c : Configuration) (config : IsConfig c) (histories : List (List Entry
         history = history.0;
         there = history.1;
         result =
-            result-of (Permits c a.role place (primitive_of is.asked)) (origin_of c s) history.0 (numbered agent (k + 1)) log k row is.asked row.result
+            result-of (Permits c a.role place (primitive_of is.asked)) (origin_of c s) history.0 (call_of agent (k + 1)) log k row is.asked row.result
             is.ask is.result
             (agrees.rows k place row (origin_of c s) history.0 at is.centre (slice_get-map_at (origin_of c) c.centres place s there.1) history.1)
             (decided.read k row is.asked at is.ask)

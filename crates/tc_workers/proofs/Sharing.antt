@@ -27,7 +27,8 @@ use Rattle.tc_policy.specs.declared.grants.Grant.{Grant}
 use Rattle.tc_policy.proofs.Numbers.{number-has, number-stands}
 use Rattle.tc_runner.proofs.Cores.{cores-whole}
 use Rattle.tc_lists.proofs.Sets.{slice_get-as_long, slice_get-map_at, slice_get-map_from}
-use Rattle.tc_runner.specs.Cores.{AreCores, Goes, rows_of}
+use Rattle.tc_desk.specs.Logs.{rows_of}
+use Rattle.tc_runner.specs.Cores.{AreCores, Goes}
 use Rattle.tc_runner.specs.Plans.{IsFresh}
 use Rattle.tc_sched.specs.Clients.{IsOfScripts}
 use Rattle.tc_sched.specs.Steps.{ArePlaced}

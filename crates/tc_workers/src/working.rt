@@ -2,7 +2,8 @@
 ghost use Rattle.std.specs.Prelude.{◌≡◌, ◌<◌, [], length, IfOk};
 ghost use Rattle.tc_config.specs.Good.{IsGood};
 ghost use Rattle.tc_model.specs.Choices.{TheFirst};
-ghost use Rattle.tc_runner.specs.Cores.{Goes, histories, rows_of};
+ghost use Rattle.tc_desk.specs.Logs.{rows_of};
+ghost use Rattle.tc_runner.specs.Cores.{Goes, histories};
 ghost use Rattle.tc_runner.specs.Plans.{IsFresh};
 
 use crate::crew::drive_all;

@@ -1,9 +1,8 @@
 -- Cores and logs of a run.
 use Rattle.std.proofs.Common.{◌≡◌, ◌<◌, ◌||◌, ◌∙◌, ℕ, zero, suc, true, List, [], ◌∷◌, Vec, Global, length, get_or, sym, subst, ap, arith}
 use Rattle.std.proofs.Math.Bool.{or-true}
-use Rattle.tc_desk.specs.Logs.{any_pending, is_blocked}
+use Rattle.tc_desk.specs.Logs.{any_pending, is_blocked, rows_of}
 use Rattle.tc_desk.specs.declared.rows.LogRow.{LogRow}
-use Rattle.tc_runner.specs.Cores.{rows_of}
 
 -- an ask of one of the logs is pending
 pub blocked_at : (logs : List (Vec LogRow Global)) (i : ℕ) (log : Vec LogRow Global) → i < length logs → log ≡ get_or logs i log

@@ -2,7 +2,8 @@ use Rattle.std.proofs.Common.{◌≡◌, ◌+◌, ◌∙◌, List, sym, ap, subs
 use Rattle.std.specs.Global.{Global}
 use Rattle.tc_desk.specs.declared.rows.LogRow.{LogRow}
 use Rattle.tc_runner.specs.Clients.{IsClient, IsLog}
-use Rattle.tc_runner.specs.Cores.{histories, rows_of}
+use Rattle.tc_desk.specs.Logs.{rows_of}
+use Rattle.tc_runner.specs.Cores.{histories}
 use Rattle.tc_runner.proofs.Left.{AreClientsBelow, AreClientsBelow-push, IsLog-follows}
 use Rattle.tc_runner.proofs.Turns.{agent-at, rows-at}
 use Rattle.tc_runner.proofs.clients.clients.Goals as goal

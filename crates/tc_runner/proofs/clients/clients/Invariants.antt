@@ -1,4 +1,4 @@
-use Rattle.tc_runner.specs.Cores.{rows_of}
+use Rattle.tc_desk.specs.Logs.{rows_of}
 use Rattle.tc_runner.proofs.Left.{AreClientsBelow}
 use Rattle.tc_runner.proofs.clients.clients.Given as goal
 

@@ -6,7 +6,8 @@ use Rattle.tc_config.specs.Configurations.{Configuration, IsConfig, centre_names
 use Rattle.tc_config.specs.declared.configs.AgentConf.{AgentConf}
 use Rattle.tc_config.specs.declared.configs.CentreConf.{CentreConf}
 use Rattle.tc_desk.specs.declared.rows.LogRow.{LogRow}
-use Rattle.tc_runner.specs.Cores.{AreCores, rows_of}
+use Rattle.tc_desk.specs.Logs.{rows_of}
+use Rattle.tc_runner.specs.Cores.{AreCores}
 use Rattle.tc_runner.specs.Plans.{AreAgentNames, fresh_cores, names_of}
 use Rattle.tc_runner.proofs.Fresh.{AreAgentNames-config, AreCores-fresh, IsFresh-opened, fresh-none, unserved-fresh}
 use Rattle.tc_runner.proofs.opening.open.Goals as goal

@@ -1,5 +1,6 @@
 use Rattle.tc_runner.specs.Clients.{AreClients, left_in}
-use Rattle.tc_runner.specs.Cores.{Goes, rows_of}
+use Rattle.tc_desk.specs.Logs.{rows_of}
+use Rattle.tc_runner.specs.Cores.{Goes}
 use Rattle.tc_runner.proofs.running.finish.Given as goal
 
 -- the run may go on, and the clients fit it

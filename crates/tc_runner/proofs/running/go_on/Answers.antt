@@ -2,7 +2,8 @@ use Rattle.std.proofs.Common.{rules, ◌∙◌, ◌≡◌, length, ap}
 use Rattle.std.proofs.lemmas.List.{nil_from_length}
 use Rattle.tc_model.specs.Choices.{TheFirst}
 use Rattle.tc_config.specs.Good.{IsGood}
-use Rattle.tc_runner.specs.Cores.{Goes, histories, rows_of}
+use Rattle.tc_desk.specs.Logs.{rows_of}
+use Rattle.tc_runner.specs.Cores.{Goes, histories}
 use Rattle.tc_lists.proofs.Parts.{take-append_all}
 use Rattle.tc_runner.proofs.Exchanges.{exchanged}
 use Rattle.tc_runner.proofs.running.go_on.Goals as goal

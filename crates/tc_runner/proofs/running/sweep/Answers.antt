@@ -1,5 +1,5 @@
 use Rattle.std.proofs.Common.{◌+◌, Bool, length, get_or, set, sym, subst, ap, arith}
-use Rattle.tc_runner.specs.Cores.{rows_of}
+use Rattle.tc_desk.specs.Logs.{rows_of}
 use Rattle.tc_runner.specs.Steps.{Moves}
 use Rattle.tc_runner.proofs.Sweeping.{IsGood-still, Sweeping}
 use Rattle.tc_runner.proofs.Turns.{turn-client, turn-goes, turned-clients, turned-goes, turned-moved, turned-still}

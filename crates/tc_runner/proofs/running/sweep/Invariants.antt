@@ -1,4 +1,4 @@
-use Rattle.tc_runner.specs.Cores.{rows_of}
+use Rattle.tc_desk.specs.Logs.{rows_of}
 use Rattle.tc_runner.proofs.Sweeping.{Sweeping}
 use Rattle.tc_runner.proofs.running.sweep.Given as goal
 

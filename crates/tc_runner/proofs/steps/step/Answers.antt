@@ -1,5 +1,5 @@
 use Rattle.std.proofs.Common.{◌≡◌, ◌<◌, ◌≤◌, ◌∙◌, false, List, refl, sym, subst, length, get_or}
-use Rattle.tc_config.specs.Good.{call}
+use Rattle.tc_model.specs.Calls.{call_of}
 use Rattle.tc_desk.specs.Asks.{steps_of}
 use Rattle.tc_desk.specs.Logs.{any_pending}
 use Rattle.tc_desk.specs.declared.rows.LogRow.{LogRow}
@@ -28,7 +28,7 @@ look-requires-clause-called g c =
 pub returns-then-not-branch-clause-goes : goal.returns-then-not-branch-clause-goes
 returns-then-not-branch-clause-goes g c =
     let w = subst (WaitsAt c.args.a.now.scripts c.args.log.now.items) c.in-Some.is c.requires.client.waits in
-    let told = reply_in (get_or c.args.cores.now c.in-Some.place c.index-cores-place.result).history (call c.args.client.now.agent c.len-number.result) in
+    let told = reply_in (get_or c.args.cores.now c.in-Some.place c.index-cores-place.result).history (call_of c.args.client.now.agent c.len-number.result) in
     let looks = subst (Looks told c.args.log.now.items c.look.new.log.items) c.if-not-branch.true c.in_ok-look.ensures.looks in
     let none = read-none c.args.plan.now c.args.client.now.agent c.args.a.now c.args.cores.now c.args.log.now.items c.requires.goes c.in-Some.place w
     c.index-cores-place.result c.len-number.result (c.len-number.ensures ∙ c.args.log.now.ok.0) c.look.new.log.items looks in
@@ -37,7 +37,7 @@ returns-then-not-branch-clause-goes g c =
 pub returns-then-not-branch-clause-moves : goal.returns-then-not-branch-clause-moves
 returns-then-not-branch-clause-moves g c =
     let w = subst (WaitsAt c.args.a.now.scripts c.args.log.now.items) c.in-Some.is c.requires.client.waits in
-    let told = reply_in (get_or c.args.cores.now c.in-Some.place c.index-cores-place.result).history (call c.args.client.now.agent c.len-number.result) in
+    let told = reply_in (get_or c.args.cores.now c.in-Some.place c.index-cores-place.result).history (call_of c.args.client.now.agent c.len-number.result) in
     let looks = subst (Looks told c.args.log.now.items c.look.new.log.items) c.if-not-branch.true c.in_ok-look.ensures.looks in
     let none = read-none c.args.plan.now c.args.client.now.agent c.args.a.now c.args.cores.now c.args.log.now.items c.requires.goes c.in-Some.place w
     c.index-cores-place.result c.len-number.result (c.len-number.ensures ∙ c.args.log.now.ok.0) c.look.new.log.items looks in
@@ -46,7 +46,7 @@ returns-then-not-branch-clause-moves g c =
 pub returns-in-Some-clause-goes : goal.returns-in-Some-clause-goes
 returns-in-Some-clause-goes g c =
     let w = subst (WaitsAt c.args.a.now.scripts c.args.log.now.items) c.in-Some.is c.requires.client.waits in
-    let told = reply_in (get_or c.args.cores.now c.in-Some.place c.index-cores-place.result).history (call c.args.client.now.agent c.len-number.result) in
+    let told = reply_in (get_or c.args.cores.now c.in-Some.place c.index-cores-place.result).history (call_of c.args.client.now.agent c.len-number.result) in
     let looks = subst (Looks told c.args.log.now.items c.look.new.log.items) c.if-not-branch.false c.in_ok-look.ensures.looks in
     read-goes c.args.plan.now c.args.client.now.agent c.args.a.now c.args.cores.now c.args.log.now.items c.requires.goes c.in-Some.place w
     c.index-cores-place.result c.len-number.result (c.len-number.ensures ∙ c.args.log.now.ok.0) c.look.new.log.items looks
@@ -54,7 +54,7 @@ returns-in-Some-clause-goes g c =
 pub returns-in-Some-clause-client : goal.returns-in-Some-clause-client
 returns-in-Some-clause-client g c =
     let w = subst (WaitsAt c.args.a.now.scripts c.args.log.now.items) c.in-Some.is c.requires.client.waits in
-    let told = reply_in (get_or c.args.cores.now c.in-Some.place c.index-cores-place.result).history (call c.args.client.now.agent c.len-number.result) in
+    let told = reply_in (get_or c.args.cores.now c.in-Some.place c.index-cores-place.result).history (call_of c.args.client.now.agent c.len-number.result) in
     let looks = subst (Looks told c.args.log.now.items c.look.new.log.items) c.if-not-branch.false c.in_ok-look.ensures.looks in
     record {
       agent_is = refl;

@@ -8,7 +8,8 @@ use Rattle.tc_model.specs.State.{Origin}
 use Rattle.tc_model.specs.declared.entries.Entry.{Entry}
 use Rattle.tc_turn.specs.Passes.{PassState}
 use Rattle.tc_site.specs.Columns.{columns_of}
-use Rattle.tc_site.specs.Sites.{EndedState, IsEndedDesk, rows_of}
+use Rattle.tc_desk.specs.Logs.{rows_of}
+use Rattle.tc_site.specs.Sites.{EndedState, IsEndedDesk}
 use Rattle.tc_site.proofs.closing.take_apart.Goals as goal
 
 pub loop-desk-preserved : goal.loop-desk-preserved

@@ -3,7 +3,8 @@ use Rattle.tc_centre.specs.Centre.{Centre}
 use Rattle.tc_config.specs.Configurations.{Configuration, centre_names}
 use Rattle.tc_config.specs.declared.configs.AgentConf.{AgentConf}
 use Rattle.tc_policy.specs.declared.grants.Grant.{Grant}
-use Rattle.tc_runner.specs.Cores.{Goes, rows_of}
+use Rattle.tc_desk.specs.Logs.{rows_of}
+use Rattle.tc_runner.specs.Cores.{Goes}
 use Rattle.tc_site.specs.Sites.{IsSiteOf}
 use Rattle.tc_workers.proofs.Sharing.{can-drive, closed-goes, fresh-cores}
 use Rattle.tc_workers.proofs.working.shared.Goals as goal

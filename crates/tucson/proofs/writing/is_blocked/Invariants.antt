@@ -1,6 +1,5 @@
 use Rattle.std.proofs.Common.{◌≡◌, false, take}
-use Rattle.tc_desk.specs.Logs.{is_blocked}
-use Rattle.tc_runner.specs.Cores.{rows_of}
+use Rattle.tc_desk.specs.Logs.{is_blocked, rows_of}
 use Rattle.tucson.proofs.writing.is_blocked.Given as goal
 
 -- no ask in the first logs is pending

@@ -1,6 +1,6 @@
 use Rattle.std.proofs.Common.{◌≡◌, ◌∙◌, Err, ap}
-use Rattle.tc_desk.specs.Logs.{is_blocked}
-use Rattle.tc_runner.specs.Cores.{histories, rows_of}
+use Rattle.tc_desk.specs.Logs.{is_blocked, rows_of}
+use Rattle.tc_runner.specs.Cores.{histories}
 use Rattle.tucson.proofs.Told.{told_failed, told_memory, told_whole}
 use Rattle.tucson.specs.Ending.{sink_of}
 use Rattle.tucson.specs.Status.{status_of_run}

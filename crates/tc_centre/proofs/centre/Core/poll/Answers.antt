@@ -6,13 +6,14 @@ use Rattle.tc_model.specs.declared.entries.Entry.TheVariants.{Looked}
 use Rattle.tc_centre.proofs.Typed.{typed-push}
 use Rattle.tc_centre.proofs.Numbered.{look-numbers}
 use Rattle.tc_centre.proofs.Turned.{tells, look-settled, look-weight, look-places}
-use Rattle.tc_model.specs.Run.{IsNext, HasCall, earlier}
+use Rattle.tc_model.specs.Calls.{call_of}
+use Rattle.tc_model.specs.Run.{IsNext, HasCall}
 use Rattle.tc_centre.specs.Places.{lists_of}
 use Rattle.tc_centre.proofs.centre.Core.poll.Goals as goal
 
-has_call : (c : goal.After-note_number) → HasCall (earlier c.args.id c.args.asked) c.self.inside.held.history.items
+has_call : (c : goal.After-note_number) → HasCall (call_of c.args.id.agent c.args.asked) c.self.inside.held.history.items
 has_call c =
-    subst (HasCall (earlier c.args.id c.args.asked)) c.deref.ensures.value (c.if-not-has_call.ensures.0 refl)
+    subst (HasCall (call_of c.args.id.agent c.args.asked)) c.deref.ensures.value (c.if-not-has_call.ensures.0 refl)
 
 next : (c : goal.After-note_number) → IsNext (origin_of c.self.inside.held.founding) c.self.inside.held.history.items c.args.id
 next c = subst (λ (k : Centre). IsNext k.origin k.history c.args.id) (sym c.self.view_is) c.requires
@@ -34,9 +35,9 @@ invariant_of-self c = record {
   agents = c.note_number.ensures.agents ∙ c.self.invariant.agents;
   numbers = look-numbers c.self.inside.held.history.items c.look_up.new.history.items c.args.id c.self.inside.numbers.items
       c.note_number.new.numbers.items (next c).number c.note_number.ensures.noted c.self.invariant.numbers c.args.asked
-      (reply_in c.self.inside.held.history.items (earlier c.args.id c.args.asked)) c.in-Ok.ensures.appended;
+      (reply_in c.self.inside.held.history.items (call_of c.args.id.agent c.args.asked)) c.in-Ok.ensures.appended;
   typed = typed-push c.self.inside.held.history.items c.look_up.new.history.items
-      (Looked c.args.id c.args.asked (reply_in c.self.inside.held.history.items (earlier c.args.id c.args.asked)))
+      (Looked c.args.id c.args.asked (reply_in c.self.inside.held.history.items (call_of c.args.id.agent c.args.asked)))
       c.in-Ok.ensures.appended c.typed_id.ensures c.self.invariant.typed;
   bag_unmarked = c.self.invariant.bag_unmarked;
   pending_unmarked = c.self.invariant.pending_unmarked;

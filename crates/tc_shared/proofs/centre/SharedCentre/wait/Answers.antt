@@ -4,7 +4,8 @@ use Rattle.tc_model.specs.Run.{HasCall}
 use Rattle.tc_model.specs.Replies.{reply_in}
 use Rattle.tc_model.specs.declared.entries.Entry.{Entry}
 use Rattle.tc_turn.specs.Passes.{PassState}
-use Rattle.tc_shared.specs.Passes.{IsPassOf, Waits, call_id}
+use Rattle.tc_model.specs.Calls.{call_of}
+use Rattle.tc_shared.specs.Passes.{IsPassOf, Waits}
 use Rattle.tc_shared.proofs.Waiting.{ahead-first, ahead-rested, seen-waits, refused-waits, called-later, waited-in-vain, refused-at-once}
 use Rattle.tc_shared.proofs.centre.SharedCentre.wait.Goals as goal
 

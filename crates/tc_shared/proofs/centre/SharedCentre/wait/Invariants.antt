@@ -2,7 +2,8 @@ use Rattle.std.proofs.Common.{◌≡◌, ◌+◌, ◌<◌, ◌≤◌, None, fals
 use mathlib.Core.List.{IsPrefix}
 use Rattle.tc_model.specs.Run.{HasCall}
 use Rattle.tc_model.specs.Replies.{reply_in}
-use Rattle.tc_shared.specs.Passes.{IsPassOf, call_id}
+use Rattle.tc_model.specs.Calls.{call_of}
+use Rattle.tc_shared.specs.Passes.{IsPassOf}
 use Rattle.tc_shared.proofs.centre.SharedCentre.wait.Given as goal
 
 abbrev pub invariant-loop : goal.invariant-loop
@@ -12,8 +13,8 @@ invariant-loop g l = record {
   own : IsPassOf l.self l.pass;
   free : l.pass.holds ≡ false;
   some : 0 < l.fn.pass.turns;
-  none : reply_in l.pass.seen (call_id l.fn.pass l.number) ≡ None;
-  called : HasCall (call_id l.pass l.number) l.pass.seen;
+  none : reply_in l.pass.seen (call_of l.fn.pass.number l.number) ≡ None;
+  called : HasCall (call_of l.pass.number l.number) l.pass.seen;
   fell : l.pass.turns ≤ l.fn.pass.turns;
   turns : l.fn.pass.turns + length l.fn.pass.seen ≤ l.pass.turns + length l.pass.seen + 1;
   known : IsPrefix l.fn.pass.seen l.pass.seen;

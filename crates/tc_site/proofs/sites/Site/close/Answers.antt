@@ -5,7 +5,8 @@ use Rattle.tc_model.specs.State.{Origin}
 use Rattle.tc_model.specs.declared.entries.Entry.{Entry}
 use Rattle.tc_turn.specs.Passes.{PassState}
 use Rattle.tc_site.specs.Columns.{AreClosedFrom, AreColumns, columns_of}
-use Rattle.tc_site.specs.Sites.{SiteState, HasPasses, IsSite, rows_of}
+use Rattle.tc_desk.specs.Logs.{rows_of}
+use Rattle.tc_site.specs.Sites.{SiteState, HasPasses, IsSite}
 use Rattle.tc_site.proofs.Agreed.{all-agree, all-have, are-closed, are-columns, others-none}
 use Rattle.tc_site.proofs.sites.Site.close.Goals as goal
 
