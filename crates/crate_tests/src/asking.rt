@@ -4,7 +4,7 @@ ghost use Rattle.tc_model.specs.Asks.{operand_of};
 ghost use Rattle.tc_model.specs.Scripts.{IsScript};
 ghost use Rattle.tc_model.specs.Within.{HasVarsBelow};
 ghost use Rattle.tc_desk.specs.Logs.{any_pending, is_pending};
-ghost use Rattle.tc_asks.specs.Progress.{HasTaken};
+ghost use Rattle.tc_asks.specs.Progress.{HasTakenIn};
 
 use std::alloc::Global;
 use std::test::Fail;
@@ -40,10 +40,10 @@ fn after(
     log: &mut Vec<LogRow>,
     came: LogResult,
 ) -> Result<Option<Term>, NoMemory>
-    requires taken { HasTaken scripts.now log.old.items asker.old }
+    requires taken { HasTakenIn scripts.now log.old.items asker.old }
     requires settled { any_pending log.old.items ≡ false }
     requires came { is_pending came ≡ false }
-    ensures taken { HasTaken scripts.now log.new.items asker.new }
+    ensures taken { HasTakenIn scripts.now log.new.items asker.new }
     ensures settled { any_pending log.new.items ≡ false }
 {
     let row = LogRow {

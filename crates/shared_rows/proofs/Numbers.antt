@@ -10,7 +10,7 @@ use Rattle.tc_model.specs.State.{Origin}
 use Rattle.tc_model.specs.declared.calls.Op.{Op}
 use Rattle.tc_model.specs.declared.entries.Entry.{Entry}
 use Rattle.tc_model.specs.declared.entries.Entry.TheVariants.{Called, Looked}
-use Rattle.tc_shared.specs.Passes.{IsCallRefused, IsSharedPollRefused, Makes, Tells}
+use Rattle.tc_shared.specs.Passes.{IsCallRefused, IsSharedPollRefused, CallsInTurn, PollsInTurn}
 use Rattle.tc_shared.specs.declared.answers.CallFault.{CallFault}
 use Rattle.tc_shared.specs.declared.answers.CallFault.TheVariants as call
 use Rattle.tc_shared.specs.declared.answers.SharedPollFault.{SharedPollFault}
@@ -34,7 +34,7 @@ module _ (p q : PassState Entry Origin) (n : ℕ) (below : NumbersBelow n p) whe
       (All-cons (λ d. (id_of d).number < n + 1) e [] (omega (arith, is)) (All-nil (λ d. (id_of d).number < n + 1))))
 
   -- after a call
-  pub numbers-call : (t : TurnstileState Origin) (op : Op) (r : Result Answer CallFault) → IfOk r (λ told. Makes t p n op told q)
+  pub numbers-call : (t : TurnstileState Origin) (op : Op) (r : Result Answer CallFault) → IfOk r (λ told. CallsInTurn t p n op told q)
       → IfErr r (λ fault. IsCallRefused t p fault q) → NumbersBelow (n + 1) q
   numbers-call t op (Ok told) makes refused =
       numbers-own (Called (call_of p.number n) op makes.result makes.items) refl (ap (λ (x : PassState Entry Origin). x.mine) makes.after)
@@ -44,7 +44,7 @@ module _ (p q : PassState Entry Origin) (n : ℕ) (below : NumbersBelow n p) whe
   numbers-call t op (Err call.NoMemory) makes refused = numbers-same (ap (λ (x : PassState Entry Origin). x.mine) refused.sees.after)
 
   -- after a poll
-  pub numbers-poll : (t : TurnstileState Origin) (asked : ℕ) (r : Result Poll SharedPollFault) → IfOk r (λ told. Tells t p n asked told q)
+  pub numbers-poll : (t : TurnstileState Origin) (asked : ℕ) (r : Result Poll SharedPollFault) → IfOk r (λ told. PollsInTurn t p n asked told q)
       → IfErr r (λ fault. IsSharedPollRefused t p asked fault q) → NumbersBelow (n + 1) q
   numbers-poll t asked (Ok told) tells refused =
       numbers-own (Looked (call_of p.number n) asked tells.reply) refl (ap (λ (x : PassState Entry Origin). x.mine) tells.after)

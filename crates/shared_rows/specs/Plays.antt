@@ -3,7 +3,7 @@ use Rattle.std.specs.Prelude.{◌≡◌, ℕ, ◌+◌, ◌<◌, false, List, All
 use Rattle.tc_model.specs.Calls.{id_of}
 use Rattle.tc_model.specs.State.{Origin}
 use Rattle.tc_model.specs.declared.entries.Entry.{Entry}
-use Rattle.tc_shared.specs.Passes.{IsPassOf, Keeps}
+use Rattle.tc_shared.specs.Passes.{IsPassOf, KeepsPass}
 use Rattle.tc_turn.specs.Passes.{TurnstileState, PassState, EndedState}
 use Rattle.shared_rows.specs.declared.playing.Played.{Played}
 
@@ -20,7 +20,7 @@ pub record MayMove (t : TurnstileState Origin) (p : PassState Entry Origin) (num
 -- q is the pass p after a move of this number
 pub record Moves (t : TurnstileState Origin) (p : PassState Entry Origin) (number : ℕ)
     (q : PassState Entry Origin) : Type 0 where
-  pub kept : Keeps t p q
+  pub kept : KeepsPass t p q
   pub next : NumbersBelow (number + 1) q
 
 -- the pass that has ended is this one of the centre

@@ -2,7 +2,7 @@
 ghost use Rattle.std.specs.Prelude.{◌≡◌, ◌+◌, false};
 ghost use Rattle.tc_model.specs.Run.{HasCall};
 ghost use Rattle.tc_model.specs.Calls.{call_of};
-ghost use Rattle.tc_shared.specs.Passes.{IsFreshPassOf, IsPassOf, Keeps};
+ghost use Rattle.tc_shared.specs.Passes.{IsFreshPassOf, IsPassOf, KeepsPass};
 ghost use Rattle.shared_rows.specs.Plays.{IsPlayed, MayMove, Moves};
 
 use crate::fault::Fault;
@@ -73,7 +73,7 @@ fn make_all<R: Wait>(
     moves: &[Move],
 ) -> Result<Vec<Note>, Fault>
     requires { IsFreshPassOf centre.now pass.old }
-    ensures { Keeps centre.now pass.old pass.new }
+    ensures { KeepsPass centre.now pass.old pass.new }
 {
     let mut notes = Vec::with_capacity(alloc, moves.len())?;
     for next in moves {
@@ -209,7 +209,7 @@ fn hold<R: Wait>(
 ) -> Result<Told, Fault>
     requires own { IsPassOf centre.now pass.old }
     requires free { pass.old.holds ≡ false }
-    ensures kept { Keeps centre.now pass.old pass.new }
+    ensures kept { KeepsPass centre.now pass.old pass.new }
     ensures same { pass.new.mine ≡ pass.old.mine }
 {
     let Ok(paused) = centre.pause(rt, pass) else {

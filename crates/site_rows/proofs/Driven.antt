@@ -7,18 +7,18 @@ use Rattle.tc_lists.proofs.Zips.{AllZip-slice_get}
 use Rattle.tc_model.specs.declared.asks.Primitive.{Primitive}
 use Rattle.tc_sched.specs.Clients.{Client}
 use Rattle.tc_sched.specs.Steps.{AllWent, ArePlaced, IsReady, Went, left_in}
-use Rattle.tc_site.specs.Desks.{AgentState, IsSound, desk_of}
+use Rattle.tc_site.specs.Desks.{AgentState, IsDecidedLog, desk_of}
 use Rattle.tc_site.specs.Sites.{SiteState}
 use Rattle.tc_workers.specs.Crews.{AreAtDesks, CanDrive}
 use Rattle.tc_workers.proofs.Driven.{ready}
 
 module _ {W : Type 0} (permits : W → ℕ → ℕ → Primitive → Option ℕ) (s : SiteState W) (names : List (List ℕ)) (agents : List AgentConf)
     (olds news : List (Client (AgentState W))) (can : CanDrive s names agents) (at : AreAtDesks permits s agents olds)
-    (went : AllWent {B = SiteState W × ℕ} desk_of (λ (d : AgentState W). (d.site, d.agent)) (λ (d : AgentState W). IsSound permits d.site d.agent d.log)
+    (went : AllWent {B = SiteState W × ℕ} desk_of (λ (d : AgentState W). (d.site, d.agent)) (λ (d : AgentState W). IsDecidedLog permits d.site d.agent d.log)
     (3 * left_in desk_of olds + 2) olds news) where
   ready-at : (k : ℕ) (e : Client (AgentState W)) → slice_get news k ≡ Some e → IsReady desk_of 1 names e
   ready-at k e here =
-      let c = AllZip-slice_get (Went {B = SiteState W × ℕ} desk_of (λ (d : AgentState W). (d.site, d.agent)) (λ (d : AgentState W). IsSound permits d.site d.agent d.log) (3 * left_in desk_of olds + 2)) olds news k e went here in
+      let c = AllZip-slice_get (Went {B = SiteState W × ℕ} desk_of (λ (d : AgentState W). (d.site, d.agent)) (λ (d : AgentState W). IsDecidedLog permits d.site d.agent d.log) (3 * left_in desk_of olds + 2)) olds news k e went here in
       let was = at.each k c.0 c.1 in
       let old = All-slice_get (IsReady desk_of (3 * left_in desk_of olds + 2) names) olds k c.0 (ready permits s names agents olds can at) c.1 in
       record {

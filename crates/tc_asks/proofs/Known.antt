@@ -5,19 +5,19 @@ use Rattle.tc_term.specs.Tree.{Tree, IsTuple}
 use Rattle.tc_term.specs.Equations.{Equation, Equations, Solvable, with_pair}
 use Rattle.tc_term.proofs.Solutions.{Solvable-fewer}
 use Rattle.tc_desk.specs.Asks.{AreValues}
-use Rattle.tc_asks.specs.Bindings.{IsKnown, IsSolved}
+use Rattle.tc_asks.specs.Bindings.{AreKnown, IsSolved}
 use Rattle.tc_asks.proofs.Values.{solvable_values, unsolvable_values}
 
 -- each variable has a value or has none
 pub known_values : (solvable : Bool) (store : Equations) (vars : ℕ) (es : List Equation) → IsSolved store →
-    IsKnown vars es (if solvable then Some store else None) → (values : List (Option Tree)) × AreValues vars es values
+    AreKnown vars es (if solvable then Some store else None) → (values : List (Option Tree)) × AreValues vars es values
 known_values true store vars es solved known =
     subst (λ (e : Equations). (values : List (Option Tree)) × AreValues e.vars e.pairs values) known
     (solvable_values store.vars store.pairs solved.tuples solved.solvable.valuation solved.solvable.solves)
 known_values false store vars es solved known = unsolvable_values vars es known
 
 -- what nothing solves, nothing solves with one equation more
-pub known_never : (vars : ℕ) (es : List Equation) (e : Equation) → IsKnown vars es None → IsKnown vars (es ++ e ∷ []) None
+pub known_never : (vars : ℕ) (es : List Equation) (e : Equation) → AreKnown vars es None → AreKnown vars (es ++ e ∷ []) None
 known_never vars es e never solvable = never (Solvable-fewer vars es (e ∷ []) solvable)
 
 -- an equation was added, or refused
@@ -35,8 +35,8 @@ solved_told false old new s t solved tuple solvable is unchanged = record {
 }
 
 pub known_told : (added : Bool) (old new : Equations) (s t : Tree) (vars : ℕ) (es : List Equation) → (IsTrue added → new ≡ with_pair old s t) →
-    (added ≡ false → Solvable old.vars (old.pairs ++ (s, t) ∷ []) → ⊥) → IsKnown vars es (Some old) →
-    IsKnown vars (es ++ (s, t) ∷ []) (if added then Some new else None)
+    (added ≡ false → Solvable old.vars (old.pairs ++ (s, t) ∷ []) → ⊥) → AreKnown vars es (Some old) →
+    AreKnown vars (es ++ (s, t) ∷ []) (if added then Some new else None)
 known_told true old new s t vars es is never known = is refl ∙ ap (λ (e : Equations). with_pair e s t) known
 known_told false old new s t vars es is never known =
     subst (λ (e : Equations). Solvable e.vars (e.pairs ++ (s, t) ∷ []) → ⊥) known (never refl)

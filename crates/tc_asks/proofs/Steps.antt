@@ -11,7 +11,7 @@ use Rattle.tc_lists.proofs.Places.{slice_get_longer, slice_get_behind}
 use Rattle.tc_model.specs.Scripts.{Lines}
 use Rattle.tc_model.specs.declared.scripts.ScriptItem.{ScriptItem}
 use Rattle.tc_desk.specs.Asks.{ScriptStep, steps_at, steps_from, steps_of}
-use Rattle.tc_asks.specs.Places.{IsEnd, IsItemAt, IsPlaced, script_at}
+use Rattle.tc_asks.specs.Places.{IsBehindItems, IsItemAt, IsPlaced, script_at}
 
 -- the items of the first scripts, and those of the others
 pub steps_from-append : (place : ℕ) (ss ts : List Lines) → steps_from place (ss ++ ts) ≡ steps_from place ss ++ steps_from (place + length ss) ts
@@ -84,7 +84,7 @@ steps_end scripts n k count placed past =
     omega (arith, placed.before, placed.inside, items_past scripts n past, ap (λ ss. length (steps_of ss)) (take_all n scripts past))
 
 -- the end of a script is the beginning of the next one
-pub placed_next : (scripts : List Lines) (n k count : ℕ) → n < length scripts → IsEnd scripts n k → IsPlaced scripts n k count → IsPlaced scripts (n + 1) 0 count
+pub placed_next : (scripts : List Lines) (n k count : ℕ) → n < length scripts → IsBehindItems scripts n k → IsPlaced scripts n k count → IsPlaced scripts (n + 1) 0 count
 placed_next scripts n k count inside end placed = record {
   before = omega (arith, placed.before, placed.inside, end, length-steps-next scripts n inside);
   inside = omega arith;

@@ -20,10 +20,10 @@ use Rattle.tc_desk.specs.Logs.{any_pending, is_pending, results_of}
 use Rattle.tc_desk.specs.declared.rows.LogRow.{LogRow}
 use Rattle.tc_desk.specs.declared.rows.LogResult.{LogResult}
 use Rattle.tc_desk.specs.declared.rows.LogResult.TheVariants.{Pending}
-use Rattle.tc_asks.specs.Bindings.{IsKnown}
+use Rattle.tc_asks.specs.Bindings.{AreKnown}
 use Rattle.tc_asks.specs.Nexts.{IsNextAsk}
 use Rattle.tc_asks.specs.Places.{IsItemAt, IsPlaced, script_at}
-use Rattle.tc_asks.specs.Progress.{HasTaken, Progress}
+use Rattle.tc_asks.specs.Progress.{HasTakenIn, Progress}
 use Rattle.tc_asks.proofs.Steps.{step_at}
 use Rattle.tc_asks.proofs.Told.{equations-longer, equations-next, equations-none, said}
 
@@ -47,9 +47,9 @@ said_next scripts log p i row placed at came =
 
 -- the row of the next item is taken in
 pub taken_next : (scripts : List Lines) (log : List LogRow) (p : Progress) (i : ScriptItem) (row : LogRow) (known : Option Equations) →
-    HasTaken scripts log p → IsItemAt scripts p.script p.item i → slice_get log p.rows ≡ Some row → is_pending row.result ≡ false →
-    ((vars : ℕ) (es : List Equation) → IsKnown vars es p.known → IsKnown vars (es ++ equation i.ask row.result) known) →
-    HasTaken scripts log (record { rows = p.rows + 1; script = p.script; item = p.item + 1; known = known })
+    HasTakenIn scripts log p → IsItemAt scripts p.script p.item i → slice_get log p.rows ≡ Some row → is_pending row.result ≡ false →
+    ((vars : ℕ) (es : List Equation) → AreKnown vars es p.known → AreKnown vars (es ++ equation i.ask row.result) known) →
+    HasTakenIn scripts log (record { rows = p.rows + 1; script = p.script; item = p.item + 1; known = known })
 taken_next scripts log p i row known taken at came settled told =
     let within : p.rows < length log = slice_get_within log p.rows row came in
     record {
@@ -63,27 +63,27 @@ taken_next scripts log p i row known taken at came settled told =
         inside = omega (arith, slice_get_within (script_at scripts p.script).items p.item i at.stands);
       };
       known =
-          subst (λ es. IsKnown (script_at scripts p.script).vars es known) (sym (said_next scripts log p i row taken.placed at came))
+          subst (λ es. AreKnown (script_at scripts p.script).vars es known) (sym (said_next scripts log p i row taken.placed at came))
           (told (script_at scripts p.script).vars (said_before scripts log p) taken.known);
     }
 
 -- a script is begun
 begun : (scripts : List Lines) (log : List LogRow) (p : Progress) (n : ℕ) (known : Option Equations) →
-    HasTaken scripts log p → IsPlaced scripts n 0 p.rows → IsKnown (script_at scripts n).vars [] known →
-    HasTaken scripts log (record { rows = p.rows; script = n; item = 0; known = known })
+    HasTakenIn scripts log p → IsPlaced scripts n 0 p.rows → AreKnown (script_at scripts n).vars [] known →
+    HasTakenIn scripts log (record { rows = p.rows; script = n; item = 0; known = known })
 begun scripts log p n known taken placed known_none = record {
   rows = taken.rows;
   settled = taken.settled;
   placed = placed;
   known =
-      subst (λ es. IsKnown (script_at scripts n).vars es known) (sym (equations-none scripts n p.rows (results_of log) placed)) known_none;
+      subst (λ es. AreKnown (script_at scripts n).vars es known) (sym (equations-none scripts n p.rows (results_of log) placed)) known_none;
 }
 
 pub taken_onward : (scripts : List Lines) (log : List LogRow) (p : Progress) (n k : ℕ) (known : Option Equations) → k ≡ 0 →
-    HasTaken scripts log p → IsPlaced scripts n k p.rows → IsKnown (script_at scripts n).vars [] known →
-    HasTaken scripts log (record { rows = p.rows; script = n; item = k; known = known })
+    HasTakenIn scripts log p → IsPlaced scripts n k p.rows → AreKnown (script_at scripts n).vars [] known →
+    HasTakenIn scripts log (record { rows = p.rows; script = n; item = k; known = known })
 taken_onward scripts log p n k known first taken placed known_none =
-    subst (λ m. HasTaken scripts log (record { rows = p.rows; script = n; item = m; known = known })) (sym first)
+    subst (λ m. HasTakenIn scripts log (record { rows = p.rows; script = n; item = m; known = known })) (sym first)
     (begun scripts log p n known taken (subst (λ m. IsPlaced scripts n m p.rows) first placed) known_none)
 
 -- rows that come behind change nothing
@@ -94,19 +94,19 @@ said_longer scripts log more p few =
     ∙ equations-longer p.script steps (results_of log) (results_of more)
     (omega (arith, few, length-take p.rows (steps_of scripts), length-map log (λ (r : LogRow). r.result)))
 
-pub taken_longer : (scripts : List Lines) (log more : List LogRow) (p : Progress) → HasTaken scripts log p → HasTaken scripts (log ++ more) p
+pub taken_longer : (scripts : List Lines) (log more : List LogRow) (p : Progress) → HasTakenIn scripts log p → HasTakenIn scripts (log ++ more) p
 taken_longer scripts log more p taken = record {
   rows = omega (arith, taken.rows, length-append log more);
   settled =
       All-same (λ (r : LogRow). is_pending r.result ≡ false) (take p.rows (log ++ more)) (take p.rows log) (take-append-le p.rows log more taken.rows) taken.settled;
   placed = taken.placed;
   known =
-      subst (λ es. IsKnown (script_at scripts p.script).vars es p.known) (sym (said_longer scripts log more p taken.rows)) taken.known;
+      subst (λ es. AreKnown (script_at scripts p.script).vars es p.known) (sym (said_longer scripts log more p taken.rows)) taken.known;
 }
 
 -- a row that is pending has not been taken in
 pub taken_shorter : (scripts : List Lines) (log : List LogRow) (row : LogRow) (p : Progress) → row.result ≡ Pending →
-    HasTaken scripts (log ++ row ∷ []) p → HasTaken scripts log p
+    HasTakenIn scripts (log ++ row ∷ []) p → HasTakenIn scripts log p
 taken_shorter scripts log row p pending taken =
     let all = log ++ row ∷ [] in
     let few : p.rows ≤ length log =
@@ -126,7 +126,7 @@ taken_shorter scripts log row p pending taken =
           All-same (λ (r : LogRow). is_pending r.result ≡ false) (take p.rows log) (take p.rows all)
           (sym (take-append-le p.rows log (row ∷ []) few)) taken.settled;
       placed = taken.placed;
-      known = subst (λ es. IsKnown (script_at scripts p.script).vars es p.known) (said_longer scripts log (row ∷ []) p few) taken.known;
+      known = subst (λ es. AreKnown (script_at scripts p.script).vars es p.known) (said_longer scripts log (row ∷ []) p few) taken.known;
     }
 
 -- where no row is pending, this row isn't
@@ -140,10 +140,10 @@ unpending log k row none at =
     absurd (cc))
 
 -- the next item, filled, is what is asked next
-pub next_found : (scripts : List Lines) (log : List LogRow) (p : Progress) (i : ScriptItem) (ask : Ask) → HasTaken scripts log p → p.rows ≡ length log →
+pub next_found : (scripts : List Lines) (log : List LogRow) (p : Progress) (i : ScriptItem) (ask : Ask) → HasTakenIn scripts log p → p.rows ≡ length log →
     IsItemAt scripts p.script p.item i →
-    ((vars : ℕ) (es : List Equation) → IsKnown vars es p.known → (values : List (Option Tree)) × AreValues vars es values) →
-    ((vars : ℕ) (es : List Equation) (values : List (Option Tree)) → IsKnown vars es p.known → AreValues vars es values → IsFilled values i.ask ask) →
+    ((vars : ℕ) (es : List Equation) → AreKnown vars es p.known → (values : List (Option Tree)) × AreValues vars es values) →
+    ((vars : ℕ) (es : List Equation) (values : List (Option Tree)) → AreKnown vars es p.known → AreValues vars es values → IsFilled values i.ask ask) →
     IsNextAsk scripts log (record { centre = i.centre; ask = ask })
 next_found scripts log p i ask taken whole at valued filled =
     let vars = (script_at scripts p.script).vars in

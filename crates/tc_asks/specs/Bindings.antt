@@ -7,9 +7,9 @@ use Rattle.tc_term.specs.Variables.{instances, var_bound}
 use Rattle.tc_desk.specs.Asks.{value_or_variable}
 
 -- the equations of so many variables, or that nothing solves them
-abbrev pub IsKnown : ℕ → List Equation → Option Equations → Type 0
-IsKnown vars es (Some known) = known ≡ record { vars = vars; pairs = es }
-IsKnown vars es None = Solvable vars es → ⊥
+abbrev pub AreKnown : ℕ → List Equation → Option Equations → Type 0
+AreKnown vars es (Some known) = known ≡ record { vars = vars; pairs = es }
+AreKnown vars es None = Solvable vars es → ⊥
 
 -- the equations are solvable, and say of each template that it is equal to a tuple
 pub record IsSolved (known : Equations) : Type 0 where

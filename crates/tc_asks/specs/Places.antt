@@ -17,8 +17,8 @@ pub record IsPlaced (scripts : List Lines) (script item count : ℕ) : Type 0 wh
   pub inside : item ≤ length (script_at scripts script).items
 
 -- no item of the script stands at this place or behind it
-abbrev pub IsEnd : List Lines → ℕ → ℕ → Type 0
-IsEnd scripts script item = length (script_at scripts script).items ≤ item
+abbrev pub IsBehindItems : List Lines → ℕ → ℕ → Type 0
+IsBehindItems scripts script item = length (script_at scripts script).items ≤ item
 
 -- the item stands at this place, and its variables are the script's
 pub record IsItemAt (scripts : List Lines) (script item : ℕ) (i : ScriptItem) : Type 0 where

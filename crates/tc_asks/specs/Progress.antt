@@ -5,7 +5,7 @@ use Rattle.tc_model.specs.Scripts.{Lines}
 use Rattle.tc_desk.specs.Asks.{steps_of, equations}
 use Rattle.tc_desk.specs.Logs.{is_pending, results_of}
 use Rattle.tc_desk.specs.declared.rows.LogRow.{LogRow}
-use Rattle.tc_asks.specs.Bindings.{IsKnown}
+use Rattle.tc_asks.specs.Bindings.{AreKnown}
 use Rattle.tc_asks.specs.Places.{IsPlaced, script_at}
 
 -- what an asker keeps: how many rows of the log it has taken in, which script the next item stands in,
@@ -18,10 +18,10 @@ pub record Progress : Type 0 where
 
 -- the asker has taken in the first rows of the log, none of them pending, and knows what they say of the
 -- script in which the next item stands
-pub record HasTaken (scripts : List Lines) (log : List LogRow) (p : Progress) : Type 0 where
+pub record HasTakenIn (scripts : List Lines) (log : List LogRow) (p : Progress) : Type 0 where
   pub rows : p.rows ≤ length log
   pub settled : All (λ row. is_pending row.result ≡ false) (take p.rows log)
   pub placed : IsPlaced scripts p.script p.item p.rows
   pub known :
-      IsKnown (script_at scripts p.script).vars
+      AreKnown (script_at scripts p.script).vars
       (equations p.script (take p.rows (steps_of scripts)) (results_of log)) p.known

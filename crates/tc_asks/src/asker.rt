@@ -50,11 +50,11 @@ impl Asker {
     ghost use Rattle.tc_asks.specs.Nexts.{IsNextAsk};
     ghost use Rattle.tc_asks.specs.Bindings.{HasBounds};
     ghost use Rattle.tc_asks.specs.Places.{IsItemAt, IsPlaced};
-    ghost use Rattle.tc_asks.specs.Progress.{HasTaken};
+    ghost use Rattle.tc_asks.specs.Progress.{HasTakenIn};
 
     /// An asker that has taken in no row, of whatever log.
     pub fn new(alloc: Global, scripts: &[Script]) -> Result<Asker, NoMemory>
-        ensures { IfOk result (λ asker. (log : List LogRow) → HasTaken scripts.now log asker) }
+        ensures { IfOk result (λ asker. (log : List LogRow) → HasTakenIn scripts.now log asker) }
     {
         let place = Place { script: 0, item: 0 };
         Ok(Asker {
@@ -76,12 +76,12 @@ impl Asker {
         scripts: &[Script],
         log: &[LogRow],
     ) -> Result<Option<Next>, NoMemory>
-        requires taken { HasTaken scripts.now log.now self.old }
+        requires taken { HasTakenIn scripts.now log.now self.old }
         requires settled { any_pending log.now ≡ false }
         ensures some { IfOk result (λ next. IfSome next (IsNextAsk scripts.now log.now)) }
         ensures none { IfOk result
             (λ next. IfNone next (length (steps_of scripts.now) ≤ length log.now)) }
-        ensures taken { HasTaken scripts.now log.now self.new }
+        ensures taken { HasTakenIn scripts.now log.now self.new }
     {
         while self.rows < log.len() {
             let Some(item) = self.reach(alloc, scripts)? else {
@@ -111,8 +111,8 @@ impl Asker {
         ensures room { IfOk result (λ item. IfSome item (λ _. self.new.item + 1 < 2 ^ 64)) }
         ensures none { IfOk result (λ item. IfNone item
             (length (steps_of scripts.now) ≡ self.new.rows)) }
-        ensures taken { (log : List LogRow) → HasTaken scripts.now log self.old
-            → HasTaken scripts.now log self.new }
+        ensures taken { (log : List LogRow) → HasTakenIn scripts.now log self.old
+            → HasTakenIn scripts.now log self.new }
         ensures rows { self.new.rows ≡ self.old.rows }
     {
         let place = next_place(scripts, self.place);
@@ -129,8 +129,8 @@ impl Asker {
         requires same { place.script ≡ self.old.script → place.item ≡ self.old.item }
         requires first { place.script ≢ self.old.script → place.item ≡ 0 }
         ensures place { OnOk result ((self.new.script ≡ place.script) × (self.new.item ≡ place.item)) }
-        ensures taken { (log : List LogRow) → HasTaken scripts.now log self.old
-            → HasTaken scripts.now log self.new }
+        ensures taken { (log : List LogRow) → HasTakenIn scripts.now log self.old
+            → HasTakenIn scripts.now log self.new }
         ensures rows { self.new.rows ≡ self.old.rows }
     {
         if place.script == self.place.script {
@@ -150,7 +150,7 @@ impl Asker {
             → IsItemAt scripts self.old.script self.old.item item.now
             → slice_get log self.old.rows ≡ Some row.now
             → is_pending row.now.result ≡ false
-            → HasTaken scripts log self.old → HasTaken scripts log self.new) }
+            → HasTakenIn scripts log self.old → HasTakenIn scripts log self.new) }
         ensures rows { OnOk result (self.new.rows ≡ self.old.rows + 1) }
         ensures same { OnErr result (self.new ≡ self.old) }
     {

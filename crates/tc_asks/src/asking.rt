@@ -4,7 +4,7 @@ ghost use Rattle.tc_term.specs.Equations.{Equation};
 ghost use Rattle.tc_term.specs.Tree.{Tree};
 ghost use Rattle.tc_model.specs.Asks.{operand_of};
 ghost use Rattle.tc_desk.specs.Asks.{AreValues, IsFilled};
-ghost use Rattle.tc_asks.specs.Bindings.{HasBounds, IsKnown};
+ghost use Rattle.tc_asks.specs.Bindings.{HasBounds, AreKnown};
 
 use crate::bindings::Bindings;
 use std::alloc::Global;
@@ -15,7 +15,7 @@ use tc_model::Ask;
 pub(crate) fn filled_ask(alloc: Global, bindings: &Bindings, ask: &Ask) -> Result<Ask, NoMemory>
     requires { IfSome (operand_of ask.now) (HasBounds bindings.now) }
     ensures { IfOk result (λ filled. (vars : ℕ) (es : List Equation) (values : List (Option Tree))
-        → IsKnown vars es bindings.now → AreValues vars es values → IsFilled values ask.now filled) }
+        → AreKnown vars es bindings.now → AreValues vars es values → IsFilled values ask.now filled) }
 {
     match ask {
         Ask::Out(t) => Ok(Ask::Out(bindings.fill(alloc, t)?)),

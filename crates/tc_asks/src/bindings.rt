@@ -36,11 +36,11 @@ impl Bindings {
     ghost use Rattle.tc_term.specs.Equations.{Equation};
     ghost use Rattle.tc_term.specs.Tree.{Tree};
     ghost use Rattle.tc_term.specs.TreeView.{tree_of};
-    ghost use Rattle.tc_asks.specs.Bindings.{HasBounds, IsKnown};
+    ghost use Rattle.tc_asks.specs.Bindings.{HasBounds, AreKnown};
 
     /// Nothing is said of so many variables.
     pub(crate) fn new(alloc: Global, vars: u32) -> Result<Bindings, NoMemory>
-        ensures { IfOk result (IsKnown vars []) }
+        ensures { IfOk result (AreKnown vars []) }
     {
         Ok(Bindings {
             store: Store::new(alloc, vars)?,
@@ -51,8 +51,8 @@ impl Bindings {
     /// The tuple came for the template.
     pub(crate) fn tell(&mut self, template: &Term, tuple: &Ground) -> Result<(), NoMemory>
         requires { HasBounds self.old (tree_of template.now) }
-        ensures told { OnOk result ((vars : ℕ) (es : List Equation) → IsKnown vars es self.old
-            → IsKnown vars (es ++ (tree_of template.now, tuple.now) ∷ []) self.new) }
+        ensures told { OnOk result ((vars : ℕ) (es : List Equation) → AreKnown vars es self.old
+            → AreKnown vars (es ++ (tree_of template.now, tuple.now) ∷ []) self.new) }
         ensures same { OnErr result (self.new ≡ self.old) }
     {
         if self.solvable {
@@ -65,7 +65,7 @@ impl Bindings {
     pub(crate) fn fill(&self, alloc: Global, t: &Term) -> Result<Term, NoMemory>
         requires { HasBounds self.now (tree_of t.now) }
         ensures { IfOk result (λ u. (vars : ℕ) (es : List Equation) (values : List (Option Tree))
-            → IsKnown vars es self.now → AreValues vars es values
+            → AreKnown vars es self.now → AreValues vars es values
             → tree_of u ≡ with_values values (tree_of t.now)) }
     {
         if !self.solvable {
@@ -78,7 +78,7 @@ impl Bindings {
 
     /// Tells contracts that each variable has a value or has none, and does nothing.
     pub(crate) fn has_values(&self)
-        ensures { (vars : ℕ) (es : List Equation) → IsKnown vars es self.now
+        ensures { (vars : ℕ) (es : List Equation) → AreKnown vars es self.now
             → (values : List (Option Tree)) × AreValues vars es values }
     {
         let _store = &self.store;

@@ -1,6 +1,6 @@
 //! Where an item stands among scripts.
 ghost use Rattle.std.specs.Prelude.{◌≡◌, ◌≢◌, ◌+◌, ◌^◌, ◌<◌, ◌≤◌, ℕ, length, IfNone, IfSome};
-ghost use Rattle.tc_asks.specs.Places.{IsEnd, IsItemAt, IsPlaced, script_at};
+ghost use Rattle.tc_asks.specs.Places.{IsBehindItems, IsItemAt, IsPlaced, script_at};
 
 use tc_model::{Script, ScriptItem};
 
@@ -18,7 +18,7 @@ pub(crate) fn next_place(scripts: &[Script], place: Place) -> Place
         → IsPlaced scripts.now result.script result.item rows }
     ensures same { result.script ≡ place.script → result.item ≡ place.item }
     ensures first { result.script ≢ place.script → result.item ≡ 0 }
-    ensures last { IsEnd scripts.now result.script result.item
+    ensures last { IsBehindItems scripts.now result.script result.item
         → length scripts.now ≤ result.script }
 {
     let mut at = place;
@@ -45,7 +45,7 @@ pub(crate) fn vars_at(scripts: &[Script], script: usize) -> u32
 pub(crate) fn item_at(scripts: &[Script], place: Place) -> Option<&ScriptItem>
     ensures found { IfSome result (λ item. IsItemAt scripts.now place.script place.item item.now) }
     ensures room { IfSome result (λ _. place.item + 1 < 2 ^ 64) }
-    ensures none { IfNone result (IsEnd scripts.now place.script place.item) }
+    ensures none { IfNone result (IsBehindItems scripts.now place.script place.item) }
 {
     let script = scripts.get(place.script)?;
     let items = script.items();

@@ -7,7 +7,7 @@ ghost use Rattle.tc_model.specs.declared.asks.Ask.{Ask};
 ghost use Rattle.tc_model.specs.declared.outcomes.Reply.{Reply};
 ghost use Rattle.tc_model.specs.declared.outcomes.Reply.TheVariants.{Tuple};
 ghost use Rattle.tc_desk.specs.Asks.{equation, told, told_of};
-ghost use Rattle.tc_asks.specs.Bindings.{HasBounds, IsKnown};
+ghost use Rattle.tc_asks.specs.Bindings.{HasBounds, AreKnown};
 
 use crate::bindings::Bindings;
 use tc_desk::LogResult;
@@ -18,8 +18,8 @@ use tc_term::{Ground, Term};
 /// The ask has come to this. Where a tuple came for its template, the bindings are told so.
 pub(crate) fn tell(bindings: &mut Bindings, ask: &Ask, came: &LogResult) -> Result<(), NoMemory>
     requires { IfSome (operand_of ask.now) (HasBounds bindings.old) }
-    ensures told { OnOk result ((vars : ℕ) (es : List Equation) → IsKnown vars es bindings.old
-        → IsKnown vars (es ++ equation ask.now came.now) bindings.new) }
+    ensures told { OnOk result ((vars : ℕ) (es : List Equation) → AreKnown vars es bindings.old
+        → AreKnown vars (es ++ equation ask.now came.now) bindings.new) }
     ensures same { OnErr result (bindings.new ≡ bindings.old) }
 {
     let Some(template) = template_in(ask) else {

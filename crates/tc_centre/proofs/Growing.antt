@@ -12,7 +12,7 @@ use Rattle.tc_model.specs.declared.calls.CallId.{CallId}
 use Rattle.tc_model.specs.declared.calls.Op.{Op}
 use Rattle.tc_model.specs.declared.entries.Entry.{Entry}
 use Rattle.tc_model.specs.declared.entries.Entry.TheVariants.{Called}
-use Rattle.tc_centre.specs.Held.{Answers, Calls, Grows, IsLonger, Keeps}
+use Rattle.tc_centre.specs.Held.{Answers, Calls, Grows, HasMoreEntries, KeepsHeld}
 use Rattle.tc_centre.specs.Places.{IsCallAt}
 use Rattle.tc_centre.specs.Turns.{IsGave}
 use Rattle.tc_centre.specs.declared.holdings.Holdings.{Holdings}
@@ -25,13 +25,13 @@ answers-more a b c first then = record {
   history = then.history ∙ ap (λ es. es ++ then.gaves) first.history ∙ append_assoc a first.gaves then.gaves;
 }
 
-pub longer-more : (a b c : List Entry) → IsLonger a b → IsLonger b c → IsLonger a c
+pub longer-more : (a b c : List Entry) → HasMoreEntries a b → HasMoreEntries b c → HasMoreEntries a c
 longer-more a b c first then = record {
   more = first.more ++ then.more;
   history = then.history ∙ ap (λ es. es ++ then.more) first.history ∙ append_assoc a first.more then.more;
 }
 
-pub keeps-more : (a b c : Holdings) → Keeps a b → Keeps b c → Keeps a c
+pub keeps-more : (a b c : Holdings) → KeepsHeld a b → KeepsHeld b c → KeepsHeld a c
 keeps-more a b c first then = record {
   founding = then.founding ∙ first.founding;
   bag = then.bag ∙ first.bag;

@@ -15,7 +15,7 @@ use Rattle.tc_model.specs.declared.entries.Entry.{Entry}
 use Rattle.tc_model.specs.declared.entries.Entry.TheVariants.{Called, Looked}
 use Rattle.tc_model.specs.declared.limits.TheConstants.{MOST_WEIGHT}
 use Rattle.tc_centre.specs.Centre.{Centre}
-use Rattle.tc_centre.specs.Held.{origin_of, IsSettled, IsAtRest, IsSame, Keeps, Grows}
+use Rattle.tc_centre.specs.Held.{origin_of, IsSettled, IsAtRest, IsSame, KeepsHeld, Grows}
 use Rattle.tc_centre.specs.Places.{place_in, ArePlaces}
 use Rattle.tc_centre.specs.Turns.{IsAnswer, Serves, IsPoll, Tells}
 use Rattle.tc_centre.specs.declared.answers.Answer.{Answer}
@@ -98,7 +98,7 @@ module _ (f : Founding) (old new : List Entry) (clauses : List Rule) (rows : Lis
 module _ (old new : Holdings) where
   -- a turn has been served
   pub serves-held : (centre : Centre) (id : CallId) (op : Op) (answer : Answer)
-      → centre_with old.founding old.history.items ≡ centre → Keeps old new
+      → centre_with old.founding old.history.items ≡ centre → KeepsHeld old new
       → Grows id op old.history.items new.history.items → IsAtRest new → IsAnswer (reply_in new.history.items id) answer
       → Serves centre (centre_with new.founding new.history.items) id op answer
   serves-held centre id op answer view keeps grown rest told =

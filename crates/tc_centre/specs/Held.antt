@@ -87,16 +87,16 @@ abbrev pub state_held : Holdings → State
 state_held h = held h.spec h.bag.now h.pending.now
 
 -- entries were appended
-pub record IsLonger (old new : List Entry) : Type 0 where
+pub record HasMoreEntries (old new : List Entry) : Type 0 where
   pub more : List Entry
   pub history : new ≡ old ++ more
 
 -- what no step of a turn changes: what the centre began with, the marks, and the entries so far
-pub record Keeps (old new : Holdings) : Type 0 where
+pub record KeepsHeld (old new : Holdings) : Type 0 where
   pub founding : new.founding ≡ old.founding
   pub bag : new.bag.saved ≡ old.bag.saved
   pub pending : new.pending.saved ≡ old.pending.saved
-  pub longer : IsLonger old.history.items new.history.items
+  pub longer : HasMoreEntries old.history.items new.history.items
 
 -- what no phase changes: what the centre began with, its clauses, the marks, and the history
 pub record KeepsAround (old new : Holdings) : Type 0 where

@@ -16,7 +16,7 @@ use Rattle.tc_model.specs.declared.items.Item.{Item}
 use Rattle.tc_model.specs.declared.outcomes.Outcome.{Outcome}
 use Rattle.tc_model.specs.declared.outcomes.Outcome.TheVariants.{Took, NoTuple}
 use Rattle.tc_centre.specs.Held.{origin_of, held, state_held, Grows, IsAtRest}
-use Rattle.tc_centre.specs.Held.{Keeps, KeepsRows, KeepsOld, KeepsTyped}
+use Rattle.tc_centre.specs.Held.{KeepsHeld, KeepsRows, KeepsOld, KeepsTyped}
 use Rattle.tc_centre.specs.Turns.{IsAnswer}
 use Rattle.tc_centre.specs.declared.answers.Answer.{Answer}
 use Rattle.tc_centre.specs.declared.founding.Founding.{Founding}
@@ -80,5 +80,5 @@ pub record HasServed (id : CallId) (op : Op) (old new : Holdings) (told : Answer
   pub rest : IsAtRest new
   pub grown : Grows id op old.history.items new.history.items
   pub answer : IsAnswer (reply_in new.history.items id) told
-  pub kept : Keeps old new
+  pub kept : KeepsHeld old new
   pub typed : KeepsTyped old new

@@ -55,10 +55,10 @@ pub record Serves (old new : Centre) (id : CallId) (op : Op) (told : Answer) : T
   pub answer : IsAnswer (reply_in new.history id) told
 
 -- why a turn is refused: the centre is full, with this weight and so many requests that wait
-abbrev pub IsRefused : Centre → TurnFault → Type 0
-IsRefused centre (turn.Full weight pending) =
+abbrev pub IsFullFault : Centre → TurnFault → Type 0
+IsFullFault centre (turn.Full weight pending) =
     IsFullCentre centre × (weight ≡ weight_in centre) × (pending ≡ waiting_in centre)
-IsRefused centre turn.NoMemory = Unit {0}
+IsFullFault centre turn.NoMemory = Unit {0}
 
 -- the agent is told the reply, twice; that the call is pending where there is none yet
 abbrev pub IsPoll : Option Reply → Poll → Type 0

@@ -62,7 +62,7 @@ impl Core {
     ghost use Rattle.tc_centre.specs.Centre.{centre_from, state_of, weight_in, waiting_in, IsFullCentre};
     ghost use Rattle.tc_model.specs.Typed.{IsTyped};
     ghost use Rattle.tc_centre.specs.Numbers.{IsLast, IsAbove, IsNextCall};
-    ghost use Rattle.tc_centre.specs.Turns.{Serves, IsRefused, Tells, IsPollRefused};
+    ghost use Rattle.tc_centre.specs.Turns.{Serves, IsFullFault, Tells, IsPollRefused};
 
     /// A centre of these clauses and these tuples, oldest first, with an empty history.
     ///
@@ -114,7 +114,7 @@ impl Core {
     pub fn turn(&mut self, alloc: Global, id: CallId, op: Op) -> Result<Answer, TurnFault>
         requires { IsNext self.old.origin self.old.history id }
         ensures served { IfOk result (Serves self.old self.new id op) }
-        ensures refused { IfErr result (IsRefused self.old) }
+        ensures refused { IfErr result (IsFullFault self.old) }
         ensures full { IsFullCentre self.old
             → result ≡ Err (TurnFault.Full (weight_in self.old) (waiting_in self.old)) }
         ensures same { OnErr result (self.new ≡ self.old) }

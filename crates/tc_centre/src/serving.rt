@@ -7,7 +7,7 @@ ghost use Rattle.tc_model.specs.Run.{IsNext};
 ghost use Rattle.tc_model.specs.Typed.{IsTypedId};
 ghost use Rattle.tc_model.specs.declared.calls.Op.{Op};
 ghost use Rattle.tc_centre.specs.Held.{origin_of, HoldsRun, IsAtRest, HasRoom, Knows, known_of};
-ghost use Rattle.tc_centre.specs.Held.{IsSame, Keeps, KeepsAround, KeepsRows, KeepsTyped};
+ghost use Rattle.tc_centre.specs.Held.{IsSame, KeepsHeld, KeepsAround, KeepsRows, KeepsTyped};
 ghost use Rattle.tc_centre.specs.Held.{Answers, Calls, Grows};
 ghost use Rattle.tc_centre.specs.Operations.{Performs, HasServed};
 ghost use Rattle.tc_centre.specs.Turns.{IsOnTuples, IsAnswer};
@@ -83,7 +83,7 @@ fn serve(alloc: Global, held: &mut Holdings, id: CallId, op: Op) -> Result<Answe
     ensures rest { OnOk result (IsAtRest held.new) }
     ensures grown { OnOk result (Grows id op held.old.history.items held.new.history.items) }
     ensures answer { IfOk result (IsAnswer (reply_in held.new.history.items id)) }
-    ensures keeps { Keeps held.old held.new }
+    ensures keeps { KeepsHeld held.old held.new }
     ensures spec { held.new.spec ≡ held.old.spec }
     ensures typed { OnOk result (KeepsTyped held.old held.new) }
 {
@@ -109,7 +109,7 @@ fn call(alloc: Global, held: &mut Holdings, id: CallId, op: Op) -> Result<(), No
     ensures run { OnOk result (HoldsRun held.new) }
     ensures known { OnOk result (Knows (known_of held.old) held.new) }
     ensures called { OnOk result (Calls id op held.old.history.items held.new.history.items) }
-    ensures keeps { Keeps held.old held.new }
+    ensures keeps { KeepsHeld held.old held.new }
     ensures spec { held.new.spec ≡ held.old.spec }
     ensures typed { OnOk result (KeepsTyped held.old held.new) }
 {
@@ -156,7 +156,7 @@ fn answer_all(alloc: Global, held: &mut Holdings, known: Known) -> Result<(), No
     requires known { Knows known held.old }
     ensures rest { OnOk result (IsAtRest held.new) }
     ensures answers { OnOk result (Answers held.old.history.items held.new.history.items) }
-    ensures keeps { Keeps held.old held.new }
+    ensures keeps { KeepsHeld held.old held.new }
     ensures spec { held.new.spec ≡ held.old.spec }
     ensures typed { OnOk result (KeepsTyped held.old held.new) }
 {
@@ -177,7 +177,7 @@ fn answer(alloc: Global, held: &mut Holdings, place: usize, age: u64) -> Result<
     ensures requests { OnOk result (held.new.pending.now ≡ remove held.old.pending.now place) }
     ensures rows { OnOk result (KeepsRows held.old.bag held.new.bag) }
     ensures fewer { OnOk result (length held.new.pending.now < length held.old.pending.now) }
-    ensures keeps { Keeps held.old held.new }
+    ensures keeps { KeepsHeld held.old held.new }
     ensures spec { held.new.spec ≡ held.old.spec }
     ensures typed { OnOk result (KeepsTyped held.old held.new) }
 {

@@ -11,12 +11,12 @@ use Rattle.tc_model.specs.declared.asks.Ask.{Ask}
 use Rattle.tc_model.specs.declared.scripts.ScriptItem.{ScriptItem}
 use Rattle.tc_policy.specs.Places.{grant}
 use Rattle.tc_spec.proofs.Decoding.{one_rule}
-use Rattle.tc_spec.specs.Texts.{Reads}
+use Rattle.tc_spec.specs.Texts.{AnswersAt}
 use Rattle.tc_spec.proofs.OneText.{one_answer, found_ends, same_place, same_term}
 use Rattle.tc_config.specs.Answers.{IsConfigFault, IsThisFault, IsWant}
 use Rattle.tc_config.specs.Causes.{HasCause, IsFirstCause, rank}
 use Rattle.tc_config.specs.Configurations.{Configuration, agent_names, centre_names, nothing}
-use Rattle.tc_config.specs.Meanings.{AreItems, Makes, Means, agent, changed, with_clause, with_script, with_tuple}
+use Rattle.tc_config.specs.Meanings.{AreItems, ClauseMakes, Means, agent, changed, with_clause, with_script, with_tuple}
 use Rattle.tc_config.specs.Names.{place_of}
 use Rattle.tc_config.specs.Texts.{AreSpelt, HasFault, IsFaultyAt, IsRefused, IsUnread, Spells}
 use Rattle.tc_config.specs.declared.faults.ConfigCause.{ConfigCause}
@@ -39,7 +39,7 @@ cause_told _ = cause.Size
 
 record IsToldOf (text : List ℕ) (from : ℕ) (why : ConfigCause) : Type 0 where
   told : Answer
-  reads : Reads text from told
+  reads : AnswersAt text from told
   is : cause_told told ≡ why
 
 unread_as : (text : List ℕ) (from : ℕ) (why : ConfigCause) → IsUnread text from why → IsToldOf text from why
@@ -65,7 +65,7 @@ same_unread text from a b h k =
 
 -- where a clause or the end is read, nothing is unread
 read_well : (text : List ℕ) (from : ℕ) (told : Answer) (why : ConfigCause) → cause_told told ≡ cause.Length
-    → Reads text from told → IsUnread text from why → ⊥
+    → AnswersAt text from told → IsUnread text from why → ⊥
 read_well text from told why fine reads h =
     let x = unread_as text from why h in
     let length : why ≡ cause.Length = sym x.is ∙ ap cause_told (one_answer text from x.told told x.reads reads) ∙ fine in
@@ -84,7 +84,7 @@ one_items names (l ∷ ls) (i ∷ is) (j ∷ js) h k =
     let ask : i.ask ≡ j.ask = h.1 ∙ sym k.1 in
     ap₂ ◌∷◌ (ap₂ item centre ask) (one_items names ls is js h.2 k.2)
 
-one_making : (c : Configuration) (vars : ℕ) (x : Form) (d e : Configuration) → Makes c vars x d → Makes c vars x e → d ≡ e
+one_making : (c : Configuration) (vars : ℕ) (x : Form) (d e : Configuration) → ClauseMakes c vars x d → ClauseMakes c vars x e → d ≡ e
 one_making c vars (Centre n b) d e h k = h ∙ sym k
 one_making c vars (Tuple n t) d e h k =
     h.2
@@ -112,7 +112,7 @@ one_making c vars (Script a lines) d e h k =
 one_meaning : (c : Configuration) (t : Tree) (d e : Configuration) → Means c t d → Means c t e → d ≡ e
 one_meaning c t d e h k =
     let same = one_form t h.form k.form h.written k.written in
-    one_making c (var_bound t) k.form d e (subst (λ x. Makes c (var_bound t) x d) same h.makes) k.makes
+    one_making c (var_bound t) k.form d e (subst (λ x. ClauseMakes c (var_bound t) x d) same h.makes) k.makes
 
 -- a clause has one first cause, and none where it means something
 no_cause : (c : Configuration) (t : Tree) (e : Configuration) (why : ConfigCause) → Means c t e → HasCause c t why → ⊥
@@ -144,8 +144,8 @@ one_cause c t a b h k =
     same_Some a b (sym (at_rank a) ∙ ap (slice_get by_rank) same ∙ at_rank b)
 
 -- what stands at a place means something, or has one fault
-one_step : (text : List ℕ) (from : ℕ) (c : Configuration) (t u : Tree) (m n : ℕ) (d e : Configuration) → Reads text from (Found t m)
-    → Means c t d → Reads text from (Found u n) → Means c u e → (t ≡ u) × (m ≡ n) × (d ≡ e)
+one_step : (text : List ℕ) (from : ℕ) (c : Configuration) (t u : Tree) (m n : ℕ) (d e : Configuration) → AnswersAt text from (Found t m)
+    → Means c t d → AnswersAt text from (Found u n) → Means c u e → (t ≡ u) × (m ≡ n) × (d ≡ e)
 one_step text from c t u m n d e found means there meant =
     let same = one_answer text from (Found t m) (Found u n) found there in
     let term = same_term t u m n same in
@@ -161,13 +161,13 @@ one_fault_at text from c a b (inr (t, m, found, h)) (inr (u, n, there, k)) =
     one_cause c u a b (subst (λ (v : Tree). IsFirstCause c v a) (same_term t u m n same) h) k
 
 no_fault_at : (text : List ℕ) (from : ℕ) (c : Configuration) (t : Tree) (n : ℕ) (e : Configuration) (why : ConfigCause)
-    → Reads text from (Found t n) → Means c t e → IsFaultyAt text from c why → ⊥
+    → AnswersAt text from (Found t n) → Means c t e → IsFaultyAt text from c why → ⊥
 no_fault_at text from c t n e why found means (inl h) = read_well text from (Found t n) why refl found h
 no_fault_at text from c t n e why found means (inr (u, m, there, h)) =
     let same = one_answer text from (Found u m) (Found t n) there found in
     no_cause c t e why means (subst (λ (v : Tree). HasCause c v why) (same_term u t m n same) h.has)
 
-no_fault_end : (text : List ℕ) (from : ℕ) (c : Configuration) (why : ConfigCause) → Reads text from Nothing
+no_fault_end : (text : List ℕ) (from : ℕ) (c : Configuration) (why : ConfigCause) → AnswersAt text from Nothing
     → IsFaultyAt text from c why → ⊥
 no_fault_end text from c why ends (inl h) = read_well text from Nothing why refl ends h
 no_fault_end text from c why ends (inr (t, n, found, h)) = found_ends text from t n found ends
@@ -180,12 +180,12 @@ at_once text from n c e why place same h =
 
 -- two lists of clauses up to the end set up the same
 one_end : (text : List ℕ) (from : ℕ) (c : Configuration) (ts us : List Tree) (m n : ℕ) (d e : Configuration)
-    → AreSpelt text from c ts m d → Reads text m Nothing → AreSpelt text from c us n e → Reads text n Nothing → d ≡ e
+    → AreSpelt text from c ts m d → AnswersAt text m Nothing → AreSpelt text from c us n e → AnswersAt text n Nothing → d ≡ e
 one_end text from c [] [] m n d e x ends y stops = x.1 ∙ sym y.1
 one_end text from c [] (u ∷ us) m n d e x ends y stops =
-    absurd (found_ends text from u y.0 y.2 (subst (λ k. Reads text k Nothing) x.0 ends))
+    absurd (found_ends text from u y.0 y.2 (subst (λ k. AnswersAt text k Nothing) x.0 ends))
 one_end text from c (t ∷ ts) [] m n d e x ends y stops =
-    absurd (found_ends text from t x.0 x.2 (subst (λ k. Reads text k Nothing) y.0 stops))
+    absurd (found_ends text from t x.0 x.2 (subst (λ k. AnswersAt text k Nothing) y.0 stops))
 one_end text from c (t ∷ ts) (u ∷ us) m n d e x ends y stops =
     let same = one_step text from c u t y.0 x.0 y.1 x.1 y.2 y.3 x.2 x.3 in
     one_end text x.0 x.1 ts us m n d e x.4 ends
@@ -194,12 +194,12 @@ one_end text from c (t ∷ ts) (u ∷ us) m n d e x ends y stops =
 
 -- a text that is clauses has no faulty one
 no_fault : (text : List ℕ) (from : ℕ) (c : Configuration) (ts us : List Tree) (m n : ℕ) (d e : Configuration) (why : ConfigCause)
-    → AreSpelt text from c ts m d → Reads text m Nothing → AreSpelt text from c us n e → IsFaultyAt text n e why → ⊥
+    → AreSpelt text from c ts m d → AnswersAt text m Nothing → AreSpelt text from c us n e → IsFaultyAt text n e why → ⊥
 no_fault text from c [] [] m n d e why x ends y h =
-    no_fault_end text from c why (subst (λ k. Reads text k Nothing) x.0 ends)
+    no_fault_end text from c why (subst (λ k. AnswersAt text k Nothing) x.0 ends)
     (at_once text from n c e why y.0 y.1 h)
 no_fault text from c [] (u ∷ us) m n d e why x ends y h =
-    found_ends text from u y.0 y.2 (subst (λ k. Reads text k Nothing) x.0 ends)
+    found_ends text from u y.0 y.2 (subst (λ k. AnswersAt text k Nothing) x.0 ends)
 no_fault text from c (t ∷ ts) [] m n d e why x ends y h =
     no_fault_at text from c t x.0 x.1 why x.2 x.3 (at_once text from n c e why y.0 y.1 h)
 no_fault text from c (t ∷ ts) (u ∷ us) m n d e why x ends y h =

@@ -7,12 +7,12 @@ use Rattle.tc_term.specs.Tree.{Tree}
 use Rattle.tc_term.specs.TreeView.{tree_of}
 use Rattle.tc_model.specs.declared.limits.TheConstants.{MOST_TUPLES}
 use Rattle.tc_policy.specs.Places.{grant}
-use Rattle.tc_spec.specs.Texts.{Reads}
+use Rattle.tc_spec.specs.Texts.{AnswersAt}
 use Rattle.tc_config.specs.Answers.{IsConfigFault, IsFaultAt}
 use Rattle.tc_config.specs.Causes.{IsFaulty, IsFirstCause}
 use Rattle.tc_config.specs.Configurations.{Configuration, nothing}
 use Rattle.tc_config.specs.Drafts.{HasRoom, IsOfClauses}
-use Rattle.tc_config.specs.Meanings.{Makes, Means, agent, centre, changed, with_clause, with_script, with_tuple}
+use Rattle.tc_config.specs.Meanings.{ClauseMakes, Means, agent, centre, changed, with_clause, with_script, with_tuple}
 use Rattle.tc_config.specs.Texts.{AreSpelt, HasFault, IsFaultyAt, IsRefused, IsUnread, Spells}
 use Rattle.tc_config.specs.declared.configs.CentreConf.{CentreConf}
 use Rattle.tc_config.specs.declared.faults.ConfigCause.{ConfigCause}
@@ -32,12 +32,12 @@ handed_on {X} (Err y) P fault told is = subst P (sym told) is
 
 -- one clause more
 spelt_more : (text : List ℕ) (start from behind : ℕ) (c d e : Configuration) (ts : List Tree) (t : Tree)
-    → AreSpelt text start c ts from d → Reads text from (Found t behind) → Means d t e
+    → AreSpelt text start c ts from d → AnswersAt text from (Found t behind) → Means d t e
     → AreSpelt text start c (ts ++ t ∷ []) behind e
 spelt_more text start from behind c d e [] t spelt found means = (
   behind,
   e,
-  subst (λ k. Reads text k (Found t behind)) spelt.0 found,
+  subst (λ k. AnswersAt text k (Found t behind)) spelt.0 found,
   subst (λ (x : Configuration). Means x t e) spelt.1 means,
   (refl, refl),
 )
@@ -65,7 +65,7 @@ few-changed count centres f k few adds =
     (λ s at less. omega (arith, All-slice_get (λ (x : CentreConf). length x.tuples ≤ count) centres k s few at, adds s))
 
 of-clauses-more : (count : ℕ) (c : Configuration) (vars : ℕ) (x : Form) (e : Configuration) → IsOfClauses count c
-    → Makes c vars x e → IsOfClauses (count + 1) e
+    → ClauseMakes c vars x e → IsOfClauses (count + 1) e
 of-clauses-more count c vars (Centre n b) e h makes = subst (IsOfClauses (count + 1)) (sym makes) (record {
   grants = omega (arith, h.grants);
   tuples =
@@ -119,7 +119,7 @@ read_none text = record {
 }
 
 pub read_more : (text : List ℕ) (from count behind : ℕ) (c e : Configuration) (t : Tree) → IsReadTo text from count c
-    → Reads text from (Found t behind) → Means c t e → from < behind → behind ≤ length text
+    → AnswersAt text from (Found t behind) → Means c t e → from < behind → behind ≤ length text
     → IsReadTo text behind (count + 1) e
 read_more text from count behind c e t h found means further inside = record {
   terms = h.terms ++ t ∷ [];
@@ -142,7 +142,7 @@ room_behind text from count behind c h further inside short = record {
 
 -- all clauses are read
 pub read_all : (text : List ℕ) (from count : ℕ) (c : Configuration) → IsReadTo text from count c → length text ≤ MOST_BYTES
-    → Reads text from Nothing → Spells text c
+    → AnswersAt text from Nothing → Spells text c
 read_all text from count c h short nothing =
     record { short = short; terms = h.terms; end = from; spelt = h.spelt; nothing = nothing }
 

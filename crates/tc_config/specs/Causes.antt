@@ -9,7 +9,7 @@ use Rattle.tc_policy.specs.Places.{grant}
 use Rattle.tc_spec.specs.Written.{IsWrittenAs}
 use Rattle.tc_config.specs.Configurations.{Configuration, agent_names, centre_names, items_in}
 use Rattle.tc_config.specs.Forms.{IsFormOf}
-use Rattle.tc_config.specs.Names.{IsKnown, IsUnknown, place_of}
+use Rattle.tc_config.specs.Names.{IsDeclared, IsUnknown, place_of}
 use Rattle.tc_config.specs.declared.configs.CentreConf.{CentreConf}
 use Rattle.tc_config.specs.declared.faults.ConfigCause.{ConfigCause}
 use Rattle.tc_config.specs.declared.faults.ConfigCause.TheVariants as cause
@@ -40,20 +40,20 @@ IsNoReaction t = (r : Rule) → IsWrittenAs t r → ⊥
 
 -- the table of causes: what is wrong with a clause of each form
 abbrev pub IsFaulty : Configuration → Form → ConfigCause → Type 0
-IsFaulty c (Centre n b) cause.Twice = IsKnown (centre_names c) n
+IsFaulty c (Centre n b) cause.Twice = IsDeclared (centre_names c) n
 IsFaulty c (Centre n b) cause.Count = MOST_CENTRES ≤ length c.centres
 IsFaulty c (Tuple n t) cause.UnknownCentre = IsUnknown (centre_names c) n
 IsFaulty c (Tuple n t) cause.NotGround = is_ground (tree_of t) ≡ false
 IsFaulty c (Spec n t) cause.Reaction = IsNoReaction (tree_of t)
 IsFaulty c (Spec n t) cause.UnknownCentre = IsUnknown (centre_names c) n
 IsFaulty c (Spec n t) cause.Count = IsProgrammed c n
-IsFaulty c (Role r) cause.Twice = IsKnown c.role_names r
+IsFaulty c (Role r) cause.Twice = IsDeclared c.role_names r
 IsFaulty c (Role r) cause.Count = MOST_ROLES ≤ length c.role_names
 IsFaulty c (Grant r n p) cause.UnknownCentre = IsUnknown (centre_names c) n
 IsFaulty c (Grant r n p) cause.UnknownRole = IsUnknown c.role_names r
 IsFaulty c (Grant r n p) cause.Twice = IsGranted c r n p
 IsFaulty c (Agent a r) cause.UnknownRole = IsUnknown c.role_names r
-IsFaulty c (Agent a r) cause.Twice = IsKnown (agent_names c) a
+IsFaulty c (Agent a r) cause.Twice = IsDeclared (agent_names c) a
 IsFaulty c (Agent a r) cause.Count = MOST_AGENTS ≤ length c.agents
 IsFaulty c (Script a lines) cause.UnknownCentre =
     Any (λ (l : Line). IsUnknown (centre_names c) l.centre) lines

@@ -5,7 +5,7 @@ use Rattle.tc_policy.specs.declared.grants.TheConstants.{MOST_GRANTS}
 use Rattle.tc_config.specs.Configurations.{Configuration, IsConfig, agent_names}
 use Rattle.tc_config.specs.Configurations.{centre_names, configuration, items_in}
 use Rattle.tc_config.specs.Causes.{IsFaultless}
-use Rattle.tc_config.specs.Meanings.{Makes}
+use Rattle.tc_config.specs.Meanings.{ClauseMakes}
 use Rattle.tc_config.specs.declared.configs.CentreConf.{CentreConf}
 use Rattle.tc_config.specs.declared.forms.Form.{Form}
 use Rattle.tc_config.specs.declared.draft.Draft.{Draft}
@@ -23,9 +23,9 @@ pub record IsDraft (d : Draft) : Type 0 where
   pub items : d.items ≡ items_in (config_of d)
 
 -- a clause of this form, with so many variables, is right, and makes one draft the other
-pub record Adds (vars : ℕ) (x : Form) (d e : Draft) : Type 0 where
+pub record AddsClause (vars : ℕ) (x : Form) (d e : Draft) : Type 0 where
   pub right : IsFaultless (config_of d) x
-  pub makes : Makes (config_of d) vars x (config_of e)
+  pub makes : ClauseMakes (config_of d) vars x (config_of e)
   pub draft : IsDraft e
 
 -- so many clauses have given no more grants than they are, and no centre more tuples

@@ -52,22 +52,22 @@ AreItems names (l ∷ ls) (i ∷ is) =
     (place_of names l.centre ≡ Some i.centre) × (i.ask ≡ l.ask) × AreItems names ls is
 
 -- the table of meanings: what a clause of this form, with so many variables, makes of a configuration
-abbrev pub Makes : Configuration → ℕ → Form → Configuration → Type 0
-Makes c vars (Centre n b) e = e ≡ record c { centres = c.centres ++ centre n b ∷ [] }
-Makes c vars (Tuple n t) e =
+abbrev pub ClauseMakes : Configuration → ℕ → Form → Configuration → Type 0
+ClauseMakes c vars (Centre n b) e = e ≡ record c { centres = c.centres ++ centre n b ∷ [] }
+ClauseMakes c vars (Tuple n t) e =
     (k : ℕ) × (place_of (centre_names c) n ≡ Some k)
     × (e ≡ record c { centres = changed k (with_tuple (tree_of t)) c.centres })
-Makes c vars (Spec n t) e =
+ClauseMakes c vars (Spec n t) e =
     (k : ℕ) × (r : Rule) × (place_of (centre_names c) n ≡ Some k) × IsWrittenAs (tree_of t) r
     × (e ≡ record c { centres = changed k (with_clause r) c.centres })
-Makes c vars (Role r) e = e ≡ record c { role_names = c.role_names ++ r ∷ [] }
-Makes c vars (Grant r n p) e =
+ClauseMakes c vars (Role r) e = e ≡ record c { role_names = c.role_names ++ r ∷ [] }
+ClauseMakes c vars (Grant r n p) e =
     (i : ℕ) × (j : ℕ) × (place_of c.role_names r ≡ Some i) × (place_of (centre_names c) n ≡ Some j)
     × (e ≡ record c { roles = c.roles ++ grant i j p ∷ [] })
-Makes c vars (Agent a r) e =
+ClauseMakes c vars (Agent a r) e =
     (i : ℕ) × (place_of c.role_names r ≡ Some i)
     × (e ≡ record c { agents = c.agents ++ agent a i ∷ [] })
-Makes c vars (Script a lines) e =
+ClauseMakes c vars (Script a lines) e =
     (k : ℕ) × (items : List ScriptItem) × (place_of (agent_names c) a ≡ Some k)
     × AreItems (centre_names c) lines items
     × (e ≡ record c { agents = changed k (with_script vars items) c.agents })
@@ -77,4 +77,4 @@ pub record Means (c : Configuration) (t : Tree) (e : Configuration) : Type 0 whe
   pub form : Form
   pub written : IsFormOf form t
   pub right : IsFaultless c form
-  pub makes : Makes c (var_bound t) form e
+  pub makes : ClauseMakes c (var_bound t) form e

@@ -7,8 +7,8 @@ abbrev pub place_of : List (List ℕ) → List ℕ → Option ℕ
 place_of names name = position (bytes_eq name) names
 
 -- the name is declared, or isn't
-abbrev pub IsKnown : List (List ℕ) → List ℕ → Type 0
-IsKnown names name = IsSome (place_of names name)
+abbrev pub IsDeclared : List (List ℕ) → List ℕ → Type 0
+IsDeclared names name = IsSome (place_of names name)
 
 abbrev pub IsUnknown : List (List ℕ) → List ℕ → Type 0
 IsUnknown names name = place_of names name ≡ None

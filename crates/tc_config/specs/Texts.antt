@@ -3,7 +3,7 @@ use Rattle.std.specs.Prelude.{◌≡◌, ◌<◌, ◌≤◌, ◌+◌, ◌⊎◌,
 use Rattle.tc_term.specs.Faults.{Found, Nothing, TooBig, TooMany, WideInt}
 use Rattle.tc_term.specs.Faults as answer
 use Rattle.tc_term.specs.Tree.{Tree}
-use Rattle.tc_spec.specs.Texts.{Reads}
+use Rattle.tc_spec.specs.Texts.{AnswersAt}
 use Rattle.tc_config.specs.Causes.{IsFirstCause}
 use Rattle.tc_config.specs.Configurations.{Configuration, nothing}
 use Rattle.tc_config.specs.Meanings.{Means}
@@ -16,7 +16,7 @@ use Rattle.tc_config.specs.declared.limits.TheConstants.{MOST_BYTES}
 abbrev pub AreSpelt : List ℕ → ℕ → Configuration → List Tree → ℕ → Configuration → Type 0
 AreSpelt text from c [] end e = (end ≡ from) × (e ≡ c)
 AreSpelt text from c (t ∷ ts) end e =
-    (behind : ℕ) × (next : Configuration) × Reads text from (Found t behind) × Means c t next
+    (behind : ℕ) × (next : Configuration) × AnswersAt text from (Found t behind) × Means c t next
     × AreSpelt text behind next ts end e
 
 -- the text is clauses and nothing else, and this is what they set up
@@ -25,21 +25,21 @@ pub record Spells (text : List ℕ) (c : Configuration) : Type 0 where
   pub terms : List Tree
   pub end : ℕ
   pub spelt : AreSpelt text 0 nothing terms end c
-  pub nothing : Reads text end Nothing
+  pub nothing : AnswersAt text end Nothing
 
 -- the reader finds no clause here, for this cause
 abbrev pub IsUnread : List ℕ → ℕ → ConfigCause → Type 0
-IsUnread text from cause.Syntax = (place : ℕ) × Reads text from (answer.Syntax place)
+IsUnread text from cause.Syntax = (place : ℕ) × AnswersAt text from (answer.Syntax place)
 IsUnread text from cause.Size =
-    (place : ℕ) × (Reads text from (WideInt place)
-    ⊎ (Reads text from (TooMany place) ⊎ Reads text from (TooBig place)))
+    (place : ℕ) × (AnswersAt text from (WideInt place)
+    ⊎ (AnswersAt text from (TooMany place) ⊎ AnswersAt text from (TooBig place)))
 IsUnread text from _ = ⊥
 
 -- what stands here, where this is set up, is faulty, and this is its first cause
 abbrev pub IsFaultyAt : List ℕ → ℕ → Configuration → ConfigCause → Type 0
 IsFaultyAt text from c why =
     IsUnread text from why
-    ⊎ ((t : Tree) × (behind : ℕ) × Reads text from (Found t behind) × IsFirstCause c t why)
+    ⊎ ((t : Tree) × (behind : ℕ) × AnswersAt text from (Found t behind) × IsFirstCause c t why)
 
 -- the first faulty clause, counted from 1, and its first cause
 pub record HasFault (text : List ℕ) (clause : ℕ) (why : ConfigCause) : Type 0 where

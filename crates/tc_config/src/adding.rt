@@ -3,7 +3,7 @@ ghost use Rattle.std.specs.Prelude.{◌≡◌, IfErr, IsTrue, OnOk};
 ghost use Rattle.tc_term.specs.NameBytes.{has_read_names};
 ghost use Rattle.tc_term.specs.Variables.{IsPattern, var_bound};
 ghost use Rattle.tc_config.specs.Answers.{IsClauseFault, IsTermFault};
-ghost use Rattle.tc_config.specs.Drafts.{Adds, HasRoom, IsDraft, config_of};
+ghost use Rattle.tc_config.specs.Drafts.{AddsClause, HasRoom, IsDraft, config_of};
 ghost use Rattle.tc_config.specs.Forms.{IsRight, form_term};
 ghost use Rattle.tc_config.specs.Meanings.{Means};
 
@@ -43,7 +43,7 @@ fn add_form(alloc: Global, draft: &mut Draft, vars: u32, form: Form) -> Result<(
     requires pattern { IsPattern (form_term form) }
     requires names { IsTrue (has_read_names (form_term form)) }
     requires vars { vars ≡ var_bound (form_term form) }
-    ensures added { OnOk result (Adds vars form draft.old draft.new) }
+    ensures added { OnOk result (AddsClause vars form draft.old draft.new) }
     ensures fault { IfErr result (IsClauseFault (config_of draft.old) form) }
 {
     match form {

@@ -3,7 +3,7 @@ ghost use Rattle.std.specs.Prelude.{◌≡◌, ◌≤◌, IfErr, IfSome, OnOk, l
 ghost use Rattle.tc_model.specs.State.{IsName};
 ghost use Rattle.tc_model.specs.declared.limits.TheConstants.{MOST_BUDGET, MOST_NAME_BYTES};
 ghost use Rattle.tc_config.specs.Answers.{IsClauseFault};
-ghost use Rattle.tc_config.specs.Drafts.{Adds, IsDraft, config_of};
+ghost use Rattle.tc_config.specs.Drafts.{AddsClause, IsDraft, config_of};
 ghost use Rattle.tc_config.specs.declared.forms.Form.{Form};
 
 use crate::configs::{AgentConf, CentreConf};
@@ -26,7 +26,7 @@ pub fn add_centre(
     requires draft { IsDraft draft.old }
     requires name { length name ≤ MOST_NAME_BYTES }
     requires budget { IfSome budget (λ b. (1 ≤ b) × (b ≤ MOST_BUDGET)) }
-    ensures added { OnOk result (Adds 0 (Form.Centre name budget) draft.old draft.new) }
+    ensures added { OnOk result (AddsClause 0 (Form.Centre name budget) draft.old draft.new) }
     ensures fault { IfErr result
         (IsClauseFault (config_of draft.old) (Form.Centre name budget)) }
 {
@@ -53,7 +53,7 @@ pub fn add_centre(
 pub fn add_role(alloc: Global, draft: &mut Draft, name: Name) -> Result<(), ClauseFault>
     requires draft { IsDraft draft.old }
     requires name { length name ≤ MOST_NAME_BYTES }
-    ensures added { OnOk result (Adds 0 (Form.Role name) draft.old draft.new) }
+    ensures added { OnOk result (AddsClause 0 (Form.Role name) draft.old draft.new) }
     ensures fault { IfErr result (IsClauseFault (config_of draft.old) (Form.Role name)) }
 {
     if draft.known_roles.place(&name).is_some() {
@@ -78,7 +78,7 @@ pub fn add_agent(
 ) -> Result<(), ClauseFault>
     requires draft { IsDraft draft.old }
     requires name { length name ≤ MOST_NAME_BYTES }
-    ensures added { OnOk result (Adds 0 (Form.Agent name role) draft.old draft.new) }
+    ensures added { OnOk result (AddsClause 0 (Form.Agent name role) draft.old draft.new) }
     ensures fault { IfErr result (IsClauseFault (config_of draft.old) (Form.Agent name role)) }
 {
     let Some(role) = draft.known_roles.place(&role) else {

@@ -10,7 +10,7 @@ ghost use Rattle.tc_model.specs.Within.{HasVarsBelow};
 ghost use Rattle.tc_model.specs.declared.limits.TheConstants.{MOST_CLAUSES};
 ghost use Rattle.tc_spec.specs.Written.{IsWrittenAs};
 ghost use Rattle.tc_config.specs.Answers.{IsClauseFault, IsTupleFault, IsReactionFault};
-ghost use Rattle.tc_config.specs.Drafts.{Adds, HasRoom, IsDraft, config_of};
+ghost use Rattle.tc_config.specs.Drafts.{AddsClause, HasRoom, IsDraft, config_of};
 ghost use Rattle.tc_config.specs.Meanings.{AreItems, changed, with_clause, with_script, with_tuple};
 ghost use Rattle.tc_config.specs.Names.{IsUnknown, place_of};
 ghost use Rattle.tc_config.specs.declared.configs.CentreConf.{CentreConf};
@@ -42,7 +42,7 @@ pub fn add_tuple(
     requires draft { IsDraft draft.old }
     requires room { HasRoom (config_of draft.old) }
     requires fits { Fits (tree_of tuple) }
-    ensures added { OnOk result (Adds 0 (Form.Tuple centre tuple) draft.old draft.new) }
+    ensures added { OnOk result (AddsClause 0 (Form.Tuple centre tuple) draft.old draft.new) }
     ensures fault { IfErr result (IsClauseFault (config_of draft.old) (Form.Tuple centre tuple)) }
 {
     let Some(place) = draft.known_centres.place(&centre) else {
@@ -63,7 +63,7 @@ pub fn add_clause(
     requires draft { IsDraft draft.old }
     requires pattern { IsPattern (tree_of reaction) }
     requires names { IsTrue (has_read_names (tree_of reaction)) }
-    ensures added { OnOk result (Adds 0 (Form.Spec centre reaction) draft.old draft.new) }
+    ensures added { OnOk result (AddsClause 0 (Form.Spec centre reaction) draft.old draft.new) }
     ensures fault { IfErr result
         (IsClauseFault (config_of draft.old) (Form.Spec centre reaction)) }
 {
@@ -87,7 +87,7 @@ pub fn add_grant(
 ) -> Result<(), ClauseFault>
     requires draft { IsDraft draft.old }
     requires room { HasRoom (config_of draft.old) }
-    ensures added { OnOk result (Adds 0 (Form.Grant role centre primitive) draft.old draft.new) }
+    ensures added { OnOk result (AddsClause 0 (Form.Grant role centre primitive) draft.old draft.new) }
     ensures fault { IfErr result
         (IsClauseFault (config_of draft.old) (Form.Grant role centre primitive)) }
 {
@@ -119,7 +119,7 @@ pub fn add_script(
 ) -> Result<(), ClauseFault>
     requires draft { IsDraft draft.old }
     requires operands { All (λ (l : Line). IfSome (operand_of l.ask) (HasVarsBelow vars)) lines }
-    ensures added { OnOk result (Adds vars (Form.Script agent lines) draft.old draft.new) }
+    ensures added { OnOk result (AddsClause vars (Form.Script agent lines) draft.old draft.new) }
     ensures fault { IfErr result (IsClauseFault (config_of draft.old) (Form.Script agent lines)) }
 {
     let lines = lines.into_vec();

@@ -4,7 +4,7 @@ ghost use Rattle.tc_term.specs.Faults.{Found, Nothing};
 ghost use Rattle.tc_term.specs.NameBytes.{has_read_names};
 ghost use Rattle.tc_term.specs.Tree.{Tree};
 ghost use Rattle.tc_read.specs.ReadAnswers.{IsFault};
-ghost use Rattle.tc_spec.specs.Texts.{Reads};
+ghost use Rattle.tc_spec.specs.Texts.{AnswersAt};
 ghost use Rattle.tc_config.specs.Answers.{IsConfigFault, IsFaultAt, IsTermFault, IsThisFault, IsWant};
 ghost use Rattle.tc_config.specs.Configurations.{Configuration};
 ghost use Rattle.tc_config.specs.Texts.{IsRefused, Spells};
@@ -76,10 +76,10 @@ fn clause_at(
 ) -> Result<Option<(Pattern, usize)>, ConfigFault>
     requires place { from ≤ length text.now }
     requires few { count ≤ MOST_BYTES }
-    ensures found { IfOk result (λ r. IfSome r (λ x. Reads text.now from (Found x.0 x.1))) }
+    ensures found { IfOk result (λ r. IfSome r (λ x. AnswersAt text.now from (Found x.0 x.1))) }
     ensures names { IfOk result (λ r. IfSome r (λ x. IsTrue (has_read_names x.0))) }
     ensures behind { IfOk result (λ r. IfSome r (λ x. (from < x.1) × (x.1 ≤ length text.now))) }
-    ensures none { IfOk result (λ r. IfNone r (Reads text.now from Nothing)) }
+    ensures none { IfOk result (λ r. IfNone r (AnswersAt text.now from Nothing)) }
     ensures fault { (c : Configuration) → IfErr result (IsFaultAt text.now from count c) }
 {
     match read_clause(alloc, text, from) {
@@ -91,7 +91,7 @@ fn clause_at(
 // What is told of text behind so many clauses that the reader refuses.
 fn unread(fault: ReadFault, count: usize) -> ConfigFault
     requires { count ≤ MOST_BYTES }
-    ensures { (text : List ℕ) (from : ℕ) (c : Configuration) → IsFault (Reads text from) fault
+    ensures { (text : List ℕ) (from : ℕ) (c : Configuration) → IsFault (AnswersAt text from) fault
         → IsFaultAt text from count c result }
 {
     match fault {
@@ -107,7 +107,7 @@ fn unread(fault: ReadFault, count: usize) -> ConfigFault
 fn refused(fault: ClauseFault, count: usize) -> ConfigFault
     requires { count ≤ MOST_BYTES }
     ensures { (text : List ℕ) (from behind : ℕ) (c : Configuration) (t : Tree)
-        → Reads text from (Found t behind) → IsTermFault c t fault → IsFaultAt text from count c result }
+        → AnswersAt text from (Found t behind) → IsTermFault c t fault → IsFaultAt text from count c result }
 {
     match fault {
         ClauseFault::Bad(cause) => bad(count, cause),

@@ -95,8 +95,8 @@ pub record IsReady (d : DeskState) (centre : List ℕ) : Type 0 where
   pub idle : any_pending d.log ≡ false
 
 -- the ask is an operation
-abbrev pub IsSound : Ask → Type 0
-IsSound ask = (o : Op) × OpOf ask (Sound o)
+abbrev pub IsOperation : Ask → Type 0
+IsOperation ask = (o : Op) × OpOf ask (Sound o)
 
 -- how a call was served, by the result in its row
 abbrev pub IsServedBy : Served → LogResult → Type 0
@@ -106,7 +106,7 @@ IsServedBy served.Pending result = result ≡ Pending
 -- the call was served in one turn, and has its row
 pub record Makes (d : DeskState) (centre : List ℕ) (ask : Ask) (how : Served) (e : DeskState) : Type 0 where
   pub ready : IsReady d centre
-  pub sound : IsSound ask
+  pub sound : IsOperation ask
   pub turn : TakesTurn d centre e
   pub result : LogResult
   pub served : IsServedBy how result
@@ -126,11 +126,11 @@ MayRefuse d centre ask refusal.NotGround e = IsReady d centre × OpOf ask NotGro
 MayRefuse d centre ask (refusal.BadSpec bad) e =
     IsReady d centre × OpOf ask (Faulty bad) × StandsStill d e
 MayRefuse d centre ask refusal.TurnsSpent e =
-    IsReady d centre × IsSound ask × HasNoTurn d centre × StandsStill d e
+    IsReady d centre × IsOperation ask × HasNoTurn d centre × StandsStill d e
 MayRefuse d centre ask (refusal.Full weight pending) e =
-    IsReady d centre × IsSound ask × TakesTurn d centre e
+    IsReady d centre × IsOperation ask × TakesTurn d centre e
 MayRefuse d centre ask refusal.NoMemory e =
-    StandsStill d e ⊎ (IsReady d centre × IsSound ask × TakesTurn d centre e)
+    StandsStill d e ⊎ (IsReady d centre × IsOperation ask × TakesTurn d centre e)
 
 -- the log after a refusal: it has a row of that, but for want of memory
 abbrev pub refused_log : List LogRow → List ℕ → Ask → Refusal → List LogRow
@@ -159,7 +159,7 @@ abbrev pub replied : LogRow → Reply → LogRow
 replied row reply = record row { result = Replied reply }
 
 -- the log after its pending row has got this reply, which fits its ask; no other row was pending
-pub record IsAnswered (before : List LogRow) (reply : Reply) (after : List LogRow) : Type 0 where
+pub record IsRowAnswered (before : List LogRow) (reply : Reply) (after : List LogRow) : Type 0 where
   pub front : List LogRow
   pub row : LogRow
   pub back : List LogRow
@@ -180,7 +180,7 @@ pub record TakesTurnAtPending (d e : DeskState) : Type 0 where
 -- the pending row has got its reply
 pub record Gets (d e : DeskState) : Type 0 where
   pub reply : Reply
-  pub answered : IsAnswered d.log reply e.log
+  pub answered : IsRowAnswered d.log reply e.log
   pub waits : e.waits ≡ false
 
 -- what a look found, in one turn
@@ -221,12 +221,12 @@ pub record Leaves (d : DeskState) (why : DeskFault) (e : DeskState) : Type 0 whe
 
 -- the log after its pending row has got this reply, if there is one
 abbrev pub IsAnsweredIf : List LogRow → Option Reply → List LogRow → Type 0
-IsAnsweredIf before (Some reply) after = IsAnswered before reply after
+IsAnsweredIf before (Some reply) after = IsRowAnswered before reply after
 IsAnsweredIf before None after = after ≡ before
 
 -- a poll was made in one turn: it has its row, at the centre of the pending row, and that has the reply
 -- that was told
-pub record Tells (d : DeskState) (told : Option Reply) (e : DeskState) : Type 0 where
+pub record HasRowOfPoll (d : DeskState) (told : Option Reply) (e : DeskState) : Type 0 where
   pub row : LogRow
   pub is : IsPendingRow d.log row
   pub turn : TakesTurn d row.centre e
@@ -243,8 +243,8 @@ pub record TellsFull (d : DeskState) (weight pending : ℕ) (e : DeskState) : Ty
 
 -- what came of a poll
 abbrev pub Polls : DeskState → Result Seen DeskFault → DeskState → Type 0
-Polls d (Ok seen.Answered) e = (reply : Reply) × Tells d (Some reply) e × (e.waits ≡ false)
-Polls d (Ok seen.StillPending) e = Tells d None e × (e.waits ≡ true)
+Polls d (Ok seen.Answered) e = (reply : Reply) × HasRowOfPoll d (Some reply) e × (e.waits ≡ false)
+Polls d (Ok seen.StillPending) e = HasRowOfPoll d None e × (e.waits ≡ true)
 Polls d (Err (fault.Full weight pending)) e = TellsFull d weight pending e
 Polls d (Err fault.Idle) e = Stays d fault.Idle e
 Polls d (Err fault.TurnsSpent) e = Stays d fault.TurnsSpent e

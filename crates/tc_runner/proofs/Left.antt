@@ -21,7 +21,7 @@ use Rattle.tc_model.specs.Scripts.{Lines}
 use Rattle.tc_model.specs.declared.entries.Entry.{Entry}
 use Rattle.tc_model.specs.declared.outcomes.Reply.{Reply}
 use Rattle.tc_runner.specs.Clients.{AreClients, IsClient, IsLog, IsWaiting, WaitsAt, left_in, left_of, waits_of}
-use Rattle.tc_runner.specs.Steps.{IsAnswered}
+use Rattle.tc_runner.specs.Steps.{IsLastAnswered}
 use Rattle.tc_runner.specs.declared.clients.Client.{Client}
 use Rattle.tc_runner.proofs.Follow.{Follows-within}
 use Rattle.tc_desk.proofs.Logs.{any_pending-front, any_pending-push, is_pending-true, any_pending-push_settled}
@@ -118,7 +118,7 @@ some-row (row ∷ rows) pending = omega arith
 
 -- the last row gets its reply
 pub IsAnswered-set : (reply : Reply) (log : List LogRow) (n : ℕ) (row : LogRow) → n + 1 ≡ length log → row ≡ get_or log n row
-    → IsAnswered reply log (set log n (record row { result = Replied reply }))
+    → IsLastAnswered reply log (set log n (record row { result = Replied reply }))
 IsAnswered-set reply log n row last at =
     ⊎_elim
     (λ (none : log ≡ []). absurd (let same = ap length none in omega (arith, same, last)))
@@ -128,7 +128,7 @@ IsAnswered-set reply log n row last at =
     let end : row ≡ parts.1 =
     at ∙ ap (λ l. get_or l n row) parts.2 ∙ ap (λ k. get_or (front ++ parts.1 ∷ []) k row) (sym place)
     ∙ get_or_from_slice_get (front ++ parts.1 ∷ []) (length front) parts.1 row (slice_get_pushed front parts.1) in
-    let answered : IsAnswered reply log (set log n (record row { result = Replied reply })) = record {
+    let answered : IsLastAnswered reply log (set log n (record row { result = Replied reply })) = record {
       front = front;
       row = row;
       last = parts.2 ∙ ap (λ x. front ++ x ∷ []) (sym end);

@@ -3,7 +3,7 @@ use Rattle.std.proofs.Common.{◌≡◌, ℕ, ◌+◌, ◌<◌, true, false, Lis
 use Rattle.std.specs.List.{slice_get}
 use Rattle.std.proofs.lemmas.List.{length-append}
 use Rattle.std.proofs.lemmas.Option.{same_Some, slice_get-get_or, slice_get_within}
-use Rattle.tc_asks.specs.Progress.{HasTaken, Progress}
+use Rattle.tc_asks.specs.Progress.{HasTakenIn, Progress}
 use Rattle.tc_centre.specs.Centre.{Centre}
 use Rattle.tc_config.specs.Configurations.{Configuration}
 use Rattle.tc_model.specs.Calls.{call_of}
@@ -20,14 +20,14 @@ use Rattle.tc_model.specs.Scripts.{Lines}
 use Rattle.tc_model.specs.declared.outcomes.Reply.{Reply}
 use Rattle.tc_runner.specs.Clients.{IsWaiting, left_of}
 use Rattle.tc_runner.specs.Cores.{histories}
-use Rattle.tc_runner.specs.Steps.{GoesOn, IsAnswered, Looks}
+use Rattle.tc_runner.specs.Steps.{GoesOn, IsLastAnswered, Looks}
 use Rattle.tc_runner.proofs.Asking.{some-agent}
 use Rattle.tc_runner.proofs.Left.{left-answered, settled-answered}
 use Rattle.tc_runner.proofs.Cores.{cores-whole, history-at}
 use Rattle.tc_runner.proofs.Follow.{Follows-answered, IsEnded-waits, pending-called, pending-row}
 
 -- a look that told a reply, and one that told none
-pub looks-reply : (told : Option Reply) (old new : List LogRow) → Looks told old new true → (reply : Reply) × (told ≡ Some reply) × IsAnswered reply old new
+pub looks-reply : (told : Option Reply) (old new : List LogRow) → Looks told old new true → (reply : Reply) × (told ≡ Some reply) × IsLastAnswered reply old new
 looks-reply (Some reply) old new looks = (reply, refl, looks)
 looks-reply None old new looks = absurd looks
 
@@ -85,7 +85,7 @@ module _ (c : Configuration) (agent : ℕ) (a : AgentConf) (cores : List Centre)
       (IsEnded-waits c agent a (histories c cores) w.front w.row w.pending follows (told x None at none))
 
   module _ (x : Centre) (at : slice_get cores place ≡ Some x) (reply : Reply) (replied : reply_in x.history (call_of agent (length log)) ≡ Some reply)
-      (new : List LogRow) (answered : IsAnswered reply log new) where
+      (new : List LogRow) (answered : IsLastAnswered reply log new) where
     parts : (answered.front ≡ w.front) × (answered.row ∷ [] ≡ w.row ∷ [])
     parts =
         let same = ap length (sym answered.last ∙ w.last) in
@@ -155,12 +155,12 @@ module _ (c : Configuration) (agent : ℕ) (a : AgentConf) (cores : List Centre)
 
     -- what an asker has taken in of the log, it has of the new one
     pub read-taken : (new : List LogRow) → Looks (reply_in (get_or cores place r).history (call_of agent n)) log new true → (p : Progress)
-        → ((scripts : List Lines) (before more : List LogRow) (q : Progress) → HasTaken scripts before q → HasTaken scripts (before ++ more) q)
-        → ((scripts : List Lines) (before : List LogRow) (row : LogRow) (q : Progress) → row.result ≡ Pending → HasTaken scripts (before ++ row ∷ []) q → HasTaken scripts before q)
-        → HasTaken a.scripts log p → HasTaken a.scripts new p
+        → ((scripts : List Lines) (before more : List LogRow) (q : Progress) → HasTakenIn scripts before q → HasTakenIn scripts (before ++ more) q)
+        → ((scripts : List Lines) (before : List LogRow) (row : LogRow) (q : Progress) → row.result ≡ Pending → HasTakenIn scripts (before ++ row ∷ []) q → HasTakenIn scripts before q)
+        → HasTakenIn a.scripts log p → HasTakenIn a.scripts new p
     read-taken new looks p longer settled taken =
         let some = looks-reply reply-now log new looks in
-        subst (λ l. HasTaken a.scripts l p)
+        subst (λ l. HasTakenIn a.scripts l p)
         (sym (answered-log (get_or cores place r) reads some.0 (same-call (Some some.0) some.1) new some.2))
         (longer a.scripts w.front (record w.row { result = Replied some.0 } ∷ []) p
-        (settled a.scripts w.front w.row p w.pending (subst (λ l. HasTaken a.scripts l p) w.last taken)))
+        (settled a.scripts w.front w.row p w.pending (subst (λ l. HasTakenIn a.scripts l p) w.last taken)))

@@ -7,7 +7,7 @@ use Rattle.tc_asks.specs.Operands.{IsFaultOf}
 use Rattle.tc_asks.specs.declared.operands.OperandFault.{OperandFault}
 use Rattle.tc_asks.specs.declared.operands.OperandFault.TheVariants as fault
 use Rattle.tc_centre.specs.Centre.{Centre, state_of}
-use Rattle.tc_centre.specs.Turns.{IsRefused, Serves}
+use Rattle.tc_centre.specs.Turns.{IsFullFault, Serves}
 use Rattle.tc_centre.specs.declared.answers.Answer.{Answer}
 use Rattle.tc_centre.specs.declared.answers.Answer.TheVariants as answer
 use Rattle.tc_centre.specs.declared.answers.TurnFault.{TurnFault}
@@ -77,7 +77,7 @@ module _ (old new : Centre) (id : CallId) (ask : Ask) (op : Op) (next : IsNext o
         };
       }
 
-  turned_away : (weight pending : ℕ) → IsRefused old (turn.Full weight pending) → new ≡ old
+  turned_away : (weight pending : ℕ) → IsFullFault old (turn.Full weight pending) → new ≡ old
       → IsTurnedAway old.origin new.history id ask weight pending
   turned_away weight pending refused same =
       let history : List Entry = old.history in
@@ -100,7 +100,7 @@ module _ (old new : Centre) (id : CallId) (ask : Ask) (op : Op) (next : IsNext o
       }
 
   -- what the ask came to, by what the turn says
-  pub IsServedAs-turned : (r : Result Answer TurnFault) → IfOk r (Serves old new id op) → IfErr r (IsRefused old) → OnErr r (new ≡ old)
+  pub IsServedAs-turned : (r : Result Answer TurnFault) → IfOk r (Serves old new id op) → IfErr r (IsFullFault old) → OnErr r (new ≡ old)
       → IfOk (result_of r) (IsServedAs old.origin new.history id ask)
   IsServedAs-turned (Ok (answer.Replied reply)) serves refused same = (called (answer.Replied reply) serves, serves.answer)
   IsServedAs-turned (Ok answer.Pending) serves refused same = called answer.Pending serves

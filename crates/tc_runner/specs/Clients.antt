@@ -1,7 +1,7 @@
 -- What is known of an agent that has come so far in its scripts.
 use Rattle.std.specs.Prelude.{◌≡◌, ℕ, ◌+◌, ◌-◌, ◌*◌, ◌≤◌, false, if◌then◌else◌, List, [], ◌∷◌, ◌++◌, length}
 use Rattle.std.specs.Prelude.{Option, Some, None, slice_get}
-use Rattle.tc_asks.specs.Progress.{HasTaken}
+use Rattle.tc_asks.specs.Progress.{HasTakenIn}
 use Rattle.tc_config.specs.declared.configs.AgentConf.{AgentConf}
 use Rattle.tc_desk.specs.Asks.{ScriptStep, steps_of}
 use Rattle.tc_desk.specs.Logs.{any_pending}
@@ -35,7 +35,7 @@ WaitsAt scripts log (Some place) = IsWaiting scripts log place
 -- the client is this agent's: it knows where the agent waits, and its asker fits the log
 pub record IsClient (agent : ℕ) (scripts : List Lines) (log : List LogRow) (client : Client) : Type 0 where
   pub agent_is : client.agent ≡ agent
-  pub taken : HasTaken scripts log client.asker
+  pub taken : HasTakenIn scripts log client.asker
   pub waits : WaitsAt scripts log client.waits
 
 -- each agent has its client

@@ -44,7 +44,7 @@ pub record HasAsked (scripts : List Lines) (old new : List LogRow) (waits : Opti
   pub waits_at : WaitsAt scripts new waits
 
 -- the last row, which was pending, has this reply
-pub record IsAnswered (reply : Reply) (old new : List LogRow) : Type 0 where
+pub record IsLastAnswered (reply : Reply) (old new : List LogRow) : Type 0 where
   pub front : List LogRow
   pub row : LogRow
   pub last : old ≡ front ++ row ∷ []
@@ -52,7 +52,7 @@ pub record IsAnswered (reply : Reply) (old new : List LogRow) : Type 0 where
 
 -- the reply is put into the log, if there is one
 abbrev pub Looks : Option Reply → List LogRow → List LogRow → Bool → Type 0
-Looks (Some reply) old new true = IsAnswered reply old new
+Looks (Some reply) old new true = IsLastAnswered reply old new
 Looks None old new false = new ≡ old
 Looks reply old new answered = ⊥
 

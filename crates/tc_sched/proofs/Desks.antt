@@ -5,10 +5,10 @@ use Rattle.std.proofs.lemmas.Bool.{false≢true}
 use Rattle.std.proofs.lemmas.List.{length-append}
 use Rattle.std.proofs.lemmas.Option.{slice_get_within}
 use Rattle.tc_asks.specs.Nexts.{IsNextAsk}
-use Rattle.tc_asks.specs.Progress.{HasTaken, Progress}
+use Rattle.tc_asks.specs.Progress.{HasTakenIn, Progress}
 use Rattle.tc_asks.specs.declared.next.Next.{Next}
 use Rattle.tc_desk.specs.Asks.{IsAsk, steps_of}
-use Rattle.tc_desk.specs.Desks.{DeskState, Keeps, Spends, Makes, Refuses, MayRefuse, HasNoTurn, IsServedBy, IsAnswered, refused_log, replied, with_row}
+use Rattle.tc_desk.specs.Desks.{DeskState, Keeps, Spends, Makes, Refuses, MayRefuse, HasNoTurn, IsServedBy, IsRowAnswered, refused_log, replied, with_row}
 use Rattle.tc_desk.specs.Logs.{any_pending, is_pending}
 use Rattle.tc_desk.specs.declared.desks.Served.{Served}
 use Rattle.tc_desk.specs.declared.desks.Served.TheVariants as served
@@ -134,7 +134,7 @@ module _ {D : Type 0} (state : D → DeskState) (c : Client D) (next : Next) (ce
           centre = ap (slice_get d.names) (sym can.is.centre) ∙ can.named;
           result = has-row.item;
         })));
-    taken = subst (λ l. IfSome asker (HasTaken c.scripts l)) (sym has-row.log) (taken-push c.scripts d.log (row ∷ []) asker is.taken);
+    taken = subst (λ l. IfSome asker (HasTakenIn c.scripts l)) (sym has-row.log) (taken-push c.scripts d.log (row ∷ []) asker is.taken);
   }
 
   pub asked-left : left e c.scripts < left_of state c
@@ -190,7 +190,7 @@ asked-next state bond is_sound names c w x asker found next centre same ready id
     (can-ask state names c w next centre same ready idle (IfSome-at (IsNextAsk c.scripts (state c.desk).log) found next at is) named) call called actor
 
 -- a look that found the reply
-module _ (d e : DeskState) (scripts : List Lines) (reply : Reply) (of : IsOfScripts d.names scripts d.log) (answered : IsAnswered d.log reply e.log) where
+module _ (d e : DeskState) (scripts : List Lines) (reply : Reply) (of : IsOfScripts d.names scripts d.log) (answered : IsRowAnswered d.log reply e.log) where
   pub answered-actor : (asker : Option Progress) → IsActor d scripts asker → e.names ≡ d.names → IsActor e scripts asker
   answered-actor asker is same = record {
     rows = subst (λ ns. IsOfScripts ns scripts e.log) (sym same) (rows-answered d.names scripts d.log e.log reply of answered);

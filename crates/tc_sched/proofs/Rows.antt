@@ -7,10 +7,10 @@ use Rattle.std.proofs.lemmas.Option.{get_or_from_slice_get, slice_get_within, sl
 use Rattle.std.proofs.lemmas.List.Elements.{All-append, All-head, All-map, All-nil, All-tail}
 use Rattle.tc_asks.proofs.Taken.{taken_longer, taken_shorter}
 use Rattle.tc_asks.specs.Nexts.{IsNextAsk}
-use Rattle.tc_asks.specs.Progress.{HasTaken, Progress}
+use Rattle.tc_asks.specs.Progress.{HasTakenIn, Progress}
 use Rattle.tc_asks.specs.declared.next.Next.{Next}
 use Rattle.tc_desk.specs.Asks.{IsAsk, ScriptStep, steps_at, steps_from, steps_of}
-use Rattle.tc_desk.specs.Desks.{IsAnswered, replied}
+use Rattle.tc_desk.specs.Desks.{IsRowAnswered, replied}
 use Rattle.tc_desk.specs.Logs.{any_pending, is_pending, results_of}
 use Rattle.tc_desk.specs.declared.rows.LogRow.{LogRow}
 use Rattle.tc_desk.specs.declared.rows.LogResult.TheVariants.{Pending}
@@ -157,7 +157,7 @@ pub record AnswersLast (log new front : List LogRow) (row : LogRow) (reply : Rep
   pub to : new ≡ front ++ replied row reply ∷ []
 
 pub answered-last : (names : List (List ℕ)) (scripts : List Lines) (log new : List LogRow) (reply : Reply) → IsOfScripts names scripts log
-    → (a : IsAnswered log reply new) → AnswersLast log new a.front a.row reply
+    → (a : IsRowAnswered log reply new) → AnswersLast log new a.front a.row reply
 answered-last names scripts log new reply of a =
     let none = back-none names scripts log a.front a.row a.back of a.from a.pending in record {
       from = a.from ∙ ap (λ (l : List LogRow). a.front ++ a.row ∷ l) none;
@@ -166,7 +166,7 @@ answered-last names scripts log new reply of a =
 
 -- the pending row has got its reply
 pub rows-answered : (names : List (List ℕ)) (scripts : List Lines) (log new : List LogRow) (reply : Reply) → IsOfScripts names scripts log
-    → IsAnswered log reply new → IsOfScripts names scripts new
+    → IsRowAnswered log reply new → IsOfScripts names scripts new
 rows-answered names scripts log new reply of answered =
     let last = answered-last names scripts log new reply of answered in
     subst (IsOfScripts names scripts) (sym last.to)
@@ -174,14 +174,14 @@ rows-answered names scripts log new reply of answered =
 
 -- what an asker has taken in of a log, it has of the log in which the pending row has got its reply
 pub taken-answered : (names : List (List ℕ)) (scripts : List Lines) (log new : List LogRow) (reply : Reply) (asker : Option Progress) → IsOfScripts names scripts log
-    → IsAnswered log reply new → IfSome asker (HasTaken scripts log) → IfSome asker (HasTaken scripts new)
+    → IsRowAnswered log reply new → IfSome asker (HasTakenIn scripts log) → IfSome asker (HasTakenIn scripts new)
 taken-answered names scripts log new reply None of a taken = taken
 taken-answered names scripts log new reply (Some p) of a taken =
     let last = answered-last names scripts log new reply of a in
-    subst (λ l. HasTaken scripts l p) (sym last.to)
+    subst (λ l. HasTakenIn scripts l p) (sym last.to)
     (taken_longer scripts a.front (replied a.row reply ∷ []) p
-    (taken_shorter scripts a.front a.row p a.pending (subst (λ l. HasTaken scripts l p) last.from taken)))
+    (taken_shorter scripts a.front a.row p a.pending (subst (λ l. HasTakenIn scripts l p) last.from taken)))
 
-pub taken-push : (scripts : List Lines) (log more : List LogRow) (asker : Option Progress) → IfSome asker (HasTaken scripts log) → IfSome asker (HasTaken scripts (log ++ more))
+pub taken-push : (scripts : List Lines) (log more : List LogRow) (asker : Option Progress) → IfSome asker (HasTakenIn scripts log) → IfSome asker (HasTakenIn scripts (log ++ more))
 taken-push scripts log more None taken = taken
 taken-push scripts log more (Some p) taken = taken_longer scripts log more p taken

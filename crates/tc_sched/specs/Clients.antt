@@ -2,7 +2,7 @@
 use Rattle.std.specs.Prelude.{◌≡◌, ℕ, ◌+◌, List, length, take, slice_get, Option, Some, IfSome}
 use Rattle.tc_model.specs.Scripts.{Lines}
 use Rattle.tc_model.specs.declared.asks.Ask.{Ask}
-use Rattle.tc_asks.specs.Progress.{Progress, HasTaken}
+use Rattle.tc_asks.specs.Progress.{Progress, HasTakenIn}
 use Rattle.tc_desk.specs.Asks.{ScriptStep, IsAsk}
 use Rattle.tc_desk.specs.Desks.{DeskState}
 use Rattle.tc_desk.specs.Logs.{results_of}
@@ -53,4 +53,4 @@ pub record IsOfScripts (names : List (List ℕ)) (scripts : List Lines) (log : L
 -- the desk's rows are those of the scripts, and the asker, if there is one, fits them
 pub record IsActor (desk : DeskState) (scripts : List Lines) (asker : Option Progress) : Type 0 where
   pub rows : IsOfScripts desk.names scripts desk.log
-  pub taken : IfSome asker (HasTaken scripts desk.log)
+  pub taken : IfSome asker (HasTakenIn scripts desk.log)

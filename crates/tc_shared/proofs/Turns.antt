@@ -30,7 +30,7 @@ use Rattle.tc_centre.specs.declared.answers.TurnFault.TheVariants as turn
 use Rattle.tc_shared.specs.declared.answers.CallFault.{CallFault}
 use Rattle.tc_turn.specs.Owners.{entries_of, OthersOwnNone}
 use Rattle.tc_turn.specs.Passes.{TurnstileState, PassState, Enters, Leaves}
-use Rattle.tc_shared.specs.Passes.{IsPassOf, IsAtRest, IsPaused, IsPausedOf, IsCallRefused, IsSharedPollRefused, IsSameFault, IsSamePollFault, Makes, Tells, Sees, SeesFull, SeesRoom, Finds, after_turn}
+use Rattle.tc_shared.specs.Passes.{IsPassOf, IsAtRest, IsPaused, IsPausedOf, IsCallRefused, IsSharedPollRefused, IsSameFault, IsSamePollFault, CallsInTurn, PollsInTurn, Sees, SeesFull, SeesRoom, Finds, after_turn}
 use Rattle.tc_centre.proofs.Owned.{owned-calls}
 use Rattle.tc_shared.proofs.Adding.{others-none, own-more, none-of-none}
 
@@ -119,7 +119,7 @@ module _ (t : TurnstileState Origin) (p m q : PassState Entry Origin) (old new :
 
   pub makes : (number : ℕ) (op : Op) (told : Answer) → (IsFullCentre old → ⊥)
       → Serves old new (call_of p.number number) op told → IsAtRest new.origin new.history
-      → Leaves owner_of m new.history q → Makes t p number op told q
+      → Leaves owner_of m new.history q → CallsInTurn t p number op told q
   makes number op told room s rest leaves =
       let e : Entry = Called (call_of p.number number) op s.result s.items in
       let grown : new.history ≡ old.history ++ e ∷ s.gaves = ap (λ (c : Centre). c.history) s.appended in
@@ -207,7 +207,7 @@ module _ (t : TurnstileState Origin) (p m q : PassState Entry Origin) (old new :
 
   -- why a turn was refused
   pub refuses : (r : Result Answer TurnFault) (why : TurnFault) (told : CallFault) → r ≡ Err why
-      → (IsFullCentre old → r ≡ Err (turn.Full (weight_in old) (waiting_in old))) → centre.IsRefused old why → IsSameFault why told → new ≡ old
+      → (IsFullCentre old → r ≡ Err (turn.Full (weight_in old) (waiting_in old))) → centre.IsFullFault old why → IsSameFault why told → new ≡ old
       → IsAtRest new.origin new.history → Leaves owner_of m new.history q → IsCallRefused t p told q
   refuses r (turn.Full weight pending) told is full refused same kept rest leaves =
       subst (λ (f : CallFault). IsCallRefused t p f q) (sym same)
@@ -245,7 +245,7 @@ module _ (t : TurnstileState Origin) (p m q : PassState Entry Origin) (old new :
   -- what an earlier call came to was told
   pub tells : (number asked : ℕ) (told : Poll) → (HasCall (call_of p.number asked) old.history → IsFullCentre old → ⊥)
       → centre.Tells old new (call_of p.number number) asked told → IsAtRest new.origin new.history
-      → Leaves owner_of m new.history q → Tells t p number asked told q
+      → Leaves owner_of m new.history q → PollsInTurn t p number asked told q
   tells number asked told room s rest leaves =
       let reply : Option Reply = reply_in old.history (call_of p.number asked) in
       let e : Entry = Looked (call_of p.number number) asked reply in

@@ -12,7 +12,7 @@ use Rattle.tc_shared.specs.declared.answers.LookFault.{LookFault}
 use Rattle.tc_shared.specs.declared.answers.LookFault.TheVariants as look
 use Rattle.tc_model.specs.Replies.{reply_in}
 use Rattle.tc_model.specs.Calls.{call_of}
-use Rattle.tc_shared.specs.Passes.{IsPassOf, Sees, Rests, Waits, IsLookRefused, IsWaitRefused, after_turn}
+use Rattle.tc_shared.specs.Passes.{IsPassOf, Sees, Rests, WaitsInTurns, IsLookRefused, IsWaitRefused, after_turn}
 
 -- a pass that has only waited since p, and so many entries that it will know at least after its next turn
 pub record Ahead (t : TurnstileState Origin) (p r : PassState Entry Origin) (m : ℕ) : Type 0 where
@@ -62,7 +62,7 @@ module _ (t : TurnstileState Origin) (p : PassState Entry Origin) where
 
   module _ (r n : PassState Entry Origin) (m : ℕ) (ahead : Ahead t p r m) where
     -- a look that took its turn
-    pub seen-waits : Sees t r n → Waits t p n
+    pub seen-waits : Sees t r n → WaitsInTurns t p n
     seen-waits sees =
         let is : n ≡ after_turn r n.seen r.mine = sees.after in
         let fewer : n.turns ≡ r.turns - 1 = ap (λ (x : PassState Entry Origin). x.turns) is in
@@ -83,11 +83,11 @@ module _ (t : TurnstileState Origin) (p : PassState Entry Origin) where
               ∙ ap (λ (k : ℕ). record p { turns = n.turns; seen = n.seen; floor = k }) (sym kept);
         }
 
-    pub refused-waits : (fault : LookFault) → IsLookRefused t r fault n → Waits t p n
+    pub refused-waits : (fault : LookFault) → IsLookRefused t r fault n → WaitsInTurns t p n
     refused-waits look.TurnsSpent refused =
         let near = ahead.near in
         let turns = ahead.turns in
-        subst (Waits t p) (sym refused.1)
+        subst (WaitsInTurns t p) (sym refused.1)
         (record { own = ahead.own; fell = ahead.fell; turns = omega (arith, near, turns); known = ahead.known; after = ahead.after })
     refused-waits look.NoMemory refused = seen-waits refused
 

@@ -70,7 +70,7 @@ abbrev pub after_turn : PassState Entry Origin → List Entry → List Entry →
 after_turn p history mine = record p { turns = p.turns - 1; seen = history; mine = mine }
 
 -- q is the centre's pass of the same agent as p, and holds no turn
-pub record Keeps (t : TurnstileState Origin) (p q : PassState Entry Origin) : Type 0 where
+pub record KeepsPass (t : TurnstileState Origin) (p q : PassState Entry Origin) : Type 0 where
   pub own : IsPassOf t q
   pub number : q.number ≡ p.number
   pub free : q.holds ≡ false
@@ -85,7 +85,7 @@ pub record Finds (t : TurnstileState Origin) (p : PassState Entry Origin) (found
 
 -- a call was served in a turn that found room: q knows its entry, and then answers to requests,
 -- behind the history that was found, and the caller is told the reply that q's history gives
-pub record Makes (t : TurnstileState Origin) (p : PassState Entry Origin) (number : ℕ) (op : Op)
+pub record CallsInTurn (t : TurnstileState Origin) (p : PassState Entry Origin) (number : ℕ) (op : Op)
     (told : Answer) (q : PassState Entry Origin) : Type 0 where
   pub found : List Entry
   pub finds : Finds t p found q
@@ -100,7 +100,7 @@ pub record Makes (t : TurnstileState Origin) (p : PassState Entry Origin) (numbe
   pub answer : IsAnswer (reply_in q.seen (call_of p.number number)) told
 
 -- what became of an earlier call was told in a turn that found room, and an entry of that appended
-pub record Tells (t : TurnstileState Origin) (p : PassState Entry Origin) (number asked : ℕ)
+pub record PollsInTurn (t : TurnstileState Origin) (p : PassState Entry Origin) (number asked : ℕ)
     (told : Poll) (q : PassState Entry Origin) : Type 0 where
   pub found : List Entry
   pub finds : Finds t p found q
@@ -175,7 +175,7 @@ pub record Rests (t : TurnstileState Origin) (p q : PassState Entry Origin) : Ty
   pub after : q ≡ record p { floor = q.floor }
 
 -- some turns were taken that added nothing, at most one more than the entries that are newly seen
-pub record Waits (t : TurnstileState Origin) (p q : PassState Entry Origin) : Type 0 where
+pub record WaitsInTurns (t : TurnstileState Origin) (p q : PassState Entry Origin) : Type 0 where
   pub own : IsPassOf t q
   pub fell : q.turns ≤ p.turns
   pub turns : p.turns + length p.seen ≤ q.turns + length q.seen + 1

@@ -6,8 +6,8 @@ ghost use Rattle.tc_model.specs.Replies.{reply_in};
 ghost use Rattle.tc_centre.specs.Owners.{owner_of};
 ghost use Rattle.tc_turn.specs.Owners.{entries_of};
 ghost use Rattle.tc_turn.specs.Passes.{end_of, new_passes, ended_count, AgreesWith};
-ghost use Rattle.tc_shared.specs.Passes.{IsPassOf, IsFreshPassOf, IsAtRest, Keeps, Makes};
-ghost use Rattle.tc_shared.specs.Passes.{Tells, Sees, Rests, Waits, IsSharedPollRefused};
+ghost use Rattle.tc_shared.specs.Passes.{IsPassOf, IsFreshPassOf, IsAtRest, KeepsPass, CallsInTurn};
+ghost use Rattle.tc_shared.specs.Passes.{PollsInTurn, Sees, Rests, WaitsInTurns, IsSharedPollRefused};
 ghost use Rattle.tc_shared.specs.Passes.{IsCallRefused, IsLookRefused, IsWaitRefused};
 ghost use Rattle.tc_shared.specs.Passes.{IsSpent, IsPaused, IsPausedOf};
 
@@ -114,10 +114,10 @@ impl SharedCentre {
         requires own { IsPassOf self.now pass.old }
         requires free { pass.old.holds ≡ false }
         requires next { All (λ e. (id_of e).number < number) pass.old.mine }
-        ensures served { IfOk result (λ told. Makes self.now pass.old number op told pass.new) }
+        ensures served { IfOk result (λ told. CallsInTurn self.now pass.old number op told pass.new) }
         ensures refused { IfErr result (λ fault. IsCallRefused self.now pass.old fault pass.new) }
         ensures spent { pass.old.turns ≡ 0 → result ≡ Err CallFault.TurnsSpent }
-        ensures kept { Keeps self.now pass.old pass.new }
+        ensures kept { KeepsPass self.now pass.old pass.new }
         ensures called { IfOk result (λ _. HasCall (call_of pass.new.number number) pass.new.seen) }
     {
         let Ok(held) = self.turnstile.enter(rt, pass) else {
@@ -155,7 +155,7 @@ impl SharedCentre {
             × (reply ≡ reply_in pass.new.seen (call_of pass.old.number number))) }
         ensures refused { IfErr result (λ fault. IsLookRefused self.now pass.old fault pass.new) }
         ensures spent { pass.old.turns ≡ 0 → result ≡ Err LookFault.TurnsSpent }
-        ensures kept { Keeps self.now pass.old pass.new }
+        ensures kept { KeepsPass self.now pass.old pass.new }
     {
         let Ok(held) = self.turnstile.enter(rt, pass) else {
             return Err(LookFault::TurnsSpent);
@@ -190,10 +190,10 @@ impl SharedCentre {
         requires called { HasCall (call_of pass.old.number number) pass.old.seen }
         ensures answered { IfOk result (λ reply.
             reply_in pass.new.seen (call_of pass.old.number number) ≡ Some reply) }
-        ensures waited { Waits self.now pass.old pass.new }
+        ensures waited { WaitsInTurns self.now pass.old pass.new }
         ensures refused { IfErr result (λ fault. IsWaitRefused pass.old number fault pass.new) }
         ensures spent { pass.old.turns ≡ 0 → result ≡ Err LookFault.TurnsSpent }
-        ensures kept { Keeps self.now pass.old pass.new }
+        ensures kept { KeepsPass self.now pass.old pass.new }
     {
         let mut heard = rung(&self.bells, pass.number());
         match self.look(rt, alloc, pass, number) {
@@ -231,11 +231,11 @@ impl SharedCentre {
         requires own { IsPassOf self.now pass.old }
         requires free { pass.old.holds ≡ false }
         requires next { All (λ e. (id_of e).number < number) pass.old.mine }
-        ensures told { IfOk result (λ told. Tells self.now pass.old number asked told pass.new) }
+        ensures told { IfOk result (λ told. PollsInTurn self.now pass.old number asked told pass.new) }
         ensures refused { IfErr result (λ fault.
             IsSharedPollRefused self.now pass.old asked fault pass.new) }
         ensures spent { pass.old.turns ≡ 0 → result ≡ Err SharedPollFault.TurnsSpent }
-        ensures kept { Keeps self.now pass.old pass.new }
+        ensures kept { KeepsPass self.now pass.old pass.new }
     {
         let Ok(held) = self.turnstile.enter(rt, pass) else {
             return Err(SharedPollFault::TurnsSpent);

@@ -9,7 +9,7 @@ use Rattle.tc_model.specs.declared.asks.Primitive.{Primitive}
 use Rattle.tc_model.specs.declared.entries.Entry.{Entry}
 use Rattle.tc_shared.specs.Passes as passes
 use Rattle.tc_turn.specs.Passes.{TurnstileState, PassState}
-use Rattle.tc_site.specs.Desks.{AgentState, IsDesk, IsSound, desk_of}
+use Rattle.tc_site.specs.Desks.{AgentState, IsDesk, IsDecidedLog, desk_of}
 use Rattle.tc_site.specs.Looking.{IsLook, IsWait, left_of, still_of}
 use Rattle.tc_site.specs.Polling.{IsPolled}
 use Rattle.tc_site.specs.Sites.{IsSite}
@@ -25,7 +25,7 @@ pub record Becomes {W : Type 0} (permits : W → ℕ → ℕ → Primitive → O
   pub agent : e.agent ≡ d.agent
   pub kept : Keeps (desk_of d) (desk_of e)
   pub turns : Turns (desk_of d) (desk_of e)
-  pub sound : IsSound permits d.site d.agent d.log → IsSound permits e.site e.agent e.log
+  pub sound : IsDecidedLog permits d.site d.agent d.log → IsDecidedLog permits e.site e.agent e.log
   pub came : Came (desk_of d) (desk_of e)
 
 -- what comes of a look, of a wait and of a poll that ended so
@@ -58,7 +58,7 @@ becomes-equal permits Turns Came {d = d} place q log {now = now} same still beco
     (subst (λ o. Becomes permits Turns Came d (after d place q log o)) (sym still) becomes)
 
 module _ {W : Type 0} {d : AgentState W} (is : IsDesk d) (site : IsSite d.site.names d.site.centres d.site.roles) {w : WaitingAt}
-    {t : TurnstileState Origin} {p q : PassState Entry Origin} (has : HasPass d w t p) (kept : passes.Keeps t p q) (log : List LogRow)
+    {t : TurnstileState Origin} {p q : PassState Entry Origin} (has : HasPass d w t p) (kept : passes.KeepsPass t p q) (log : List LogRow)
     {pending : Option WaitingAt} where
   -- after a look
   module _ (r : Result Seen DeskFault) (still : pending ≡ still_of w r) (look : IsLook t w.row p d.log r q log) where
@@ -80,7 +80,7 @@ module _ {W : Type 0} {d : AgentState W} (is : IsDesk d) (site : IsSite d.site.n
         })
 
   -- after a wait
-  module _ {A : Type 0} (r : Result A DeskFault) (left : pending ≡ left_of w r) (waits : passes.Waits t p q) (wait : IsWait w.row p d.log r q log) where
+  module _ {A : Type 0} (r : Result A DeskFault) (left : pending ≡ left_of w r) (waits : passes.WaitsInTurns t p q) (wait : IsWait w.row p d.log r q log) where
     pub waited-desk : IsDesk (after d w.centre q log pending)
     waited-desk =
         subst (λ o. IsDesk (after d w.centre q log o)) (sym left)

@@ -17,7 +17,7 @@ use Rattle.std.specs.Prelude.{Ok, Err, IfOk, IfErr, OnErr}
 use Rattle.std.specs.declared.result.Result.{Result}
 use Rattle.tc_centre.specs.declared.answers.Answer.{Answer}
 use Rattle.tc_centre.specs.declared.answers.Answer.TheVariants as answer
-use Rattle.tc_shared.specs.Passes.{IsPassOf, IsCallRefused, Makes, Sees, SeesRoom}
+use Rattle.tc_shared.specs.Passes.{IsPassOf, IsCallRefused, CallsInTurn, Sees, SeesRoom}
 use Rattle.tc_shared.specs.declared.answers.CallFault.{CallFault}
 use Rattle.tc_shared.specs.declared.answers.CallFault.TheVariants as call
 use Rattle.tc_turn.specs.Passes.{TurnstileState, PassState}
@@ -27,7 +27,7 @@ use Rattle.tc_lists.proofs.Sets.{slice_get-set_same, slice_get-set_other, slice_
 
 -- a call's entry of the next number
 module _ (t : TurnstileState Origin) (p q : PassState Entry Origin) (top : ℕ) where
-  pub grown-makes : (op : Op) (told : Answer) → Makes t p (top + 1) op told q → HasGrown top p q
+  pub grown-makes : (op : Op) (told : Answer) → CallsInTurn t p (top + 1) op told q → HasGrown top p q
   grown-makes op told makes =
       let e : Entry = Called (call_of p.number (top + 1)) op makes.result makes.items in
       let known = makes.finds.known in
@@ -57,7 +57,7 @@ module _ (t : TurnstileState Origin) (p q : PassState Entry Origin) (top : ℕ) 
     above = All-nil (λ d. top < (id_of d).number);
   }
 
-  pub grown-call : (op : Op) (r : Result Answer CallFault) → IfOk r (λ told. Makes t p (top + 1) op told q) → IfErr r (λ fault. IsCallRefused t p fault q)
+  pub grown-call : (op : Op) (r : Result Answer CallFault) → IfOk r (λ told. CallsInTurn t p (top + 1) op told q) → IfErr r (λ fault. IsCallRefused t p fault q)
       → HasGrown top p q
   grown-call op (Ok told) makes refused = grown-makes op told makes
   grown-call op (Err call.TurnsSpent) makes refused = grown-same refused.1
@@ -123,7 +123,7 @@ module _ (agent top place : ℕ) (centres : List (TurnstileState Origin)) (passe
       }
 
 module _ (t : TurnstileState Origin) (p q : PassState Entry Origin) (number : ℕ) (op : Op) where
-  pub turn-call : (r : Result Answer CallFault) → IfOk r (λ told. Makes t p number op told q) → IfErr r (λ fault. IsCallRefused t p fault q)
+  pub turn-call : (r : Result Answer CallFault) → IfOk r (λ told. CallsInTurn t p number op told q) → IfErr r (λ fault. IsCallRefused t p fault q)
       → IfOk (became_of r) (λ became. IsTurn t p number op became q)
   turn-call (Ok (answer.Replied reply)) makes refused = makes
   turn-call (Ok answer.Pending) makes refused = makes

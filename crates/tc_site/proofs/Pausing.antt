@@ -12,7 +12,7 @@ use Rattle.tc_desk.specs.Desks.{DeskState, TakesTurn}
 use Rattle.tc_model.specs.Calls.{id_of}
 use Rattle.tc_model.specs.State.{Origin}
 use Rattle.tc_model.specs.declared.entries.Entry.{Entry}
-use Rattle.tc_shared.specs.Passes.{IsPassOf, IsPaused, IsSpent, Keeps}
+use Rattle.tc_shared.specs.Passes.{IsPassOf, IsPaused, IsSpent, KeepsPass}
 use Rattle.tc_turn.specs.Passes.{TurnstileState, PassState}
 use Rattle.tc_site.specs.Desks.{AgentState, IsDesk, counts_of, desk_of, is_held, turns_of, waits_in}
 use Rattle.tc_site.specs.Pausing.{HasNoneLeft, HoldsTurn, Pauses, Resumes}
@@ -87,7 +87,7 @@ module _ {W : Type 0} (d : AgentState W) (is : IsDesk d) (site : IsSite d.site.n
   number : q.number ≡ p.number
   number = ap (λ (x : PassState Entry Origin). x.number) took.after
 
-  idle-keeps : Keeps t p idle
+  idle-keeps : KeepsPass t p idle
   idle-keeps = record {
     own = record { own = own.own; agent = own.agent; rest = own.rest; mine = own.mine };
     number = number;

@@ -11,7 +11,7 @@ use Rattle.tc_centre.specs.declared.answers.Poll.TheVariants as poll
 use Rattle.tc_desk.specs.Agreeing.{AgreesRow, HasRow, IsLastServed}
 use Rattle.tc_desk.specs.Decided.{IsDecided, IsRead}
 use Rattle.tc_desk.specs.Desks as desks
-use Rattle.tc_desk.specs.Desks.{IsAnswered, Keeps, Polls, Spends, StandsStill, TakesTurn, TakesTurnAtPending, TellsFull, replied, with_row}
+use Rattle.tc_desk.specs.Desks.{IsRowAnswered, Keeps, Polls, Spends, StandsStill, TakesTurn, TakesTurnAtPending, TellsFull, replied, with_row}
 use Rattle.tc_desk.specs.Logs.{is_served}
 use Rattle.tc_desk.specs.declared.desks.DeskFault.{DeskFault}
 use Rattle.tc_desk.specs.declared.desks.DeskFault.TheVariants as fault
@@ -33,10 +33,10 @@ use Rattle.tc_model.specs.declared.outcomes.Reply.{Reply}
 use Rattle.tc_model.proofs.Histories.{same_id-below}
 use Rattle.tc_model.proofs.NextEntry.{reply_in-other, same_id-back}
 use Rattle.tc_shared.specs.Passes as passes
-use Rattle.tc_shared.specs.Passes.{SeesFull, SeesRoom, Tells}
+use Rattle.tc_shared.specs.Passes.{SeesFull, SeesRoom, PollsInTurn}
 use Rattle.tc_turn.specs.Passes.{TurnstileState, PassState}
-use Rattle.tc_site.specs.Desks.{AgentState, IsDesk, IsSound, IsWaitingAt, Permits, counts_of, desk_of, turns_of}
-use Rattle.tc_site.specs.Looking.{HasPut, still_of}
+use Rattle.tc_site.specs.Desks.{AgentState, IsDesk, IsDecidedLog, IsWaitingAt, WardenPermits, counts_of, desk_of, turns_of}
+use Rattle.tc_site.specs.Looking.{HasRowReply, still_of}
 use Rattle.tc_site.specs.Polling.{HasToldReply, IsPolled}
 use Rattle.tc_site.specs.Sites.{IsOwnPass, IsSite, histories_of}
 use Rattle.tc_site.specs.Turns.{HasGrown}
@@ -134,7 +134,7 @@ module _ {W : Type 0} (d : AgentState W) (is : IsDesk d) (site : IsSite d.site.n
   here : slice_get d.log w.row ≡ Some waiting.row_is
   here = stands d is site w waiting
 
-  module _ (q : PassState Entry Origin) (keeps : passes.Keeps t p q) where
+  module _ (q : PassState Entry Origin) (keeps : passes.KeepsPass t p q) where
     -- the desk with this log
     abbrev now : List LogRow → Option WaitingAt → AgentState W
     now log pending = record { site = d.site; agent = d.agent; passes = set d.passes w.centre q; log = log; pending = pending; held = d.held }
@@ -146,7 +146,7 @@ module _ {W : Type 0} (d : AgentState W) (is : IsDesk d) (site : IsSite d.site.n
     seen-at = slice_get-map_at (λ (x : PassState Entry Origin). x.seen) (set d.passes w.centre q) w.centre q at-q
 
     -- a poll that was told something
-    module _ (told : Poll) (m : Tells t p (length d.log + 1) (w.row + 1) told q) where
+    module _ (told : Poll) (m : PollsInTurn t p (length d.log + 1) (w.row + 1) told q) where
       abbrev entry : Entry
       entry = Looked (call_of p.number next) asked m.reply
 
@@ -217,7 +217,7 @@ module _ {W : Type 0} (d : AgentState W) (is : IsDesk d) (site : IsSite d.site.n
       told-goes = goes-after t p q (m.found ++ entry ∷ []) (p.mine ++ entry ∷ []) m.after
 
     -- a poll that found no reply
-    module _ (m : Tells t p (length d.log + 1) (w.row + 1) poll.NotYet q) (log : List LogRow) (log-is : log ≡ with_row d.log waiting.row_is.centre None (Polled None)) where
+    module _ (m : PollsInTurn t p (length d.log + 1) (w.row + 1) poll.NotYet q) (log : List LogRow) (log-is : log ≡ with_row d.log waiting.row_is.centre None (Polled None)) where
       waiting-desk : IsDesk (now log (Some w))
       waiting-desk =
           subst (λ l. IsDesk (now l (Some w))) (sym log-is)
@@ -228,7 +228,7 @@ module _ {W : Type 0} (d : AgentState W) (is : IsDesk d) (site : IsSite d.site.n
           ap (λ h. is_none (reply_in h (call_of d.agent asked))) (get_or_from_slice_get (histories_of (set d.passes w.centre q)) w.centre q.seen [] seen-at)
           ∙ ap (λ n. is_none (reply_in q.seen (call_of n asked))) (sym own.number) ∙ ap is_none (told-reply poll.NotYet m ∙ m.poll)
 
-      waiting-tells : desks.Tells (desk_of d) None (desk_of (now log (Some w)))
+      waiting-tells : desks.HasRowOfPoll (desk_of d) None (desk_of (now log (Some w)))
       waiting-tells = record {
         row = waiting.row_is;
         is = pending-row d is site w waiting;
@@ -259,13 +259,13 @@ module _ {W : Type 0} (d : AgentState W) (is : IsDesk d) (site : IsSite d.site.n
       abbrev waiting1 : IsWaitingAt d.site.names (d.log ++ last ∷ []) w
       waiting1 = waits-behind d.site.names d.log w last waiting refl
 
-      kept1 : passes.Keeps t q q
+      kept1 : passes.KeepsPass t q q
       kept1 = record { own = keeps.own; number = refl; free = keeps.free }
 
       reply-at : reply_in q.seen (call_of d.agent asked) ≡ Some m.reply
       reply-at = ap (λ n. reply_in q.seen (call_of n asked)) (sym own.number) ∙ told-reply found m.tells ∙ m.tells.poll.0
 
-      has : HasPut w.row d1.log q log
+      has : HasRowReply w.row d1.log q log
       has = record {
         reply = m.reply;
         told = ap (λ n. reply_in q.seen (call_of n asked)) (keeps.number ∙ own.number) ∙ reply-at;
@@ -283,10 +283,10 @@ module _ {W : Type 0} (d : AgentState W) (is : IsDesk d) (site : IsSite d.site.n
           answered-read d1 is1 site w waiting1 t q at-t at-q q kept1 keeps.free (seen-same q q refl) log has
           (read-polled d.log centre (Polled (Some m.again)) read)
 
-      found-sound : (permits : W → ℕ → ℕ → Primitive → Option ℕ) → IsSound permits d.site d.agent d.log → IsSound permits d.site d.agent log
+      found-sound : (permits : W → ℕ → ℕ → Primitive → Option ℕ) → IsDecidedLog permits d.site d.agent d.log → IsDecidedLog permits d.site d.agent log
       found-sound permits sound =
           answered-sound d1 is1 site w waiting1 t q at-t at-q q kept1 keeps.free (seen-same q q refl) log has permits
-          (λ role at. decided-polled d.log centre (Polled (Some m.again)) (Permits permits d.site.warden role) d.site.names (sound role at))
+          (λ role at. decided-polled d.log centre (Polled (Some m.again)) (WardenPermits permits d.site.warden role) d.site.names (sound role at))
 
       abbrev middle : List LogRow
       middle = waiting.front ++ replied waiting.row_is m.reply ∷ waiting.back
@@ -303,7 +303,7 @@ module _ {W : Type 0} (d : AgentState W) (is : IsDesk d) (site : IsSite d.site.n
           ∙ sym (append_assoc waiting.front (replied waiting.row_is m.reply ∷ waiting.back) (last ∷ []))
           ∙ ap (λ n. middle ++ row-at-n n m.again ∷ []) middle-count ∙ ap (λ r. middle ++ row-at-n (length middle) r ∷ []) m.tells.poll.1
 
-      found-answered : IsAnswered d.log m.reply middle
+      found-answered : IsRowAnswered d.log m.reply middle
       found-answered =
           let row = row-at d1 is1 site w waiting1 t q at-t at-q (histories_of (set d.passes w.centre q)) q.seen is1.agrees seen-at in
           record {
@@ -320,7 +320,7 @@ module _ {W : Type 0} (d : AgentState W) (is : IsDesk d) (site : IsSite d.site.n
             fits = reply-fits_ask t.origin q.seen (call_of d.agent asked) row.0.ask keeps.own.rest.run row.0.served m.reply reply-at;
           }
 
-      found-tells : desks.Tells (desk_of d) (Some m.reply) (desk_of (now log None))
+      found-tells : desks.HasRowOfPoll (desk_of d) (Some m.reply) (desk_of (now log None))
       found-tells = record {
         row = waiting.row_is;
         is = pending-row d is site w waiting;
@@ -435,18 +435,18 @@ module _ {W : Type 0} (d : AgentState W) (is : IsDesk d) (site : IsSite d.site.n
     polled-spends log r came = spends-gone d w.centre p q at-p log (still_of w r) d refl (polled-goes log r came)
 
     decided-one : (permits : W → ℕ → ℕ → Primitive → Option ℕ) (result : LogResult) (log : List LogRow) → log ≡ with_row d.log centre None result
-        → IsSound permits d.site d.agent d.log → IsSound permits d.site d.agent log
+        → IsDecidedLog permits d.site d.agent d.log → IsDecidedLog permits d.site d.agent log
     decided-one permits result log log-is sound =
-        subst (IsSound permits d.site d.agent) (sym log-is)
-        (λ role at. decided-polled d.log centre result (Permits permits d.site.warden role) d.site.names (sound role at))
+        subst (IsDecidedLog permits d.site d.agent) (sym log-is)
+        (λ role at. decided-polled d.log centre result (WardenPermits permits d.site.warden role) d.site.names (sound role at))
 
     pub polled-sound : (permits : W → ℕ → ℕ → Primitive → Option ℕ) (log : List LogRow) (r : Result Seen DeskFault)
-        → IsPolled t w.row p waiting.row_is.centre d.log r q log → IsSound permits d.site d.agent d.log → IsSound permits d.site d.agent log
+        → IsPolled t w.row p waiting.row_is.centre d.log r q log → IsDecidedLog permits d.site d.agent d.log → IsDecidedLog permits d.site d.agent log
     polled-sound permits log (Ok seen.Answered) came sound = found-sound log came permits sound
     polled-sound permits log (Ok seen.StillPending) came sound = decided-one permits (Polled None) log came.1 sound
     polled-sound permits log (Err (fault.Full weight many)) came sound = decided-one permits (Refused (refusal.Full weight many)) log came.1 sound
-    polled-sound permits log (Err fault.TurnsSpent) came sound = subst (IsSound permits d.site d.agent) (sym came.1) sound
-    polled-sound permits log (Err fault.NoMemory) came sound = subst (IsSound permits d.site d.agent) (sym came.1) sound
+    polled-sound permits log (Err fault.TurnsSpent) came sound = subst (IsDecidedLog permits d.site d.agent) (sym came.1) sound
+    polled-sound permits log (Err fault.NoMemory) came sound = subst (IsDecidedLog permits d.site d.agent) (sym came.1) sound
     polled-sound permits log (Err fault.Idle) came sound = absurd came
 
     pub polled-became : (log : List LogRow) (r : Result Seen DeskFault) → d.pending ≡ Some w → IsPolled t w.row p waiting.row_is.centre d.log r q log

@@ -34,8 +34,8 @@ use Rattle.tc_model.specs.declared.outcomes.Reply.TheVariants as reply
 use Rattle.tc_shared.specs.Passes as passes
 use Rattle.tc_shared.specs.Passes.{IsSpent, Sees}
 use Rattle.tc_turn.specs.Passes.{TurnstileState, PassState}
-use Rattle.tc_site.specs.Desks.{AgentState, IsDesk, IsSound, IsWaitingAt, Permits, WaitsAt, desk_of, is_held}
-use Rattle.tc_site.specs.Looking.{HasPut, HasWaitedInVain, IsLook, IsWait, MayLook, left_of, still_of}
+use Rattle.tc_site.specs.Desks.{AgentState, IsDesk, IsDecidedLog, IsWaitingAt, WardenPermits, WaitsAt, desk_of, is_held}
+use Rattle.tc_site.specs.Looking.{HasRowReply, HasWaitedInVain, IsLook, IsWait, MayLook, left_of, still_of}
 use Rattle.tc_site.specs.Sites.{AgreesSeen, ArePasses, IsOwnPass, IsSite, histories_of, origins_of}
 use Rattle.tc_site.specs.Turns.{HasGrown}
 use Rattle.tc_site.specs.declared.waiting.WaitingAt.{WaitingAt}
@@ -153,7 +153,7 @@ module _ {W : Type 0} (d : AgentState W) (is : IsDesk d) (site : IsSite d.site.n
         } in
         subst (λ n. HasCall (call_of n (w.row + 1)) p.seen) (sym own-pass.number) has
 
-    module _ (q : PassState Entry Origin) (kept : passes.Keeps t p q) (held : p.holds ≡ false) (more : HasSeen p q) where
+    module _ (q : PassState Entry Origin) (kept : passes.KeepsPass t p q) (held : p.holds ≡ false) (more : HasSeen p q) where
       abbrev later : List (PassState Entry Origin)
       later = set d.passes w.centre q
 
@@ -271,7 +271,7 @@ module _ {W : Type 0} (d : AgentState W) (is : IsDesk d) (site : IsSite d.site.n
           }
 
       -- the pending row has got its reply
-      module _ (log : List LogRow) (has : HasPut w.row d.log q log) where
+      module _ (log : List LogRow) (has : HasRowReply w.row d.log q log) where
         abbrev answered : List LogRow
         answered = waiting.front ++ replied waiting.row_is has.reply ∷ waiting.back
 
@@ -313,11 +313,11 @@ module _ {W : Type 0} (d : AgentState W) (is : IsDesk d) (site : IsSite d.site.n
             subst IsRead (sym log-is)
             (put-read waiting.front waiting.row_is waiting.back has.reply waiting.pending (subst IsRead waiting.from read))
 
-        pub answered-sound : (permits : W → ℕ → ℕ → Primitive → Option ℕ) → IsSound permits d.site d.agent d.log → IsSound permits d.site d.agent log
+        pub answered-sound : (permits : W → ℕ → ℕ → Primitive → Option ℕ) → IsDecidedLog permits d.site d.agent d.log → IsDecidedLog permits d.site d.agent log
         answered-sound permits sound role at =
-            subst (IsDecided (Permits permits d.site.warden role) d.site.names) (sym log-is)
-            (put-decided waiting.front waiting.row_is waiting.back has.reply waiting.pending (Permits permits d.site.warden role) d.site.names
-            (subst (IsDecided (Permits permits d.site.warden role) d.site.names) waiting.from (sound role at)))
+            subst (IsDecided (WardenPermits permits d.site.warden role) d.site.names) (sym log-is)
+            (put-decided waiting.front waiting.row_is waiting.back has.reply waiting.pending (WardenPermits permits d.site.warden role) d.site.names
+            (subst (IsDecided (WardenPermits permits d.site.warden role) d.site.names) waiting.from (sound role at)))
 
         answered-gets : Gets (desk_of d) (desk_of (with_log log None))
         answered-gets = record {
@@ -339,7 +339,7 @@ module _ {W : Type 0} (d : AgentState W) (is : IsDesk d) (site : IsSite d.site.n
 
   -- a look
   module _ (t : TurnstileState Origin) (p q : PassState Entry Origin) (at-t : slice_get d.site.centres w.centre ≡ Some t)
-      (at-p : slice_get d.passes w.centre ≡ Some p) (kept : passes.Keeps t p q) (held : p.holds ≡ false) where
+      (at-p : slice_get d.passes w.centre ≡ Some p) (kept : passes.KeepsPass t p q) (held : p.holds ≡ false) where
     -- the desk after a look that came to this
     abbrev pub looked : List LogRow → Result Seen DeskFault → AgentState W
     looked log r = record { site = d.site; agent = d.agent; passes = set d.passes w.centre q; log = log; pending = still_of w r; held = d.held }
@@ -377,12 +377,12 @@ module _ {W : Type 0} (d : AgentState W) (is : IsDesk d) (site : IsSite d.site.n
     look-keeps log (Err (fault.Full weight pending)) free look = absurd look
 
     pub look-sound : (permits : W → ℕ → ℕ → Primitive → Option ℕ) (log : List LogRow) (r : Result Seen DeskFault) → IsLook t w.row p d.log r q log
-        → IsSound permits d.site d.agent d.log → IsSound permits d.site d.agent log
+        → IsDecidedLog permits d.site d.agent d.log → IsDecidedLog permits d.site d.agent log
     look-sound permits log (Ok seen.Answered) look sound =
         answered-sound t p at-t at-p q kept held (seen-sees t p q look.0) log look.1 permits sound
-    look-sound permits log (Ok seen.StillPending) look sound = subst (IsSound permits d.site d.agent) (sym look.1.same) sound
-    look-sound permits log (Err fault.TurnsSpent) look sound = subst (IsSound permits d.site d.agent) (sym look.1) sound
-    look-sound permits log (Err fault.NoMemory) look sound = subst (IsSound permits d.site d.agent) (sym look.1) sound
+    look-sound permits log (Ok seen.StillPending) look sound = subst (IsDecidedLog permits d.site d.agent) (sym look.1.same) sound
+    look-sound permits log (Err fault.TurnsSpent) look sound = subst (IsDecidedLog permits d.site d.agent) (sym look.1) sound
+    look-sound permits log (Err fault.NoMemory) look sound = subst (IsDecidedLog permits d.site d.agent) (sym look.1) sound
     look-sound permits log (Err fault.Idle) look sound = absurd look
     look-sound permits log (Err (fault.Full weight pending)) look sound = absurd look
 
@@ -455,7 +455,7 @@ module _ {W : Type 0} (d : AgentState W) (is : IsDesk d) (site : IsSite d.site.n
     look-became log (Err (fault.Full weight pending)) at look = absurd look
 
     -- the desk after a wait that came to this
-    module _ (waits : passes.Waits t p q) where
+    module _ (waits : passes.WaitsInTurns t p q) where
       more : HasSeen p q
       more = record { known = waits.known; mine = ap (λ (x : PassState Entry Origin). x.mine) waits.after }
 
@@ -480,10 +480,10 @@ module _ {W : Type 0} (d : AgentState W) (is : IsDesk d) (site : IsSite d.site.n
       wait-keeps log r free wait pending = later-keeps t p at-t at-p q kept held more free log pending (wait-read log r wait)
 
       pub wait-sound : {A : Type 0} (permits : W → ℕ → ℕ → Primitive → Option ℕ) (log : List LogRow) (r : Result A DeskFault)
-          → IsWait w.row p d.log r q log → IsSound permits d.site d.agent d.log → IsSound permits d.site d.agent log
+          → IsWait w.row p d.log r q log → IsDecidedLog permits d.site d.agent d.log → IsDecidedLog permits d.site d.agent log
       wait-sound permits log (Ok done) wait sound = answered-sound t p at-t at-p q kept held more log wait permits sound
-      wait-sound permits log (Err fault.TurnsSpent) wait sound = subst (IsSound permits d.site d.agent) (sym wait.log_same) sound
-      wait-sound permits log (Err fault.NoMemory) wait sound = subst (IsSound permits d.site d.agent) (sym wait) sound
+      wait-sound permits log (Err fault.TurnsSpent) wait sound = subst (IsDecidedLog permits d.site d.agent) (sym wait.log_same) sound
+      wait-sound permits log (Err fault.NoMemory) wait sound = subst (IsDecidedLog permits d.site d.agent) (sym wait) sound
       wait-sound permits log (Err fault.Idle) wait sound = absurd wait
       wait-sound permits log (Err (fault.Full weight pending)) wait sound = absurd wait
 

@@ -39,7 +39,7 @@ use Rattle.tc_shared.specs.Passes.{after_turn}
 use Rattle.tc_shared.specs.Passes as pass
 use Rattle.tc_turn.specs.Passes.{TurnstileState, PassState}
 use Rattle.tc_site.specs.Desks as site
-use Rattle.tc_site.specs.Desks.{AgentState, IsDesk, Permits, WaitsAt, counts_of, desk_of, turns_of, waits_in}
+use Rattle.tc_site.specs.Desks.{AgentState, IsDesk, WardenPermits, WaitsAt, counts_of, desk_of, turns_of, waits_in}
 use Rattle.tc_site.specs.Judging.{IsAllowed, IsRefusedFor}
 use Rattle.tc_site.specs.Sites.{IsSite, histories_of}
 use Rattle.tc_site.specs.Turns.{HasGrown, IsTurn, IsTurnRefused, told_of, waiting_of}
@@ -113,7 +113,7 @@ module _ (t : TurnstileState Origin) (p q : PassState Entry Origin) where
   goes-refused (refusal.BadSpec bad) turn = absurd turn
   goes-refused refusal.NoMemory turn = absurd turn
 
-  goes-makes : (number : ℕ) (op : Op) (told : Answer) → pass.Makes t p number op told q → Goes p q
+  goes-makes : (number : ℕ) (op : Op) (told : Answer) → pass.CallsInTurn t p number op told q → Goes p q
   goes-makes number op told makes =
       goes-after (makes.found ++ Called (call_of p.number number) op makes.result makes.items ∷ makes.gaves)
       (p.mine ++ Called (call_of p.number number) op makes.result makes.items ∷ []) makes.after
@@ -274,7 +274,7 @@ module _ {W : Type 0} (d : AgentState W) (place : ℕ) (p q : PassState Entry Or
 module _ {W : Type 0} (permits : W → ℕ → ℕ → Primitive → Option ℕ) (d : AgentState W) (is : IsDesk d) (waits : Bool) (waits-is : waits ≡ is_some d.pending)
     (centre : List ℕ) (ask : Ask) (place : ℕ) (allowed : IsAllowed permits d.site d.agent waits centre ask place) (op : Op) (sound : OpOf ask (Sound op))
     (t : TurnstileState Origin) (p q : PassState Entry Origin) (at-t : slice_get d.site.centres place ≡ Some t) (at-p : slice_get d.passes place ≡ Some p)
-    (kept : pass.Keeps t p q) where
+    (kept : pass.KeepsPass t p q) where
   abbrev then : LogResult → AgentState W
   then became = record {
     site = d.site;
@@ -305,7 +305,7 @@ module _ {W : Type 0} (permits : W → ℕ → ℕ → Primitive → Option ℕ)
       takes-gone d place p q at-p (with_row d.log centre (Some ask) became) (waiting_of became (length d.log) place) centre allowed.named left
       (ap (λ (x : PassState Entry Origin). x.turns) after)
 
-  called : (told : Answer) → pass.Makes t p number op told q → IsCalled q.seen (call_of p.number number) ask
+  called : (told : Answer) → pass.CallsInTurn t p number op told q → IsCalled q.seen (call_of p.number number) ask
   called told makes =
       let e : Entry = Called (call_of p.number number) op makes.result makes.items in
       let seen : q.seen ≡ makes.found ++ e ∷ makes.gaves = ap (λ (x : PassState Entry Origin). x.seen) makes.after in
@@ -330,7 +330,7 @@ module _ {W : Type 0} (permits : W → ℕ → ℕ → Primitive → Option ℕ)
       subst (λ es. is_none (reply_in es (call_of d.agent number)) ≡ true) (sym there)
       (subst (λ n. is_none (reply_in q.seen (call_of n number)) ≡ true) own (ap is_none none))
 
-  makes-made : (told : Answer) (how : Served) (became : LogResult) → pass.Makes t p number op told q → FitsAsk ask became
+  makes-made : (told : Answer) (how : Served) (became : LogResult) → pass.CallsInTurn t p number op told q → FitsAsk ask became
       → IsServedBy how became → waits_in (histories_of (set d.passes place q)) d.agent (waiting_of became (length d.log) place) ≡ is_pending became
       → Makes (desk_of d) centre ask how (desk_of (then became))
   makes-made told how became makes fits by waits' = record {
@@ -422,17 +422,17 @@ module _ {W : Type 0} (permits : W → ℕ → ℕ → Primitive → Option ℕ)
   -- the log stays decided
   pub decides : (became : LogResult) (row : ℕ) (log : List LogRow) → AllPairs ◌≢◌ d.site.names → row ≡ length d.log
       → log ≡ with_row d.log centre (Some ask) became → IsTurn t p (row + 1) op became q
-      → site.IsSound permits d.site d.agent d.log → site.IsSound permits d.site d.agent log
+      → site.IsDecidedLog permits d.site d.agent d.log → site.IsDecidedLog permits d.site d.agent log
   decides became row log differ row-is log-is turn decided role has =
       let role-is : allowed.role ≡ role = same_Some allowed.role role (sym allowed.has ∙ has) in
-      let may : Permits permits d.site.warden role place (primitive_of ask) =
-      subst (λ r. Permits permits d.site.warden r place (primitive_of ask)) role-is allowed.may in
-      subst (IsDecided (Permits permits d.site.warden role) d.site.names) (sym log-is)
-      (decided-row d.log centre ask became (Permits permits d.site.warden role) d.site.names (read-turn t p q (row + 1) ask op became sound turn)
+      let may : WardenPermits permits d.site.warden role place (primitive_of ask) =
+      subst (λ r. WardenPermits permits d.site.warden r place (primitive_of ask)) role-is allowed.may in
+      subst (IsDecided (WardenPermits permits d.site.warden role) d.site.names) (sym log-is)
+      (decided-row d.log centre ask became (WardenPermits permits d.site.warden role) d.site.names (read-turn t p q (row + 1) ask op became sound turn)
       (λ place' named.
-      subst (λ n. IsDecidedAs (Permits permits d.site.warden role n (primitive_of ask)) became)
+      subst (λ n. IsDecidedAs (WardenPermits permits d.site.warden role n (primitive_of ask)) became)
       (AllPairs-one_place d.site.names place place' centre differ allowed.named named)
-      (decided-turn t p q (Permits permits d.site.warden role place (primitive_of ask)) (row + 1) op became may turn))
+      (decided-turn t p q (WardenPermits permits d.site.warden role place (primitive_of ask)) (row + 1) op became may turn))
       (decided role has))
 
 -- what a desk tells of a call that was refused before a turn
@@ -499,7 +499,7 @@ module _ {W : Type 0} (permits : W → ℕ → ℕ → Primitive → Option ℕ)
 
   module _ (differ : AllPairs ◌≢◌ d.site.names) (role place : ℕ) (has : slice_get d.site.roles d.agent ≡ Some role) (named : slice_get d.site.names place ≡ Some centre) where
     abbrev May : ℕ → ℕ → Type 0
-    May r n = Permits permits d.site.warden r n (primitive_of ask)
+    May r n = WardenPermits permits d.site.warden r n (primitive_of ask)
 
     moved : (r n : ℕ) → slice_get d.site.roles d.agent ≡ Some r → slice_get d.site.names n ≡ Some centre → May r n → May role place
     moved r n has' named' may =
@@ -544,10 +544,10 @@ module _ {W : Type 0} (permits : W → ℕ → ℕ → Primitive → Option ℕ)
     spends-refused =
         subst (λ x. Spends 1 (desk_of x) (desk_of (now log))) same (record { wide = refl; fell = λ k. omega arith; most = λ k. omega arith })
 
-    pub decides-refused : AllPairs ◌≢◌ d.site.names → site.IsSound permits d.site d.agent d.log → site.IsSound permits d.site d.agent log
+    pub decides-refused : AllPairs ◌≢◌ d.site.names → site.IsDecidedLog permits d.site d.agent d.log → site.IsDecidedLog permits d.site d.agent log
     decides-refused differ decided role has =
-        subst (IsDecided (Permits permits d.site.warden role) d.site.names) (sym log-is)
-        (decided-row d.log centre ask (Refused why) (Permits permits d.site.warden role) d.site.names (read-refused why other refused)
+        subst (IsDecided (WardenPermits permits d.site.warden role) d.site.names) (sym log-is)
+        (decided-row d.log centre ask (Refused why) (WardenPermits permits d.site.warden role) d.site.names (read-refused why other refused)
         (λ place named. decided-refused differ role place has named why other refused) (decided role has))
 
     pub refuses : Refuses (desk_of s) centre ask why (desk_of (record { site = d.site; agent = d.agent; passes = d.passes; log = log; pending = d.pending; held = d.held }))

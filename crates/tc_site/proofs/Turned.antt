@@ -42,7 +42,7 @@ use Rattle.tc_model.specs.declared.outcomes.Reply.{Reply}
 use Rattle.tc_model.specs.declared.outcomes.Reply.TheVariants as reply
 use Rattle.tc_model.proofs.Histories.{reply_in-IsPrefix}
 use Rattle.tc_model.proofs.NextEntry.{reply_in-called}
-use Rattle.tc_shared.specs.Passes.{Keeps, Makes, SeesFull, SeesRoom}
+use Rattle.tc_shared.specs.Passes.{KeepsPass, CallsInTurn, SeesFull, SeesRoom}
 use Rattle.tc_turn.specs.Passes.{TurnstileState, PassState}
 use Rattle.tc_site.specs.Desks.{AgentState, IsDesk, IsWaitingAt, WaitsAt, is_held}
 use Rattle.tc_site.specs.Judging.{IsRefusedFor}
@@ -121,7 +121,7 @@ pending-outcome (outcome.Spec text) none = absurd (none (reply.Spec text) refl)
 pending-outcome (outcome.Over phase tuple) none = absurd (none (reply.OverBudget phase) refl)
 
 -- a call that was made
-module _ (t : TurnstileState Origin) (p q : PassState Entry Origin) (number : ℕ) (op : Op) (told : Answer) (m : Makes t p number op told q) where
+module _ (t : TurnstileState Origin) (p q : PassState Entry Origin) (number : ℕ) (op : Op) (told : Answer) (m : CallsInTurn t p number op told q) where
   abbrev entry : Entry
   entry = Called (call_of p.number number) op m.result m.items
 
@@ -178,7 +178,7 @@ module _ {W : Type 0} (d : AgentState W) (is : IsDesk d) (site : IsSite d.site.n
       (λ e h. let within = slice_get_within d.log h.k h.row h.stands in let counted = h.counted in omega (arith, within, counted, next))
       p.mine mine-rows
 
-  module _ (q : PassState Entry Origin) (keeps : Keeps t p q) where
+  module _ (q : PassState Entry Origin) (keeps : KeepsPass t p q) where
     abbrev passes' : List (PassState Entry Origin)
     passes' = set d.passes place q
 
@@ -300,10 +300,10 @@ module _ {W : Type 0} (d : AgentState W) (is : IsDesk d) (site : IsSite d.site.n
       id-is : call_of p.number next ≡ call_of d.agent next
       id-is = ap (λ n. call_of n next) own-pass.number
 
-      call-stands : (told : Answer) (m : Makes t p next op told q) → Contains q.seen (Called (call_of d.agent next) op m.result m.items)
+      call-stands : (told : Answer) (m : CallsInTurn t p next op told q) → Contains q.seen (Called (call_of d.agent next) op m.result m.items)
       call-stands told m = subst (λ (i : CallId). Contains q.seen (Called i op m.result m.items)) id-is (makes-stands t p q next op told m)
 
-      called : (told : Answer) → Makes t p next op told q → IsCalled q.seen (call_of d.agent next) ask
+      called : (told : Answer) → CallsInTurn t p next op told q → IsCalled q.seen (call_of d.agent next) ask
       called told m = record {
         op = op;
         is = sound;
@@ -359,7 +359,7 @@ module _ {W : Type 0} (d : AgentState W) (is : IsDesk d) (site : IsSite d.site.n
       row-agrees (Refused why) turn = refused-agrees why turn
       row-agrees (Polled told) turn = absurd turn
 
-      made-rows : (became : LogResult) (told : Answer) (m : Makes t p next op told q) → (let e : Entry = Called (call_of p.number next) op m.result m.items in HasRow (d.log ++ row-of became ∷ []) centre e)
+      made-rows : (became : LogResult) (told : Answer) (m : CallsInTurn t p next op told q) → (let e : Entry = Called (call_of p.number next) op m.result m.items in HasRow (d.log ++ row-of became ∷ []) centre e)
           → All (HasRow (d.log ++ row-of became ∷ []) centre) q.mine
       made-rows became told m has =
           rows-made (row-of became) (Called (call_of p.number next) op m.result m.items) (ap (λ (x : PassState Entry Origin). x.mine) m.after) has

@@ -86,15 +86,15 @@ pub record IsDesk {W : Type 0} (d : AgentState W) : Type 0 where
   pub waits : WaitsAt d.site.names d.log d.pending
 
 -- the warden permits the role to use the primitive on the centre
-abbrev pub Permits : {W : Type 0} → (W → ℕ → ℕ → Primitive → Option ℕ) → W → ℕ → ℕ → Primitive → Type 0
-Permits permits warden role place primitive =
+abbrev pub WardenPermits : {W : Type 0} → (W → ℕ → ℕ → Primitive → Option ℕ) → W → ℕ → ℕ → Primitive → Type 0
+WardenPermits permits warden role place primitive =
     (number : ℕ) × (permits warden role place primitive ≡ Some number)
 
 -- the log is decided by the site's warden, for the agent's role
-abbrev pub IsSound : {W : Type 0} → (W → ℕ → ℕ → Primitive → Option ℕ) → SiteState W → ℕ → List LogRow
+abbrev pub IsDecidedLog : {W : Type 0} → (W → ℕ → ℕ → Primitive → Option ℕ) → SiteState W → ℕ → List LogRow
     → Type 0
-IsSound permits s agent log = (role : ℕ) → slice_get s.roles agent ≡ Some role
-    → IsDecided (Permits permits s.warden role) s.names log
+IsDecidedLog permits s agent log = (role : ℕ) → slice_get s.roles agent ≡ Some role
+    → IsDecided (WardenPermits permits s.warden role) s.names log
 
 -- a desk that has made no call: all turns of its passes are left
 pub record IsNewDesk (names : List (List ℕ)) (d : DeskState) : Type 0 where

@@ -8,7 +8,7 @@ use Rattle.tc_desk.specs.declared.rows.Refusal.TheVariants as refusal
 use Rattle.tc_model.specs.Asks.{primitive_of}
 use Rattle.tc_model.specs.declared.asks.Ask.{Ask}
 use Rattle.tc_model.specs.declared.asks.Primitive.{Primitive}
-use Rattle.tc_site.specs.Desks.{Permits}
+use Rattle.tc_site.specs.Desks.{WardenPermits}
 use Rattle.tc_site.specs.Sites.{SiteState}
 
 -- why an ask is refused whose operand has this fault
@@ -26,7 +26,7 @@ module _ {W : Type 0} (permits : W → ℕ → ℕ → Primitive → Option ℕ)
     pub idle : waits ≡ false
     pub role : ℕ
     pub has : slice_get s.roles agent ≡ Some role
-    pub may : Permits permits s.warden role place (primitive_of ask)
+    pub may : WardenPermits permits s.warden role place (primitive_of ask)
 
   -- nothing permits it
   pub record IsDenied (s : SiteState W) (agent : ℕ) (waits : Bool) (centre : List ℕ) (ask : Ask)
@@ -36,7 +36,7 @@ module _ {W : Type 0} (permits : W → ℕ → ℕ → Primitive → Option ℕ)
     pub idle : waits ≡ false
     pub role : ℕ
     pub has : slice_get s.roles agent ≡ Some role
-    pub may_not : Permits permits s.warden role place (primitive_of ask) → ⊥
+    pub may_not : WardenPermits permits s.warden role place (primitive_of ask) → ⊥
 
   -- the ask may be made, but its operand isn't one
   pub record IsFaulty (s : SiteState W) (agent : ℕ) (waits : Bool) (centre : List ℕ) (ask : Ask)

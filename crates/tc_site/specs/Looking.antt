@@ -31,7 +31,7 @@ IsPut log place reply after = (front : List LogRow) (row : LogRow) (back : List 
     → log ≡ front ++ row ∷ back → place ≡ length front → after ≡ front ++ replied row reply ∷ back
 
 -- the call of the row at a place has a reply in what the pass q has seen, and its row has got it
-pub record HasPut (place : ℕ) (log : List LogRow) (q : PassState Entry Origin) (after : List LogRow)
+pub record HasRowReply (place : ℕ) (log : List LogRow) (q : PassState Entry Origin) (after : List LogRow)
     : Type 0 where
   pub reply : Reply
   pub told : reply_in q.seen (call_of q.number (place + 1)) ≡ Some reply
@@ -46,7 +46,7 @@ pub record HasNone (place : ℕ) (log : List LogRow) (q : PassState Entry Origin
 -- what came of one look
 abbrev pub IsLook : TurnstileState Origin → ℕ → PassState Entry Origin → List LogRow → Result Seen DeskFault
     → PassState Entry Origin → List LogRow → Type 0
-IsLook t place p log (Ok seen.Answered) q after = Sees t p q × HasPut place log q after
+IsLook t place p log (Ok seen.Answered) q after = Sees t p q × HasRowReply place log q after
 IsLook t place p log (Ok seen.StillPending) q after = Sees t p q × HasNone place log q after
 IsLook t place p log (Err fault.TurnsSpent) q after = IsSpent p q × (after ≡ log)
 IsLook t place p log (Err fault.NoMemory) q after = Sees t p q × (after ≡ log)
@@ -70,7 +70,7 @@ pub record HasWaitedInVain (place : ℕ) (p : PassState Entry Origin) (log : Lis
 -- what came of a wait
 abbrev pub IsWait : {A : Type 0} → ℕ → PassState Entry Origin → List LogRow → Result A DeskFault
     → PassState Entry Origin → List LogRow → Type 0
-IsWait place p log (Ok done) q after = HasPut place log q after
+IsWait place p log (Ok done) q after = HasRowReply place log q after
 IsWait place p log (Err fault.TurnsSpent) q after = HasWaitedInVain place p log q after
 IsWait place p log (Err fault.NoMemory) q after = after ≡ log
 IsWait place p log (Err fault.Idle) q after = ⊥

@@ -13,7 +13,7 @@ use Rattle.tc_desk.specs.declared.rows.Refusal.TheVariants as refusal
 use Rattle.tc_model.specs.State.{Origin}
 use Rattle.tc_model.specs.declared.entries.Entry.{Entry}
 use Rattle.tc_model.specs.declared.outcomes.Reply.{Reply}
-use Rattle.tc_shared.specs.Passes.{IsSpent, SeesFull, SeesRoom, Tells}
+use Rattle.tc_shared.specs.Passes.{IsSpent, SeesFull, SeesRoom, PollsInTurn}
 use Rattle.tc_turn.specs.Passes.{TurnstileState, PassState}
 use Rattle.tc_site.specs.Looking.{IsPut}
 
@@ -24,7 +24,7 @@ pub record HasToldReply (t : TurnstileState Origin) (place : ℕ) (p : PassState
     : Type 0 where
   pub reply : Reply
   pub again : Reply
-  pub tells : Tells t p (length log + 1) (place + 1) (poll.Answered reply again) q
+  pub tells : PollsInTurn t p (length log + 1) (place + 1) (poll.Answered reply again) q
   pub put : IsPut (with_row log centre None (Polled (Some again))) place reply after
 
 -- what came of one poll; where memory ran out before its turn, the pass is as it was, and in its turn, that
@@ -33,7 +33,7 @@ abbrev pub IsPolled : TurnstileState Origin → ℕ → PassState Entry Origin �
     → Result Seen DeskFault → PassState Entry Origin → List LogRow → Type 0
 IsPolled t place p centre log (Ok seen.Answered) q after = HasToldReply t place p centre log q after
 IsPolled t place p centre log (Ok seen.StillPending) q after =
-    Tells t p (length log + 1) (place + 1) poll.NotYet q × (after ≡ with_row log centre None (Polled None))
+    PollsInTurn t p (length log + 1) (place + 1) poll.NotYet q × (after ≡ with_row log centre None (Polled None))
 IsPolled t place p centre log (Err (fault.Full weight pending)) q after =
     SeesFull t p weight pending q × (after ≡ with_row log centre None (Refused (refusal.Full weight pending)))
 IsPolled t place p centre log (Err fault.TurnsSpent) q after = IsSpent p q × (after ≡ log)

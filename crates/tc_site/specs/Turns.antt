@@ -14,7 +14,7 @@ use Rattle.tc_model.specs.State.{Origin}
 use Rattle.tc_model.specs.declared.calls.Op.{Op}
 use Rattle.tc_model.specs.declared.entries.Entry.{Entry}
 use Rattle.tc_model.specs.Calls.{id_of}
-use Rattle.tc_shared.specs.Passes.{Makes, SeesFull, IsSpent}
+use Rattle.tc_shared.specs.Passes.{CallsInTurn, SeesFull, IsSpent}
 use Rattle.tc_shared.specs.declared.answers.CallFault.{CallFault}
 use Rattle.tc_shared.specs.declared.answers.CallFault.TheVariants as call
 use Rattle.tc_turn.specs.Passes.{TurnstileState, PassState}
@@ -36,8 +36,8 @@ IsTurnRefused t p refusal.NoMemory q = ⊥
 -- what the call of this number has come to
 abbrev pub IsTurn : TurnstileState Origin → PassState Entry Origin → ℕ → Op → LogResult
     → PassState Entry Origin → Type 0
-IsTurn t p number op (Replied reply) q = Makes t p number op (answer.Replied reply) q
-IsTurn t p number op Pending q = Makes t p number op answer.Pending q
+IsTurn t p number op (Replied reply) q = CallsInTurn t p number op (answer.Replied reply) q
+IsTurn t p number op Pending q = CallsInTurn t p number op answer.Pending q
 IsTurn t p number op (Refused why) q = IsTurnRefused t p why q
 IsTurn t p number op (Polled told) q = ⊥
 

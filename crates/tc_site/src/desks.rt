@@ -2,7 +2,7 @@
 ghost use Rattle.std.specs.Prelude.{◌≡◌, ◌≤◌, ◌<◌, true, ℕ, length, slice_index, IfOk, OnErr, MatchResult};
 ghost use Rattle.tc_desk.specs.Desks.{Keeps, Makes, Polls, Refuses, Spends};
 ghost use Rattle.tc_model.specs.declared.limits.TheConstants.{MOST_WEIGHT};
-ghost use Rattle.tc_site.specs.Desks.{IsDesk, IsNewDesk, IsSound, desk_of};
+ghost use Rattle.tc_site.specs.Desks.{IsDesk, IsNewDesk, IsDecidedLog, desk_of};
 ghost use Rattle.tc_site.specs.Pausing.{HasNoneLeft, HoldsTurn, Pauses, Resumes};
 ghost use Rattle.tc_site.specs.There.{IsCallThere, IsPollThere, bond_of};
 
@@ -69,7 +69,7 @@ impl<'a, W: Warden + Drop> AgentDesk<'a, W> {
         ensures new { IsNewDesk site.now.names (desk_of result) }
         ensures site { result.site ≡ site.now }
         ensures agent { result.agent ≡ kit.agent }
-        ensures sound { IsSound W.permits result.site result.agent result.log }
+        ensures sound { IsDecidedLog W.permits result.site result.agent result.log }
     {
         let _ = site.names();
         let DeskKit { agent, passes, .. } = kit;
@@ -155,13 +155,13 @@ impl<'a, W: Warden + Drop> AgentDesk<'a, W> {
 impl<'a, W: Warden + Drop> Desk for AgentDesk<'a, W> {
     type Bond = (Site<W>, u32);
 
-    ghost use Rattle.tc_site.specs.Desks.{IsSound, desk_of};
+    ghost use Rattle.tc_site.specs.Desks.{IsDecidedLog, desk_of};
 
     ghost bond = { λ d. (d.site, d.agent) };
 
     ghost state = { λ d. desk_of d };
 
-    ghost sound = { λ d. IsSound W.permits d.site d.agent d.log };
+    ghost sound = { λ d. IsDecidedLog W.permits d.site d.agent d.log };
 
     fn call<R: Wait>(
         &mut self,
@@ -174,8 +174,8 @@ impl<'a, W: Warden + Drop> Desk for AgentDesk<'a, W> {
         ensures bond { bond_of self.new ≡ bond_of self.old }
         ensures kept { Keeps (desk_of self.old) (desk_of self.new) }
         ensures turns { Spends 1 (desk_of self.old) (desk_of self.new) }
-        ensures sound { IsSound W.permits self.old.site self.old.agent self.old.log
-            → IsSound W.permits self.new.site self.new.agent self.new.log }
+        ensures sound { IsDecidedLog W.permits self.old.site self.old.agent self.old.log
+            → IsDecidedLog W.permits self.new.site self.new.agent self.new.log }
         ensures became { MatchResult result
             (λ served. Makes (desk_of self.old) centre.now ask served (desk_of self.new))
             (λ why. Refuses (desk_of self.old) centre.now ask why (desk_of self.new)) }
@@ -246,8 +246,8 @@ impl<'a, W: Warden + Drop> Desk for AgentDesk<'a, W> {
         ensures bond { bond_of self.new ≡ bond_of self.old }
         ensures kept { Keeps (desk_of self.old) (desk_of self.new) }
         ensures turns { Spends 1 (desk_of self.old) (desk_of self.new) }
-        ensures sound { IsSound W.permits self.old.site self.old.agent self.old.log
-            → IsSound W.permits self.new.site self.new.agent self.new.log }
+        ensures sound { IsDecidedLog W.permits self.old.site self.old.agent self.old.log
+            → IsDecidedLog W.permits self.new.site self.new.agent self.new.log }
         ensures became { Polls (desk_of self.old) result (desk_of self.new) }
 
         // What it came to at the centre of the pending row.

@@ -1,6 +1,6 @@
 //! Looks for the reply to a pending row, and waits for it.
 ghost use Rattle.std.specs.Prelude.{◌≡◌, ◌<◌, vec_len};
-ghost use Rattle.tc_shared.specs.Passes.{Keeps, Waits};
+ghost use Rattle.tc_shared.specs.Passes.{KeepsPass, WaitsInTurns};
 ghost use Rattle.tc_site.specs.Looking.{IsLook, IsPut, IsWait, MayLook, left_of, still_of};
 
 use crate::waiting::WaitingAt;
@@ -21,7 +21,7 @@ pub(crate) fn look_for<R: Wait>(
 ) -> Result<Seen, DeskFault>
     requires may { MayLook centre.now pass.old log.old.items place }
     ensures looked { IsLook centre.now place pass.old log.old.items result pass.new log.new.items }
-    ensures kept { Keeps centre.now pass.old pass.new }
+    ensures kept { KeepsPass centre.now pass.old pass.new }
 {
     match centre.look(rt, alloc, pass, place as u64 + 1) {
         Ok(Some(reply)) => {
@@ -45,8 +45,8 @@ pub(crate) fn wait_for<R: Wait>(
 ) -> Result<(), DeskFault>
     requires may { MayLook centre.now pass.old log.old.items place }
     ensures waited { IsWait place pass.old log.old.items result pass.new log.new.items }
-    ensures turns { Waits centre.now pass.old pass.new }
-    ensures kept { Keeps centre.now pass.old pass.new }
+    ensures turns { WaitsInTurns centre.now pass.old pass.new }
+    ensures kept { KeepsPass centre.now pass.old pass.new }
 {
     match centre.wait(rt, alloc, pass, place as u64 + 1) {
         Ok(reply) => {

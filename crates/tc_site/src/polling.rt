@@ -2,7 +2,7 @@
 ghost use Rattle.std.specs.Prelude.{◌≡◌, ◌+◌, ◌<◌, All, Some, length, slice_get};
 ghost use Rattle.tc_desk.specs.declared.rows.LogRow.{LogRow};
 ghost use Rattle.tc_model.specs.Calls.{id_of};
-ghost use Rattle.tc_shared.specs.Passes.{Keeps};
+ghost use Rattle.tc_shared.specs.Passes.{KeepsPass};
 ghost use Rattle.tc_site.specs.Looking.{MayLook};
 ghost use Rattle.tc_site.specs.Polling.{IsPolled};
 
@@ -28,7 +28,7 @@ pub(crate) fn poll_for<R: Wait>(
     requires next { All (λ e. (id_of e).number < length log.old.items + 1) pass.old.mine }
     ensures polled { (row : LogRow) → slice_get log.old.items place ≡ Some row
         → IsPolled centre.now place pass.old row.centre log.old.items result pass.new log.new.items }
-    ensures kept { Keeps centre.now pass.old pass.new }
+    ensures kept { KeepsPass centre.now pass.old pass.new }
 {
     if log.reserve(1).is_err() {
         return Err(DeskFault::NoMemory);

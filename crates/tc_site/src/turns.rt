@@ -3,7 +3,7 @@ ghost use Rattle.std.specs.Prelude.{◌≡◌, ℕ, ◌+◌, ◌<◌, ◌++◌, 
 ghost use Rattle.std.specs.Prelude.{IfOk, OnErr, vec_len, vec_capacity, Ok, Err};
 ghost use Rattle.tc_desk.specs.Desks.{with_row};
 ghost use Rattle.tc_model.specs.Calls.{id_of};
-ghost use Rattle.tc_shared.specs.Passes.{IsPassOf, Keeps, SeesRoom};
+ghost use Rattle.tc_shared.specs.Passes.{IsPassOf, KeepsPass, SeesRoom};
 ghost use Rattle.tc_site.specs.Turns.{HasGrown, IsTurn, became_of, told_of, waiting_of};
 
 use crate::waiting::WaitingAt;
@@ -30,7 +30,7 @@ pub(crate) fn turn_at<R: Wait>(
     requires next { All (λ e. (id_of e).number < number) pass.old.mine }
     ensures turn { IfOk result (λ r. IsTurn centre.now pass.old number op r pass.new) }
     ensures room { OnErr result (SeesRoom centre.now pass.old pass.new) }
-    ensures kept { Keeps centre.now pass.old pass.new }
+    ensures kept { KeepsPass centre.now pass.old pass.new }
     ensures grown { (top : ℕ) → number ≡ top + 1 → HasGrown top pass.old pass.new }
 {
     let answer = centre.call(rt, alloc, pass, number, op);

@@ -6,7 +6,7 @@ use Rattle.tc_read.specs.ReadAnswers.{IsClauseAnswer}
 use Rattle.tc_model.specs.Reactions.{Rule}
 use Rattle.tc_model.specs.declared.limits.TheConstants.{MOST_CLAUSES}
 use Rattle.tc_spec.specs.TextAnswers.{IsFaultAt, IsTextFault}
-use Rattle.tc_spec.specs.Texts.{AreClausesAt, IsClauseAt, IsSpelt, Reads}
+use Rattle.tc_spec.specs.Texts.{AreClausesAt, IsClauseAt, IsSpelt, AnswersAt}
 use Rattle.tc_spec.specs.declared.faults.SpecFault.{SpecFault}
 use Rattle.tc_spec.specs.declared.faults.SpecFault.TheVariants.{Bad, NoMemory}
 
@@ -41,7 +41,7 @@ read_more text from behind rs new r read at room inside is = subst (IsReadTo tex
 })
 
 -- the whole text, and its first fault
-pub read_all : (text : List ℕ) (from : ℕ) (rs : List Rule) → IsReadTo text from rs → Reads text from Nothing → IsSpelt text rs
+pub read_all : (text : List ℕ) (from : ℕ) (rs : List Rule) → IsReadTo text from rs → AnswersAt text from Nothing → IsSpelt text rs
 read_all text from rs read nothing =
     record { end = from; spelt = read.spelt; nothing = nothing; few = read.few }
 

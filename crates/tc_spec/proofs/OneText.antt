@@ -12,13 +12,13 @@ use Rattle.tc_read.proofs.OneReading.{one_reading}
 use Rattle.tc_spec.proofs.Decoding.{one_rule}
 use Rattle.tc_spec.proofs.Exact.{excluded, same_cause, shape_spells, head_spells, goal_spells}
 use Rattle.tc_spec.specs.TextAnswers.{IsTextFault, IsTextWant, IsThisBad}
-use Rattle.tc_spec.specs.Texts.{AreClausesAt, HasBadSpec, IsClauseAt, IsFaultyClauseAt, IsClauseRefused, IsSpelt, IsNoClauseAt, Reads}
+use Rattle.tc_spec.specs.Texts.{AreClausesAt, HasBadSpec, IsClauseAt, IsFaultyClauseAt, IsClauseRefused, IsSpelt, IsNoClauseAt, AnswersAt}
 use Rattle.tc_spec.specs.Written.{IsCausedBy, IsWrittenAs, SpellsRule}
 use Rattle.tc_spec.specs.declared.faults.SpecFault.{SpecFault}
 use Rattle.tc_spec.specs.declared.faults.SpecFault.TheVariants.{Bad, NoMemory}
 
 -- the reader answers one thing at a place
-pub one_answer : (text : List ℕ) (from : ℕ) (a b : Answer) → Reads text from a → Reads text from b → a ≡ b
+pub one_answer : (text : List ℕ) (from : ℕ) (a b : Answer) → AnswersAt text from a → AnswersAt text from b → a ≡ b
 one_answer text from a b x y = one_reading true (length text) (drop from text) a b x y
 
 pub same_term : (t u : Tree) (m n : ℕ) → Found t m ≡ Found u n → t ≡ u
@@ -27,7 +27,7 @@ same_term t u m n same = cc
 pub same_place : (t u : Tree) (m n : ℕ) → Found t m ≡ Found u n → m ≡ n
 same_place t u m n same = cc
 
-one_found : (text : List ℕ) (from : ℕ) (t u : Tree) (m n : ℕ) → Reads text from (Found t m) → Reads text from (Found u n)
+one_found : (text : List ℕ) (from : ℕ) (t u : Tree) (m n : ℕ) → AnswersAt text from (Found t m) → AnswersAt text from (Found u n)
     → (t ≡ u) × (m ≡ n)
 one_found text from t u m n x y =
     let same = one_answer text from (Found t m) (Found u n) x y in
@@ -42,10 +42,10 @@ one_clause text from r q m n x y =
     )
 
 -- where a clause is read, nothing else is
-pub found_ends : (text : List ℕ) (from : ℕ) (t : Tree) (n : ℕ) → Reads text from (Found t n) → Reads text from Nothing → ⊥
+pub found_ends : (text : List ℕ) (from : ℕ) (t : Tree) (n : ℕ) → AnswersAt text from (Found t n) → AnswersAt text from Nothing → ⊥
 found_ends text from t n x y = let same = one_answer text from (Found t n) Nothing x y in cc
 
-found_read : (text : List ℕ) (from : ℕ) (t : Tree) (n : ℕ) (why : SpecCause) → Reads text from (Found t n) → IsNoClauseAt text from why → ⊥
+found_read : (text : List ℕ) (from : ℕ) (t : Tree) (n : ℕ) (why : SpecCause) → AnswersAt text from (Found t n) → IsNoClauseAt text from why → ⊥
 found_read text from t n cause.Syntax x y =
     let same = one_answer text from (Found t n) (answer.Syntax y.0) x y.1 in cc
 found_read text from t n cause.Size x (place, inl y) =
@@ -59,7 +59,7 @@ found_read text from t n cause.Head x y = y
 found_read text from t n cause.Goal x y = y
 found_read text from t n cause.Count x y = y
 
-nothing_read : (text : List ℕ) (from : ℕ) (why : SpecCause) → Reads text from Nothing → IsNoClauseAt text from why → ⊥
+nothing_read : (text : List ℕ) (from : ℕ) (why : SpecCause) → AnswersAt text from Nothing → IsNoClauseAt text from why → ⊥
 nothing_read text from cause.Syntax x y =
     let same = one_answer text from Nothing (answer.Syntax y.0) x y.1 in cc
 nothing_read text from cause.Size x (place, inl y) =
@@ -74,13 +74,13 @@ nothing_read text from cause.Goal x y = y
 nothing_read text from cause.Count x y = y
 
 -- two lists of clauses up to the end are the same
-same_rules : (text : List ℕ) (from : ℕ) (rs qs : List Rule) (m n : ℕ) → AreClausesAt text from rs m → Reads text m Nothing
-    → AreClausesAt text from qs n → Reads text n Nothing → rs ≡ qs
+same_rules : (text : List ℕ) (from : ℕ) (rs qs : List Rule) (m n : ℕ) → AreClausesAt text from rs m → AnswersAt text m Nothing
+    → AreClausesAt text from qs n → AnswersAt text n Nothing → rs ≡ qs
 same_rules text from [] [] m n x ends y stops = refl
 same_rules text from [] (q ∷ qs) m n x ends y stops =
-    absurd (found_ends text from y.1.term y.0 y.1.found (subst (λ k. Reads text k Nothing) x ends))
+    absurd (found_ends text from y.1.term y.0 y.1.found (subst (λ k. AnswersAt text k Nothing) x ends))
 same_rules text from (r ∷ rs) [] m n x ends y stops =
-    absurd (found_ends text from x.1.term x.0 x.1.found (subst (λ k. Reads text k Nothing) y stops))
+    absurd (found_ends text from x.1.term x.0 x.1.found (subst (λ k. AnswersAt text k Nothing) y stops))
 same_rules text from (r ∷ rs) (q ∷ qs) m n x ends y stops =
     let same = one_clause text from r q x.0 y.0 x.1 y.1 in
     ap₂ ◌∷◌ same.0
@@ -174,7 +174,7 @@ good_clause text from count r n why at room (inr (t, m, found, h)) =
     let same = one_found text from at.term t n m at.found found in
     excluded t r why (subst (λ (u : Tree). IsWrittenAs u r) same.0 at.written) (own_cause count t why room h)
 
-good_end : (text : List ℕ) (from count : ℕ) (why : SpecCause) → Reads text from Nothing → IsFaultyClauseAt text from count why → ⊥
+good_end : (text : List ℕ) (from count : ℕ) (why : SpecCause) → AnswersAt text from Nothing → IsFaultyClauseAt text from count why → ⊥
 good_end text from count why nothing (inl h) = nothing_read text from why nothing h
 good_end text from count why nothing (inr (t, n, found, h)) = found_ends text from t n found nothing
 
@@ -185,12 +185,12 @@ at_once text from n count why same faulty =
 
 -- a text that is clauses has no faulty one
 no_fault : (text : List ℕ) (from count : ℕ) (rs gs : List Rule) (m n : ℕ) (why : SpecCause) → AreClausesAt text from rs m
-    → Reads text m Nothing → count + length rs ≤ MOST_CLAUSES → AreClausesAt text from gs n → IsFaultyClauseAt text n (count + length gs) why → ⊥
+    → AnswersAt text m Nothing → count + length rs ≤ MOST_CLAUSES → AreClausesAt text from gs n → IsFaultyClauseAt text n (count + length gs) why → ⊥
 no_fault text from count [] [] m n why x ends few y faulty =
-    good_end text from count why (subst (λ k. Reads text k Nothing) x ends)
+    good_end text from count why (subst (λ k. AnswersAt text k Nothing) x ends)
     (at_once text from n count why y faulty)
 no_fault text from count [] (g ∷ gs) m n why x ends few y faulty =
-    found_ends text from y.1.term y.0 y.1.found (subst (λ k. Reads text k Nothing) x ends)
+    found_ends text from y.1.term y.0 y.1.found (subst (λ k. AnswersAt text k Nothing) x ends)
 no_fault text from count (r ∷ rs) [] m n why x ends few y faulty =
     good_clause text from count r x.0 why x.1 (omega (arith, few)) (at_once text from n count why y faulty)
 no_fault text from count (r ∷ rs) (g ∷ gs) m n why x ends few y faulty =

@@ -14,7 +14,7 @@ use Rattle.tc_model.specs.declared.goals.Goal.{Goal}
 use Rattle.tc_model.specs.declared.goals.Goal.TheVariants.{OutR, InR, RdR, NoR, Pre, Post, Success, Failure, True, Agent, Centre, Operation, Tuple, Equal, Differ, Is, Compare}
 use Rattle.tc_read.proofs.Blanks.{no_piece, no_piece_empty}
 use Rattle.tc_read.proofs.ReadBack.{clause-read-back}
-use Rattle.tc_spec.specs.Texts.{AreClausesAt, IsSpelt, Reads}
+use Rattle.tc_spec.specs.Texts.{AreClausesAt, IsSpelt, AnswersAt}
 use Rattle.tc_spec.specs.Written.{IsWrittenAs, leaves}
 
 -- the leaves of a body are its goals
@@ -150,17 +150,17 @@ text_on : (rs : List Rule) (r : Rule) → clauses_text (r ∷ rs) ≡ clause_on 
 text_on rs r = append_assoc (canonical (clause_term r)) (codes ".\n") (clauses_text rs)
 
 clause_read : (text before more : List ℕ) (r : Rule) → IsRule r → text ≡ before ++ clause_on r more
-    → Reads text (length before) (Found (clause_term r) (place_behind (length before) r))
+    → AnswersAt text (length before) (Found (clause_term r) (place_behind (length before) r))
 clause_read text before more r rule is =
     let c = canonical (clause_term r) in
     let whole : before ++ c ++ codes "." ++ (10 ∷ more) ≡ text =
     append_assoc (before ++ c) (codes ".") (10 ∷ more) ∙ append_assoc before c (46 ∷ 10 ∷ more) ∙ sym is in
-    subst (λ s. Reads s (length before) (Found (clause_term r) (place_behind (length before) r))) whole
+    subst (λ s. AnswersAt s (length before) (Found (clause_term r) (place_behind (length before) r))) whole
     (clause-read-back before (10 ∷ more) (clause_term r) rule.clause (inr (more, line_feed more)))
 
 -- behind the line feed of the clause before it
 clause_read_behind : (text before more : List ℕ) (r : Rule) → IsRule r → text ≡ before ++ 10 ∷ clause_on r more
-    → Reads text (length before) (Found (clause_term r) (place_behind (length before + 1) r))
+    → AnswersAt text (length before) (Found (clause_term r) (place_behind (length before + 1) r))
 clause_read_behind text before more r rule is =
     let fed = before ++ 10 ∷ [] in
     let there : text ≡ fed ++ clause_on r more = is ∙ sym (append_assoc before (10 ∷ []) (clause_on r more)) in
@@ -168,15 +168,15 @@ clause_read_behind text before more r rule is =
     let a = Found (clause_term r) (place_behind (length before + 1) r) in
     let read : ReadsAs true (length text) (clause_on r more) a =
     subst (λ s. ReadsAs true (length text) s a) (drop_front text fed (clause_on r more) (length fed) there refl)
-    (subst (λ k. Reads text (length fed) (Found (clause_term r) (place_behind k r))) far (clause_read text fed more r rule there)) in
+    (subst (λ k. AnswersAt text (length fed) (Found (clause_term r) (place_behind k r))) far (clause_read text fed more r rule there)) in
     subst (λ s. ReadsAs true (length text) s a) (sym (drop_front text before (10 ∷ clause_on r more) (length before) is refl))
     (behind_line_feed (length text) (clause_on r more) (drop 1 (clause_on r more)) a (begins r more) read)
 
 -- the clauses are spelt from a place on, and nothing else
 abbrev AreAllSpelt : List ℕ → ℕ → List Rule → Type 0
-AreAllSpelt text from rs = (end : ℕ) × AreClausesAt text from rs end × Reads text end Nothing
+AreAllSpelt text from rs = (end : ℕ) × AreClausesAt text from rs end × AnswersAt text end Nothing
 
-one_more : (text : List ℕ) (from behind : ℕ) (r : Rule) (rs : List Rule) → IsRule r → Reads text from (Found (clause_term r) behind)
+one_more : (text : List ℕ) (from behind : ℕ) (r : Rule) (rs : List Rule) → IsRule r → AnswersAt text from (Found (clause_term r) behind)
     → AreAllSpelt text behind rs → AreAllSpelt text from (r ∷ rs)
 one_more text from behind r rs rule read rest =
     (rest.0, (behind, record { term = clause_term r; found = read; written = written r rule }, rest.1), rest.2)

@@ -27,6 +27,6 @@ IsFaultAt text from count (Bad bad) = (bad.clause ≡ count + 1) × IsFaultyClau
 IsFaultAt text from count NoMemory = Unit {0}
 
 -- the fault is of this clause behind so many others, or memory has run out
-abbrev pub IsRefusal : ℕ → Tree → SpecFault → Type 0
-IsRefusal count t (Bad bad) = (bad.clause ≡ count + 1) × IsClauseRefused count t bad.cause
-IsRefusal count t NoMemory = Unit {0}
+abbrev pub IsFaultOfClause : ℕ → Tree → SpecFault → Type 0
+IsFaultOfClause count t (Bad bad) = (bad.clause ≡ count + 1) × IsClauseRefused count t bad.cause
+IsFaultOfClause count t NoMemory = Unit {0}

@@ -11,13 +11,13 @@ use Rattle.tc_model.specs.declared.limits.TheConstants.{MOST_CLAUSES, MOST_GOALS
 use Rattle.tc_spec.specs.Written.{IsCausedBy, IsWrittenAs, SpellsRule}
 
 -- the reader of clauses answers this at this place of the text
-abbrev pub Reads : List ℕ → ℕ → Answer → Type 0
-Reads text from answer = ReadsAs true (length text) (drop from text) answer
+abbrev pub AnswersAt : List ℕ → ℕ → Answer → Type 0
+AnswersAt text from answer = ReadsAs true (length text) (drop from text) answer
 
 -- a clause stands in the text from one place to another, and is written as this rule
 pub record IsClauseAt (text : List ℕ) (from : ℕ) (r : Rule) (behind : ℕ) : Type 0 where
   pub term : Tree
-  pub found : Reads text from (Found term behind)
+  pub found : AnswersAt text from (Found term behind)
   pub written : IsWrittenAs term r
 
 -- clauses of these rules stand in the text, one behind another, from one place to another
@@ -30,15 +30,15 @@ AreClausesAt text from (r ∷ rs) end =
 pub record IsSpelt (text : List ℕ) (rules : List Rule) : Type 0 where
   pub end : ℕ
   pub spelt : AreClausesAt text 0 rules end
-  pub nothing : Reads text end Nothing
+  pub nothing : AnswersAt text end Nothing
   pub few : length rules ≤ MOST_CLAUSES
 
 -- the reader finds no clause here, for this cause
 abbrev pub IsNoClauseAt : List ℕ → ℕ → SpecCause → Type 0
-IsNoClauseAt text from cause.Syntax = (place : ℕ) × Reads text from (answer.Syntax place)
+IsNoClauseAt text from cause.Syntax = (place : ℕ) × AnswersAt text from (answer.Syntax place)
 IsNoClauseAt text from cause.Size =
-    (place : ℕ) × (Reads text from (WideInt place)
-    ⊎ (Reads text from (TooMany place) ⊎ Reads text from (TooBig place)))
+    (place : ℕ) × (AnswersAt text from (WideInt place)
+    ⊎ (AnswersAt text from (TooMany place) ⊎ AnswersAt text from (TooBig place)))
 IsNoClauseAt text from _ = ⊥
 
 -- the rule has too many goals, or as many clauses stand before it as a centre may have
@@ -56,7 +56,7 @@ IsClauseRefused count t why = IsCausedBy t why
 abbrev pub IsFaultyClauseAt : List ℕ → ℕ → ℕ → SpecCause → Type 0
 IsFaultyClauseAt text from count why =
     IsNoClauseAt text from why
-    ⊎ ((t : Tree) × (behind : ℕ) × Reads text from (Found t behind) × IsClauseRefused count t why)
+    ⊎ ((t : Tree) × (behind : ℕ) × AnswersAt text from (Found t behind) × IsClauseRefused count t why)
 
 -- the first faulty clause, behind good ones, and its first cause
 pub record HasBadSpec (text : List ℕ) (bad : BadSpec) : Type 0 where

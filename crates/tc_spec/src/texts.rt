@@ -8,8 +8,8 @@ ghost use Rattle.tc_model.specs.declared.faults.BadSpec.{BadSpec};
 ghost use Rattle.tc_model.specs.declared.limits.TheConstants.{MOST_CLAUSES};
 ghost use Rattle.tc_read.specs.ReadAnswers.{IsFault};
 ghost use Rattle.tc_spec.specs.Answers.{IsReactionFault};
-ghost use Rattle.tc_spec.specs.TextAnswers.{IsFaultAt, IsRefusal, IsTextFault, IsTextWant, IsThisBad};
-ghost use Rattle.tc_spec.specs.Texts.{HasBadSpec, IsClauseAt, IsSpelt, Reads};
+ghost use Rattle.tc_spec.specs.TextAnswers.{IsFaultAt, IsFaultOfClause, IsTextFault, IsTextWant, IsThisBad};
+ghost use Rattle.tc_spec.specs.Texts.{HasBadSpec, IsClauseAt, IsSpelt, AnswersAt};
 ghost use Rattle.tc_spec.specs.Written.{IsWrittenAs};
 ghost use Rattle.tc_spec.specs.declared.faults.SpecFault.TheVariants.{Bad};
 
@@ -66,7 +66,7 @@ fn clause_at(
     ensures found { IfOk result (λ r. IfSome r (λ x. IsClauseAt text.now from x.0 x.1)) }
     ensures few { IfOk result (λ r. IfSome r (λ x. count < MOST_CLAUSES)) }
     ensures behind { IfOk result (λ r. IfSome r (λ x. (from < x.1) × (x.1 ≤ length text.now))) }
-    ensures none { IfOk result (λ r. IfNone r (Reads text.now from Nothing)) }
+    ensures none { IfOk result (λ r. IfNone r (AnswersAt text.now from Nothing)) }
     ensures fault { IfErr result (IsFaultAt text.now from count) }
 {
     match read_clause(alloc, text, from) {
@@ -85,7 +85,7 @@ fn reaction_from(alloc: Global, clause: Pattern, count: usize) -> Result<Reactio
     requires few { count ≤ MOST_CLAUSES }
     ensures reaction { IfOk result (IsWrittenAs clause) }
     ensures few { IfOk result (λ _. count < MOST_CLAUSES) }
-    ensures fault { IfErr result (IsRefusal count clause) }
+    ensures fault { IfErr result (IsFaultOfClause count clause) }
 {
     let read = reaction_behind(alloc, &clause, count);
     read
@@ -97,7 +97,7 @@ fn reaction_behind(alloc: Global, clause: &Pattern, count: usize) -> Result<Reac
     requires few { count ≤ MOST_CLAUSES }
     ensures reaction { IfOk result (IsWrittenAs clause.now) }
     ensures few { IfOk result (λ _. count < MOST_CLAUSES) }
-    ensures fault { IfErr result (IsRefusal count clause.now) }
+    ensures fault { IfErr result (IsFaultOfClause count clause.now) }
 {
     match reaction_of(alloc, clause) {
         Ok(reaction) => {
@@ -114,7 +114,7 @@ fn reaction_behind(alloc: Global, clause: &Pattern, count: usize) -> Result<Reac
 // What is told of text behind so many clauses that the reader refuses.
 fn unread(fault: ReadFault, count: usize) -> SpecFault
     requires { count ≤ MOST_CLAUSES }
-    ensures { (text : List ℕ) (from : ℕ) → IsFault (Reads text from) fault
+    ensures { (text : List ℕ) (from : ℕ) → IsFault (AnswersAt text from) fault
         → IsFaultAt text from count result }
 {
     match fault {
@@ -129,7 +129,7 @@ fn unread(fault: ReadFault, count: usize) -> SpecFault
 // What is told of a clause behind so many others that is no reaction.
 fn refused(fault: ReactionFault, count: usize) -> SpecFault
     requires { count ≤ MOST_CLAUSES }
-    ensures { (t : Tree) → IsReactionFault t fault → IsRefusal count t result }
+    ensures { (t : Tree) → IsReactionFault t fault → IsFaultOfClause count t result }
 {
     match fault {
         ReactionFault::Bad(SpecCause::Size) => {

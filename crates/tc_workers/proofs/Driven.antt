@@ -19,7 +19,7 @@ use Rattle.tc_lists.proofs.Sets.{slice_get-as_long, slice_get-map_at, slice_get-
 use Rattle.tc_lists.proofs.Zips.{AllZip-slice_get}
 use Rattle.tc_sched.specs.Clients.{Client, IsOfScripts}
 use Rattle.tc_sched.specs.Steps.{AllWent, ArePlaced, IsReady, Went, left_in, left_of}
-use Rattle.tc_site.specs.Desks.{AgentState, IsSound, desk_of}
+use Rattle.tc_site.specs.Desks.{AgentState, IsDecidedLog, desk_of}
 use Rattle.tc_site.specs.Sites.{EndedState, SiteState, TURNS}
 use Rattle.tc_workers.specs.Crews.{AreAtDesks, AreLeft, CanDrive, HasRows, IsAtDesk, IsLeft, bare, ended_of, given_back, with_scripts}
 use Rattle.tc_workers.proofs.Seating.{scripts_in, scripts_of}
@@ -42,7 +42,7 @@ module _ {W : Type 0} (permits : W → ℕ → ℕ → Primitive → Option ℕ)
   bond_of d = (d.site, d.agent)
 
   abbrev IsSoundDesk : AgentState W → Type 0
-  IsSoundDesk d = IsSound permits d.site d.agent d.log
+  IsSoundDesk d = IsDecidedLog permits d.site d.agent d.log
 
   abbrev WentAll : ℕ → List Member → List Member → Type 0
   WentAll turns olds news = AllWent desk_of bond_of IsSoundDesk turns olds news
@@ -142,12 +142,12 @@ module _ {W : Type 0} (permits : W → ℕ → ℕ → Primitive → Option ℕ)
         let mine : e.scripts ≡ a.scripts =
         same_Some e.scripts a.scripts
         (sym (slice_get-map_at scripts_of news k e here) ∙ ap (λ xs. slice_get xs k) same-scripts ∙ slice_get-map_at scripts_in agents k a stands) in
-        let sound : IsSound permits e.desk.site e.desk.agent e.desk.log = c.2.sound (at.each k c.0 c.1).sound in
+        let sound : IsDecidedLog permits e.desk.site e.desk.agent e.desk.log = c.2.sound (at.each k c.0 c.1).sound in
         record {
           rows =
               subst (λ ns. IsOfScripts ns a.scripts e.desk.log) (ap (λ (t : SiteState W). t.names) is.0)
               (subst (λ ss. IsOfScripts e.desk.site.names ss e.desk.log) mine has);
-          sound = subst (λ j. IsSound permits s j e.desk.log) is.1 (subst (λ t. IsSound permits t e.desk.agent e.desk.log) is.0 sound);
+          sound = subst (λ j. IsDecidedLog permits s j e.desk.log) is.1 (subst (λ t. IsDecidedLog permits t e.desk.agent e.desk.log) is.0 sound);
         }
 
     ended-at : (k : ℕ) (v : EndedState W) → slice_get (map ended_of news) k ≡ Some v → (e : Member) × (slice_get news k ≡ Some e) × (ended_of e ≡ v)

@@ -33,7 +33,7 @@ use Rattle.tc_runner.specs.Plans.{IsFresh}
 use Rattle.tc_sched.specs.Clients.{IsOfScripts}
 use Rattle.tc_sched.specs.Steps.{ArePlaced}
 use Rattle.tc_site.specs.Desks as desks
-use Rattle.tc_site.specs.Desks.{IsSound}
+use Rattle.tc_site.specs.Desks.{IsDecidedLog}
 use Rattle.tc_site.specs.Sites.{AllAgree, AreClosed, AreFreshCores, EndedState, IsSiteOf, SiteState, TURNS, origins_of}
 use Rattle.tc_workers.specs.Crews.{AreLeft, CanDrive}
 use Rattle.tc_workers.proofs.Closed.{Goes-closed, IsWorked}
@@ -120,14 +120,14 @@ module _ (c : Configuration) (config : IsConfig c) (some : 0 < length c.agents) 
       ap (λ rs. slice_get rs k) site.roles_are ∙ ap (λ xs. slice_get (map (λ (b : AgentConf). b.role) xs) k) same
       ∙ slice_get-map_at (λ (b : AgentConf). b.role) c.agents k a at
 
-  decided-at : (k : ℕ) (a : AgentConf) (log : List LogRow) → slice_get c.agents k ≡ Some a → IsSound permits_by s k log
+  decided-at : (k : ℕ) (a : AgentConf) (log : List LogRow) → slice_get c.agents k ≡ Some a → IsDecidedLog permits_by s k log
       → IsDecided (good.Permits c a.role) (centre_names c) log
   decided-at k a log at sound =
       let is = sound a.role (role-at k a at) in
       record {
         read = is.read;
         decided = λ j row ask place here asked there.
-            decided_as (desks.Permits permits_by s.warden a.role place (primitive_of ask)) (good.Permits c a.role place (primitive_of ask)) row.result
+            decided_as (desks.WardenPermits permits_by s.warden a.role place (primitive_of ask)) (good.Permits c a.role place (primitive_of ask)) row.result
             (λ number. number-stands (grant a.role place (primitive_of ask)) c.roles number.0
             (ap (first_number (grant a.role place (primitive_of ask))) (sym roles-are) ∙ number.1))
             (λ stands.
@@ -147,7 +147,7 @@ module _ (c : Configuration) (config : IsConfig c) (some : 0 < length c.agents) 
         agrees =
             subst (λ os. Agrees os (centre_names c) (map (λ (x : Centre). x.history) cores) k log) origins-kept
             (subst (λ ns. Agrees (origins_of s.centres) ns (map (λ (x : Centre). x.history) cores) k log) all-named (agree k log here));
-        decided = decided-at k a log at (subst (IsSound permits_by s k) e.2 is.sound);
+        decided = decided-at k a log at (subst (IsDecidedLog permits_by s k) e.2 is.sound);
         rows = subst (λ ns. IsOfScripts ns a.scripts log) all-named (subst (IsOfScripts s.names a.scripts) e.2 is.rows);
       }
 

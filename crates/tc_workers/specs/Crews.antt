@@ -8,7 +8,7 @@ use Rattle.tc_model.specs.Scripts.{Lines}
 use Rattle.tc_model.specs.declared.asks.Primitive.{Primitive}
 use Rattle.tc_sched.specs.Clients.{Client, IsOfScripts}
 use Rattle.tc_sched.specs.Steps.{ArePlaced}
-use Rattle.tc_site.specs.Desks.{AgentState, IsNewDesk, IsSound, desk_of}
+use Rattle.tc_site.specs.Desks.{AgentState, IsNewDesk, IsDecidedLog, desk_of}
 use Rattle.tc_site.specs.Sites.{AreOfSite, EndedState, SiteState, TURNS, roles_of}
 
 -- an agent with these scripts, and without any
@@ -34,7 +34,7 @@ module _ {W : Type 0} (permits : W → ℕ → ℕ → Primitive → Option ℕ)
     pub site : c.desk.site ≡ s
     pub agent : c.desk.agent ≡ k
     pub new : IsNewDesk s.names (desk_of c.desk)
-    pub sound : IsSound permits c.desk.site c.desk.agent c.desk.log
+    pub sound : IsDecidedLog permits c.desk.site c.desk.agent c.desk.log
 
   -- each agent is at a desk, with its scripts
   pub record AreAtDesks (agents : List AgentConf) (crew : List (Client (AgentState W))) : Type 0 where
@@ -45,7 +45,7 @@ module _ {W : Type 0} (permits : W → ℕ → ℕ → Primitive → Option ℕ)
   -- the agent's desk has ended: its log has the rows of its scripts, which the warden has decided
   pub record IsLeft (k : ℕ) (a : AgentConf) (e : EndedState W) : Type 0 where
     pub rows : IsOfScripts s.names a.scripts e.log
-    pub sound : IsSound permits s k e.log
+    pub sound : IsDecidedLog permits s k e.log
 
   -- each agent's desk has ended
   pub record AreLeft (agents : List AgentConf) (ended : List (EndedState W)) : Type 0 where

@@ -9,8 +9,8 @@ use Rattle.tc_config.specs.declared.limits.TheConstants.{MOST_BYTES}
 use Rattle.tucson.specs.declared.status.Status.{Status}
 use Rattle.tucson.specs.declared.status.Status.TheVariants.{Ended, WriteFault, Refused, Blocked, ReadFault, NoMemory, Usage}
 use Rattle.tucson.specs.Answer.{Input, Unread, Whole, TooLong, IsDueForInput, IsInput, IsDue}
-use Rattle.tucson.specs.Commands.{IsRun}
-use Rattle.tucson.specs.Ending.{BreaksOff, Call, EndsAsDue, Ends, IsUnlessStopped, Tells, Writes}
+use Rattle.tucson.specs.Commands.{AsksToRun}
+use Rattle.tucson.specs.Ending.{BreaksOff, Call, EndsAsDue, Ends, IsUnlessStopped, WritesDue, Writes}
 
 answers : (call : Call) (status same : Status) (input : Input) (text : List ℕ) → IsInput call.source.left call.source_after.left input → IsDue call.words input status text → (same ≡ status) × (call.sink_after.taken ≡ appended call.sink.taken text) → EndsAsDue call same
 answers call status same input text read due wrote = record {
@@ -37,14 +37,14 @@ Ends-written call status NoMemory input text read due wrote =
     inr (record { input = input; status = status; text = text; read = read; due = due; taken = wrote })
 
 -- the answer to an input that was read whole
-pub Ends-told : (call : Call) (result : Status) (input : List ℕ) → IsRun call.words → ReadsAll call.source.left call.source_after.left MOST_BYTES input
-    → Tells (IsDueForInput input) call.sink call.sink_after result → Ends call result
+pub Ends-told : (call : Call) (result : Status) (input : List ℕ) → AsksToRun call.words → ReadsAll call.source.left call.source_after.left MOST_BYTES input
+    → WritesDue (IsDueForInput input) call.sink call.sink_after result → Ends call result
 Ends-told call result input run read (inl told) =
     Ends-written call told.status result (Whole input) told.text read (run, told.is) told.writes
 Ends-told call result input run read (inr none) = subst (Ends call) (sym none.0) (inl none.1)
 
 -- what is due to a call that asks for a run is due whatever its words are
-module _ (words other : List (List ℕ)) (run : IsRun words) (runs : IsRun other) where
+module _ (words other : List (List ℕ)) (run : AsksToRun words) (runs : AsksToRun other) where
   due_too : (input : Input) (status : Status) (text : List ℕ) → IsDue words input status text → IsDue other input status text
   due_too Unread Usage text due = absurd (due.0 run)
   due_too Unread Ended text due = absurd due
@@ -73,7 +73,7 @@ module _ (words other : List (List ℕ)) (run : IsRun words) (runs : IsRun other
   due_too TooLong Usage text due = absurd due
 
 -- a call that asks for a run ends as it does whatever its words are
-module _ (call : Call) (words : List (List ℕ)) (run : IsRun call.words) (runs : IsRun words) where
+module _ (call : Call) (words : List (List ℕ)) (run : AsksToRun call.words) (runs : AsksToRun words) where
   abbrev worded : Call
   worded = record {
     words = words;

@@ -14,7 +14,7 @@ use Rattle.tc_writing.specs.Flow.{Flow, HandsOn}
 use Rattle.tc_writing.proofs.Flows.{appended-nil}
 use Rattle.tc_config.specs.Texts.{Spells}
 use Rattle.tucson.specs.Answer.{IsDueForInput, IsOutcome, IsTextOf}
-use Rattle.tucson.specs.Ending.{Tells, Writes}
+use Rattle.tucson.specs.Ending.{WritesDue, Writes}
 use Rattle.tucson.specs.Status.{status_of_run}
 use Rattle.tucson.specs.declared.status.Status.{Status}
 use Rattle.tucson.specs.declared.status.Status.TheVariants.{Ended, WriteFault, Refused, Blocked, ReadFault, NoMemory, Usage}
@@ -52,12 +52,12 @@ module _ (c : Configuration) (histories : List (List Entry)) (logs : List (List 
 
   pub told_whole : (old new : SinkState) (kept_old kept : List ℕ) (status : Status) (result : Result (Unit {0}) SinkFault)
       → status ≡ status_of_run (is_blocked logs) → kept_old ≡ [] → kept ≡ [] → result ≡ Ok tt
-      → HandsOn text (with_kept old kept_old) (with_kept new kept) result → Tells (IsOutcome c) old new status
+      → HandsOn text (with_kept old kept_old) (with_kept new kept) result → WritesDue (IsOutcome c) old new status
   told_whole old new kept_old kept status result is none none_left done handed =
       let whole = from_none text old new kept_old kept result (Ok tt) none done handed in
       let taken : new.taken ≡ appended old.taken text =
       sym (appended-nil new.taken) ∙ ap (appended new.taken) (sym none_left) ∙ whole.all ∙ ap (λ t. appended t text) (appended-nil old.taken) in
-      subst (Tells (IsOutcome c) old new) (sym is)
+      subst (WritesDue (IsOutcome c) old new) (sym is)
       (inl (record {
         status = status_of_run (is_blocked logs);
         text = text;
@@ -66,7 +66,7 @@ module _ (c : Configuration) (histories : List (List Entry)) (logs : List (List 
       }))
 
   pub told_failed : (old new : SinkState) (kept_old kept : List ℕ) (result : Result (Unit {0}) SinkFault) → kept_old ≡ []
-      → result ≡ Err fault.Failed → HandsOn text (with_kept old kept_old) (with_kept new kept) result → Tells (IsOutcome c) old new WriteFault
+      → result ≡ Err fault.Failed → HandsOn text (with_kept old kept_old) (with_kept new kept) result → WritesDue (IsOutcome c) old new WriteFault
   told_failed old new kept_old kept result none failed handed =
       let amid = from_none text old new kept_old kept result (Err fault.Failed) none failed handed in
       inl (record {
@@ -81,7 +81,7 @@ module _ (c : Configuration) (histories : List (List Entry)) (logs : List (List 
       })
 
   pub told_memory : (old new : SinkState) (kept_old kept : List ℕ) (result : Result (Unit {0}) SinkFault) → kept_old ≡ []
-      → result ≡ Err fault.NoMemory → HandsOn text (with_kept old kept_old) (with_kept new kept) result → Tells (IsOutcome c) old new NoMemory
+      → result ≡ Err fault.NoMemory → HandsOn text (with_kept old kept_old) (with_kept new kept) result → WritesDue (IsOutcome c) old new NoMemory
   told_memory old new kept_old kept result none failed handed =
       let amid = from_none text old new kept_old kept result (Err fault.NoMemory) none failed handed in
       inl (record {
@@ -103,7 +103,7 @@ answered input c spells NoMemory told is = absurd is
 answered input c spells Usage told is = absurd is
 
 pub tells_of : (input : List ℕ) (c : Configuration) → Spells input c → (old new : SinkState) (result : Status)
-    → Tells (IsOutcome c) old new result → Tells (IsDueForInput input) old new result
+    → WritesDue (IsOutcome c) old new result → WritesDue (IsDueForInput input) old new result
 tells_of input c spells old new result (inl told) = inl (record {
   status = told.status;
   text = told.text;

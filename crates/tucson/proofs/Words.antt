@@ -4,7 +4,7 @@ use Rattle.std.proofs.lemmas.Fmt.{decimal_injective}
 use Rattle.std.proofs.lemmas.List.{nil_from_length}
 use borrow.Enum.Total.{values_d}
 use Rattle.tc_lists.specs.Decimals.{IsLongestNumberAt, IsNumberAt}
-use Rattle.tucson.specs.Commands.{Asks, IsCount, IsRun, RunsOn, run_words}
+use Rattle.tucson.specs.Commands.{Asks, IsCount, AsksToRun, RunsOn, run_words}
 use Rattle.tucson.specs.contracts.command.Command.{enum}
 use Rattle.tucson.specs.declared.command.Command.{Command}
 use Rattle.tucson.specs.declared.command.Command.TheVariants.{Run}
@@ -29,7 +29,7 @@ count_whole word n workers rest longest count =
     )
 
 -- words that ask for the one command ask to run
-pub asked : (words : List (List ℕ)) (command : Command) → Asks words command → IsRun words
+pub asked : (words : List (List ℕ)) (command : Command) → Asks words command → AsksToRun words
 asked words (Run workers) on = (workers, on)
 
 -- so many workers as words may tell
@@ -58,5 +58,5 @@ pub told_few : (words : List (List ℕ)) (command : Command) → Asks words comm
 told_few words (Run workers) on = subst IsFew (sym (told_is workers)) (workers_few words workers on)
 
 -- the words for so many workers ask to run
-pub words_run : (workers : ℕ) → IsFew workers → IsRun (run_words workers)
+pub words_run : (workers : ℕ) → IsFew workers → AsksToRun (run_words workers)
 words_run workers few = (workers, (refl, refl, record { text = refl; some = few.0; few = few.1 }))

@@ -13,7 +13,7 @@ use Rattle.tc_config.specs.Texts.{IsRefused, Spells}
 use Rattle.tc_config.specs.declared.faults.ConfigCause.{ConfigCause}
 use Rattle.tc_config.specs.declared.faults.ConfigCause.TheVariants as cause
 use Rattle.tc_config.specs.declared.limits.TheConstants.{MOST_BYTES}
-use Rattle.tucson.specs.Commands.{IsRun}
+use Rattle.tucson.specs.Commands.{AsksToRun}
 use Rattle.tucson.specs.declared.status.Status.{Status}
 use Rattle.tucson.specs.declared.status.Status.TheVariants.{Ended, Refused, Blocked, Usage}
 
@@ -87,8 +87,8 @@ IsDueForInput input status text = ⊥
 
 -- a call with these words and this input is to end with this status, and to write this text
 abbrev pub IsDue : List (List ℕ) → Input → Status → List ℕ → Type 0
-IsDue words Unread Usage text = (IsRun words → ⊥) × (text ≡ usage_text)
-IsDue words (Whole input) status text = IsRun words × IsDueForInput input status text
+IsDue words Unread Usage text = (AsksToRun words → ⊥) × (text ≡ usage_text)
+IsDue words (Whole input) status text = AsksToRun words × IsDueForInput input status text
 IsDue words TooLong (Refused clause cause.Length) text =
-    IsRun words × (clause ≡ 0) × (text ≡ refused_text 0 cause.Length)
+    AsksToRun words × (clause ≡ 0) × (text ≡ refused_text 0 cause.Length)
 IsDue words input status text = ⊥

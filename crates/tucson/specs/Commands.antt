@@ -26,5 +26,5 @@ abbrev pub Asks : List (List ℕ) → Command → Type 0
 Asks words (Run workers) = RunsOn words workers
 
 -- the words ask to run a configuration
-abbrev pub IsRun : List (List ℕ) → Type 0
-IsRun words = (workers : ℕ) × RunsOn words workers
+abbrev pub AsksToRun : List (List ℕ) → Type 0
+AsksToRun words = (workers : ℕ) × RunsOn words workers

@@ -6,7 +6,7 @@ use Rattle.tc_io.specs.Sinks.{SinkState, AppendsFront, appended}
 use Rattle.tucson.specs.declared.status.Status.{Status}
 use Rattle.tucson.specs.declared.status.Status.TheVariants.{Ended, WriteFault, Blocked, ReadFault, NoMemory}
 use Rattle.tucson.specs.Answer.{Input, IsInput, IsDue}
-use Rattle.tucson.specs.Commands.{IsRun}
+use Rattle.tucson.specs.Commands.{AsksToRun}
 
 -- a source, by its meanings, and a sink
 abbrev pub source_of : {S : Type 0} → (S → Option (List ℕ)) → (S → ℕ) → (S → Bool) → S → SourceState
@@ -56,7 +56,7 @@ pub record FailsToWrite (call : Call) : Type 0 where
 pub record FailsToRead (call : Call) : Type 0 where
   pub rises : CountRises call.source.read_faults call.source_after.read_faults
   pub unsure : call.source.sure ≡ false
-  pub run : IsRun call.words
+  pub run : AsksToRun call.words
   pub nothing : TakesNothing call
 
 -- the status that is due with its whole text, or what stopped the call
@@ -96,7 +96,7 @@ Writes status text sink sink_after same =
     (same ≡ status) × (sink_after.taken ≡ appended sink.taken text)
 
 -- a status and a text that are due, and the writing of that text
-pub record IsTold (due : Status → List ℕ → Type 0) (sink sink_after : SinkState) (result : Status)
+pub record IsDueWritten (due : Status → List ℕ → Type 0) (sink sink_after : SinkState) (result : Status)
     : Type 0 where
   pub status : Status
   pub text : List ℕ
@@ -104,6 +104,6 @@ pub record IsTold (due : Status → List ℕ → Type 0) (sink sink_after : Sink
   pub writes : Writes status text sink sink_after result
 
 -- what is due was written, or the writing was stopped; or memory ran out before
-abbrev pub Tells : (Status → List ℕ → Type 0) → SinkState → SinkState → Status → Type 0
-Tells due sink sink_after result =
-    IsTold due sink sink_after result ⊎ ((result ≡ NoMemory) × (sink_after.taken ≡ sink.taken))
+abbrev pub WritesDue : (Status → List ℕ → Type 0) → SinkState → SinkState → Status → Type 0
+WritesDue due sink sink_after result =
+    IsDueWritten due sink sink_after result ⊎ ((result ≡ NoMemory) × (sink_after.taken ≡ sink.taken))

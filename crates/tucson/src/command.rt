@@ -1,6 +1,6 @@
 //! The words of a call.
 ghost use Rattle.std.specs.Prelude.{◌∷◌, [], ℕ, map, IfNone, IfSome};
-ghost use Rattle.tucson.specs.Commands.{Asks, IsCount, IsRun};
+ghost use Rattle.tucson.specs.Commands.{Asks, IsCount, AsksToRun};
 
 use tc_lists::read_number;
 
@@ -20,7 +20,7 @@ pub enum Command {
 /// The command that the words ask for: `run`, or `run --workers N`.
 pub fn command_of(words: &[Vec<u8>]) -> Option<Command>
     ensures some { IfSome result (Asks (map (λ w. w.items) words.now)) }
-    ensures none { IfNone result (IsRun (map (λ w. w.items) words.now) → ⊥) }
+    ensures none { IfNone result (AsksToRun (map (λ w. w.items) words.now) → ⊥) }
 {
     match words {
         [run] => of_one(run),
@@ -32,7 +32,7 @@ pub fn command_of(words: &[Vec<u8>]) -> Option<Command>
 // The command that a single word asks for.
 fn of_one(run: &[u8]) -> Option<Command>
     ensures some { IfSome result (Asks (run.now ∷ [])) }
-    ensures none { IfNone result (IsRun (run.now ∷ []) → ⊥) }
+    ensures none { IfNone result (AsksToRun (run.now ∷ []) → ⊥) }
 {
     if run != b"run".as_slice() {
         return None;
@@ -43,7 +43,7 @@ fn of_one(run: &[u8]) -> Option<Command>
 // The command that three words ask for.
 fn of_three(run: &[u8], option: &[u8], count: &[u8]) -> Option<Command>
     ensures some { IfSome result (Asks (run.now ∷ option.now ∷ count.now ∷ [])) }
-    ensures none { IfNone result (IsRun (run.now ∷ option.now ∷ count.now ∷ []) → ⊥) }
+    ensures none { IfNone result (AsksToRun (run.now ∷ option.now ∷ count.now ∷ []) → ⊥) }
 {
     if run != b"run".as_slice() {
         return None;

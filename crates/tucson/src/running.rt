@@ -10,7 +10,7 @@ ghost use Rattle.tc_desk.specs.Logs.{rows_of};
 ghost use Rattle.tc_runner.specs.Cores.{Goes, histories};
 ghost use Rattle.tucson.specs.Answer.{IsDueForInput, IsOutcome};
 ghost use Rattle.tucson.specs.Commands.{run_words};
-ghost use Rattle.tucson.specs.Ending.{Ends, IsEndOfRun, IsUnlessStopped, Tells, sink_of, source_of};
+ghost use Rattle.tucson.specs.Ending.{Ends, IsEndOfRun, IsUnlessStopped, WritesDue, sink_of, source_of};
 
 use crate::refusing::refused;
 use crate::status::Status;
@@ -76,7 +76,7 @@ fn answer<R: Threads + Wait + Sync, K: Sink, G: Gate + Sync>(
     gate: &G,
 ) -> Status
     requires { 0 < workers }
-    ensures tells { Tells (IsDueForInput input.now) (sink_of K.taken K.write_faults K.sure sink.old)
+    ensures tells { WritesDue (IsDueForInput input.now) (sink_of K.taken K.write_faults K.sure sink.old)
         (sink_of K.taken K.write_faults K.sure sink.new) result }
     ensures writes { Counts (result ≡ Status.WriteFault)
         (K.write_faults sink.old) (K.write_faults sink.new) }
@@ -102,7 +102,7 @@ fn run<R: Threads + Wait + Sync, K: Sink, G: Gate + Sync>(
     gate: &G,
 ) -> Status
     requires { 0 < workers }
-    ensures tells { Tells (IsOutcome config) (sink_of K.taken K.write_faults K.sure sink.old)
+    ensures tells { WritesDue (IsOutcome config) (sink_of K.taken K.write_faults K.sure sink.old)
         (sink_of K.taken K.write_faults K.sure sink.new) result }
     ensures writes { Counts (result ≡ Status.WriteFault)
         (K.write_faults sink.old) (K.write_faults sink.new) }

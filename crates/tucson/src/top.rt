@@ -4,7 +4,7 @@ ghost use Rattle.tc_io.specs.Faults.{Counts};
 ghost use Rattle.tc_config.specs.Configurations.{Configuration};
 ghost use Rattle.tc_config.specs.Texts.{IsRefused, Spells};
 ghost use Rattle.tc_config.specs.declared.faults.ConfigCause.{ConfigCause};
-ghost use Rattle.tucson.specs.Commands.{IsRun};
+ghost use Rattle.tucson.specs.Commands.{AsksToRun};
 ghost use Rattle.tucson.specs.Ending.{Ends, IsEndOfRun, IsUnlessStopped, sink_of, source_of};
 
 use crate::command::{Command, command_of};
@@ -49,12 +49,12 @@ pub fn tucson<R: Threads + Wait + Sync, S: Source, K: Sink, G: Gate + Sync>(
         (K.write_faults sink.old) (K.write_faults sink.new) }
 
     // The words and the input decide the status.
-    ensures usage { (IsRun (map (λ w. w.items) words.now) → ⊥)
+    ensures usage { (AsksToRun (map (λ w. w.items) words.now) → ⊥)
         → IsUnlessStopped Status.Usage result }
-    ensures runs { IsRun (map (λ w. w.items) words.now)
+    ensures runs { AsksToRun (map (λ w. w.items) words.now)
         → IfSome (S.left source.old) (λ input. (c : Configuration) → Spells input c
         → IsEndOfRun result) }
-    ensures refused { IsRun (map (λ w. w.items) words.now)
+    ensures refused { AsksToRun (map (λ w. w.items) words.now)
         → IfSome (S.left source.old) (λ input. (clause : ℕ) (why : ConfigCause)
         → IsRefused input clause why → IsUnlessStopped (Status.Refused clause why) result) }
 {

@@ -10,7 +10,7 @@ ghost use Rattle.tc_desk.specs.Text.{One, histories_text, logs_text, run_text};
 ghost use Rattle.tc_runner.specs.Cores.{AreCores, Goes, histories};
 ghost use Rattle.tc_writing.specs.Flow.{HandsOn, flow};
 ghost use Rattle.tucson.specs.Answer.{IsOutcome};
-ghost use Rattle.tucson.specs.Ending.{IsEndOfRun, IsStopped, IsUnlessStopped, Tells, Writes, sink_of};
+ghost use Rattle.tucson.specs.Ending.{IsEndOfRun, IsStopped, IsUnlessStopped, WritesDue, Writes, sink_of};
 ghost use Rattle.tucson.specs.Status.{status_of_run};
 
 use crate::status::Status;
@@ -46,7 +46,7 @@ pub fn write_run<K: Sink>(alloc: Global, run: &Opened, sink: &mut K) -> Status
         (rows_of run.now.logs.items) }
     requires goes { Goes run.now.plan run.now.cores.items (rows_of run.now.logs.items) }
     requires none { length run.now.plan.agents ≡ 0 → run.now.cores.items ≡ [] }
-    ensures tells { Tells (IsOutcome run.now.plan) (sink_of K.taken K.write_faults K.sure sink.old)
+    ensures tells { WritesDue (IsOutcome run.now.plan) (sink_of K.taken K.write_faults K.sure sink.old)
         (sink_of K.taken K.write_faults K.sure sink.new) result }
     ensures writes { Counts (result ≡ Status.WriteFault)
         (K.write_faults sink.old) (K.write_faults sink.new) }

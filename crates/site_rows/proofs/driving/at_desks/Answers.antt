@@ -2,7 +2,7 @@ use Rattle.std.proofs.Common.{◌≡◌, ◌∙◌, ◌∷◌, List, length, ref
 use Rattle.tc_config.specs.declared.configs.AgentConf.{AgentConf}
 use Rattle.tc_policy.specs.declared.grants.Grant.{Grant}
 use Rattle.tc_sched.specs.Clients.{Client}
-use Rattle.tc_site.specs.Desks.{AgentState, IsNewDesk, IsSound, desk_of}
+use Rattle.tc_site.specs.Desks.{AgentState, IsNewDesk, IsDecidedLog, desk_of}
 use Rattle.tc_site.specs.Sites.{KitState}
 use Rattle.tc_workers.specs.Crews.{IsAtDesk}
 use Rattle.tc_workers.proofs.Grants.{permits_by}
@@ -30,7 +30,7 @@ loop-kit-preserved c =
       site = ap (λ (d : AgentState (List Grant)). d.site) desk-is ∙ c.new-desk.ensures.site;
       agent = ap (λ (d : AgentState (List Grant)). d.agent) desk-is ∙ c.new-desk.ensures.agent ∙ omega (arith, kit);
       new = subst (λ (d : AgentState (List Grant)). IsNewDesk s.names (desk_of d)) (sym desk-is) c.new-desk.ensures.new;
-      sound = subst (λ (d : AgentState (List Grant)). IsSound permits_by d.site d.agent d.log) (sym desk-is) c.new-desk.ensures.sound;
+      sound = subst (λ (d : AgentState (List Grant)). IsDecidedLog permits_by d.site d.agent d.log) (sym desk-is) c.new-desk.ensures.sound;
     } in
     subst (λ (cs : List (Client (AgentState (List Grant)))). Seated permits_by s all rest left cs) (sym c.in_ok-push.ensures.items)
     (seated-more permits_by s all c.in-Some.kit rest agent left crew member seated scripts-are at)

@@ -4,7 +4,7 @@ use Rattle.tc_lists.proofs.Parts.{take-append_all}
 use Rattle.tc_policy.specs.declared.grants.Grant.{Grant}
 use Rattle.tc_sched.specs.Clients.{Client}
 use Rattle.tc_sched.specs.Steps.{AllWent, IsReady, left_in}
-use Rattle.tc_site.specs.Desks.{AgentState, IsSound, desk_of}
+use Rattle.tc_site.specs.Desks.{AgentState, IsDecidedLog, desk_of}
 use Rattle.tc_site.specs.Sites.{SiteState}
 use Rattle.tc_workers.specs.Crews.{AreAtDesks, CanDrive}
 use Rattle.tc_workers.proofs.Driven.{ready}
@@ -20,7 +20,7 @@ Member = Client (AgentState (List Grant))
 -- the agents were driven
 abbrev Driven : List Member → List Member → Type 0
 Driven olds news =
-    AllWent {B = SiteState (List Grant) × ℕ} desk_of (λ (d : AgentState (List Grant)). (d.site, d.agent)) (λ (d : AgentState (List Grant)). IsSound permits_by d.site d.agent d.log)
+    AllWent {B = SiteState (List Grant) × ℕ} desk_of (λ (d : AgentState (List Grant)). (d.site, d.agent)) (λ (d : AgentState (List Grant)). IsDecidedLog permits_by d.site d.agent d.log)
     (3 * left_in desk_of olds + 2) olds news
 
 pub drive-requires-send-D : goal.drive-requires-send-D

@@ -3,10 +3,10 @@ use Rattle.tc_term.specs.NameBytes.{has_read_names}
 use Rattle.tc_term.specs.Tree.{Tree}
 use Rattle.tc_read.proofs.ReadNames.{names_found}
 use Rattle.tc_read.specs.ReadAnswers.{IsClauseAnswer}
-use Rattle.tc_spec.specs.Texts.{Reads}
+use Rattle.tc_spec.specs.Texts.{AnswersAt}
 use Rattle.tc_config.proofs.reading.clause_at.Goals as goal
 
-names_by : (text : List ℕ) (from : ℕ) (found : Option (Tree × ℕ)) → IsClauseAnswer (Reads text from) (Ok found)
+names_by : (text : List ℕ) (from : ℕ) (found : Option (Tree × ℕ)) → IsClauseAnswer (AnswersAt text from) (Ok found)
     → IfSome found (λ x. IsTrue (has_read_names x.0))
 names_by text from None told = tt
 names_by text from (Some x) told = names_found true (length text) (drop from text) x.0 x.1 told

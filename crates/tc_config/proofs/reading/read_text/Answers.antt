@@ -2,7 +2,7 @@ use Rattle.std.proofs.Common.{◌≤◌, ◌<◌, Some, ℕ, length, arith}
 use Rattle.tc_lists.proofs.Options.{IfSome-at}
 use Rattle.tc_term.specs.Faults.{Found}
 use Rattle.tc_term.specs.Tree.{Tree}
-use Rattle.tc_spec.specs.Texts.{Reads}
+use Rattle.tc_spec.specs.Texts.{AnswersAt}
 use Rattle.tc_config.specs.Answers.{IsConfigFault}
 use Rattle.tc_config.specs.Drafts.{config_of}
 use Rattle.tc_config.proofs.Onward.{handed_on, read_more, told_refused}
@@ -18,8 +18,8 @@ returns-in_err-clause-clause-bad c =
 pub returns-in-Err-clause-bad : goal.returns-in-Err-clause-bad
 returns-in-Err-clause-bad c =
     let conf = config_of c.loop-draft.draft in
-    let found : Reads c.args.text.now c.loop-draft.from (Found c.in-Some.clause c.in-Some.behind) =
-    IfSome-at (λ (x : Tree × ℕ). Reads c.args.text.now c.loop-draft.from (Found x.0 x.1))
+    let found : AnswersAt c.args.text.now c.loop-draft.from (Found c.in-Some.clause c.in-Some.behind) =
+    IfSome-at (λ (x : Tree × ℕ). AnswersAt c.args.text.now c.loop-draft.from (Found x.0 x.1))
     c.in_ok-clause.field-0 (c.in-Some.clause, c.in-Some.behind) c.in-Some.is c.in_ok-clause.ensures.found in
     told_refused c.args.text.now c.loop-draft.from c.loop-draft.count conf c.refused.result
     c.loop-draft.invariant.read (omega (arith, c.if-text-gt-MOST_BYTES.false))
@@ -28,8 +28,8 @@ returns-in-Err-clause-bad c =
 
 pub loop-draft-preserved : goal.loop-draft-preserved
 loop-draft-preserved c =
-    let found : Reads c.args.text.now c.loop-draft.from (Found c.in-Some.clause c.in-Some.behind) =
-    IfSome-at (λ (x : Tree × ℕ). Reads c.args.text.now c.loop-draft.from (Found x.0 x.1))
+    let found : AnswersAt c.args.text.now c.loop-draft.from (Found c.in-Some.clause c.in-Some.behind) =
+    IfSome-at (λ (x : Tree × ℕ). AnswersAt c.args.text.now c.loop-draft.from (Found x.0 x.1))
     c.in_ok-clause.field-0 (c.in-Some.clause, c.in-Some.behind) c.in-Some.is c.in_ok-clause.ensures.found in
     let further : (c.loop-draft.from < c.in-Some.behind) × (c.in-Some.behind ≤ length c.args.text.now) =
     IfSome-at (λ (x : Tree × ℕ). (c.loop-draft.from < x.1) × (x.1 ≤ length c.args.text.now))

@@ -1,5 +1,5 @@
 use Rattle.std.proofs.Common.{IfOk, OnErr, sym, subst}
-use Rattle.tc_shared.specs.Passes.{Makes, SeesRoom}
+use Rattle.tc_shared.specs.Passes.{CallsInTurn, SeesRoom}
 use Rattle.tc_site.specs.Turns.{IsTurn}
 use Rattle.tc_site.proofs.Calling.{grown-call, room-call, turn-call}
 use Rattle.tc_site.proofs.turns.turn_at.Goals as goal
@@ -20,6 +20,6 @@ returns-clause-room g c =
 pub returns-clause-grown : goal.returns-clause-grown
 returns-clause-grown g c top is =
     grown-call c.args.centre.now c.args.pass.now c.call-answer.new.pass top c.args.op c.call-answer.result
-    (subst (λ n. IfOk c.call-answer.result (λ told. Makes c.args.centre.now c.args.pass.now n c.args.op told c.call-answer.new.pass)) is
+    (subst (λ n. IfOk c.call-answer.result (λ told. CallsInTurn c.args.centre.now c.args.pass.now n c.args.op told c.call-answer.new.pass)) is
     c.call-answer.ensures.served)
     c.call-answer.ensures.refused

@@ -2,7 +2,7 @@ use Rattle.std.proofs.Common.{◌≡◌, ◌∙◌, ◌+◌, ◌<◌, ◌++◌, 
 use Rattle.tc_config.specs.declared.configs.AgentConf.{AgentConf}
 use Rattle.tc_policy.specs.declared.grants.Grant.{Grant}
 use Rattle.tc_sched.specs.Clients.{Client}
-use Rattle.tc_site.specs.Desks.{AgentState, IsNewDesk, IsSound, desk_of}
+use Rattle.tc_site.specs.Desks.{AgentState, IsNewDesk, IsDecidedLog, desk_of}
 use Rattle.tc_site.specs.Sites.{KitState}
 use Rattle.tc_workers.specs.Crews.{IsAtDesk, bare}
 use Rattle.tc_workers.proofs.Grants.{permits_by}
@@ -76,7 +76,7 @@ loop-kit-preserved c =
       site = ap (λ (d : AgentState (List Grant)). d.site) desk-is ∙ c.new-desk.ensures.site;
       agent = ap (λ (d : AgentState (List Grant)). d.agent) desk-is ∙ c.new-desk.ensures.agent ∙ omega (arith, kit);
       new = subst (λ (d : AgentState (List Grant)). IsNewDesk s.names (desk_of d)) (sym desk-is) c.new-desk.ensures.new;
-      sound = subst (λ (d : AgentState (List Grant)). IsSound permits_by d.site d.agent d.log) (sym desk-is) c.new-desk.ensures.sound;
+      sound = subst (λ (d : AgentState (List Grant)). IsDecidedLog permits_by d.site d.agent d.log) (sym desk-is) c.new-desk.ensures.sound;
     } in
     let seated = seating-more permits_by s old c.in-Some.kit rest now crew seating a member is scripts-are at in
     subst (λ (cs : List (Client (AgentState (List Grant)))). Seating permits_by s old rest (set now c.len-agent.result c.hand_out-scripts.new.agent) cs) (sym c.in_ok-push.ensures.items)

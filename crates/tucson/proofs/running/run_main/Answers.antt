@@ -4,7 +4,7 @@ use Rattle.tc_config.specs.Texts.{IsRefused, Spells}
 use Rattle.tc_config.specs.declared.faults.ConfigCause.{ConfigCause}
 use Rattle.tc_config.specs.declared.faults.ConfigCause.TheVariants.{Length}
 use Rattle.tucson.specs.Answer.{IsDueForInput, TooLong, refused_text}
-use Rattle.tucson.specs.Ending.{IsEndOfRun, IsUnlessStopped, Tells, sink_of}
+use Rattle.tucson.specs.Ending.{IsEndOfRun, IsUnlessStopped, WritesDue, sink_of}
 use Rattle.tucson.specs.declared.status.Status.TheVariants.{Refused}
 use Rattle.tucson.proofs.Endings.{Ends-told, Ends-written, of_left, of_too_long}
 use Rattle.tucson.proofs.Words.{words_run}
@@ -14,7 +14,7 @@ pub returns-in-Ok-clause-ends : goal.returns-in-Ok-clause-ends
 returns-in-Ok-clause-ends g c =
     let run = words_run c.args.workers (c.requires.some, c.requires.few) in
     Ends-told _ c.answer.result c.in-Ok.input.items run c.in-Ok.ensures.all
-    (subst (λ (input : List ℕ). Tells (IsDueForInput input) (sink_of g.K.Sink.taken g.K.Sink.write_faults g.K.Sink.sure c.args.sink.now)
+    (subst (λ (input : List ℕ). WritesDue (IsDueForInput input) (sink_of g.K.Sink.taken g.K.Sink.write_faults g.K.Sink.sure c.args.sink.now)
     (sink_of g.K.Sink.taken g.K.Sink.write_faults g.K.Sink.sure c.answer.new.sink) c.answer.result) c.deref.ensures.value c.answer.ensures.tells)
 
 pub returns-in-Ok-clause-runs : goal.returns-in-Ok-clause-runs

@@ -1,6 +1,6 @@
 use Rattle.std.proofs.Common.{ℕ, List, Vec, Global, map, refl, rules}
 use Rattle.tucson.specs.Answer.{Unread, usage_text}
-use Rattle.tucson.specs.Commands.{Asks, IsRun}
+use Rattle.tucson.specs.Commands.{Asks, AsksToRun}
 use Rattle.tucson.specs.declared.status.Status.TheVariants.{Usage}
 use Rattle.tucson.proofs.Endings.{Ends-words, Ends-written}
 use Rattle.tucson.proofs.Words.{asked, told_few, words_run}
@@ -12,7 +12,7 @@ bytes w = w.items
 
 pub returns-in_default-clause-ends : goal.returns-in_default-clause-ends
 returns-in_default-clause-ends g c =
-    let other : IsRun (map bytes c.args.words.now) → ⊥ = search rules in
+    let other : AsksToRun (map bytes c.args.words.now) → ⊥ = search rules in
     Ends-written _ Usage c.written.result Unread usage_text refl (other, refl) c.written.ensures.wrote
 
 pub returns-clause-ends : goal.returns-clause-ends

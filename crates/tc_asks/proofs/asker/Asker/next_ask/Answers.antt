@@ -3,7 +3,7 @@ use Rattle.std.specs.List.{slice_get}
 use Rattle.std.proofs.lemmas.Option.{slice_get-get_or}
 use Rattle.tc_lists.proofs.Options.{IfSome-at}
 use Rattle.tc_model.specs.declared.scripts.ScriptItem.{ScriptItem}
-use Rattle.tc_asks.specs.Bindings.{IsKnown}
+use Rattle.tc_asks.specs.Bindings.{AreKnown}
 use Rattle.tc_asks.specs.Places.{IsItemAt}
 use Rattle.tc_asks.specs.Progress.{Progress}
 use Rattle.tc_asks.proofs.Taken.{next_found, unpending}
@@ -36,5 +36,5 @@ returns-clause-some c =
     IfSome-at (λ i. IsItemAt scripts p.script p.item i.now) c.in_ok-item-2.field-0 c.in-Some-2.item c.in-Some-2.is c.in_ok-item-2.ensures.item in
     next_found scripts log p c.in-Some-2.item.now c.in_ok-filled_ask.field-0 (c.reach-2.ensures.taken log c.loop-self.invariant)
     (omega (arith, c.loop-self-test.false, c.loop-self.invariant.rows, c.reach-2.ensures.rows, old)) at
-    (λ vars es is. c.has_values.ensures vars es (subst (IsKnown vars es) (sym known) is))
-    (λ vars es values is exact. c.in_ok-filled_ask.ensures vars es values (subst (IsKnown vars es) (sym known) is) exact)
+    (λ vars es is. c.has_values.ensures vars es (subst (AreKnown vars es) (sym known) is))
+    (λ vars es values is exact. c.in_ok-filled_ask.ensures vars es values (subst (AreKnown vars es) (sym known) is) exact)

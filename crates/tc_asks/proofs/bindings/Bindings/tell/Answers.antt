@@ -3,7 +3,7 @@ use Rattle.tc_term.specs.Equations.{Equation}
 use Rattle.tc_term.specs.Tree.{IsTuple, is_ground}
 use Rattle.tc_term.specs.TreeView.{tree_of}
 use Rattle.tc_term.proofs.Instances.{var_bound-ground}
-use Rattle.tc_asks.specs.Bindings.{IsKnown}
+use Rattle.tc_asks.specs.Bindings.{AreKnown}
 use Rattle.tc_asks.proofs.Known.{known_never, solved_told}
 use Rattle.tc_asks.proofs.bindings.Bindings.tell.Goals as goal
 
@@ -21,4 +21,4 @@ pub returns-else-self-clause-told : goal.returns-else-self-clause-told
 returns-else-self-clause-told c vars es known =
     let none : c.args.self.now ≡ None = sym c.self.view_is ∙ ap (λ b. if b then Some c.self.inside.store else None) c.if-self.false in
     let told : Equation = (tree_of c.args.template.now, c.args.tuple.now) in
-    subst (IsKnown vars (es ++ told ∷ [])) (sym none) (known_never vars es told (subst (IsKnown vars es) none known))
+    subst (AreKnown vars (es ++ told ∷ [])) (sym none) (known_never vars es told (subst (AreKnown vars es) none known))

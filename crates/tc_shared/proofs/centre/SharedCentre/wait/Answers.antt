@@ -5,7 +5,7 @@ use Rattle.tc_model.specs.Replies.{reply_in}
 use Rattle.tc_model.specs.declared.entries.Entry.{Entry}
 use Rattle.tc_turn.specs.Passes.{PassState}
 use Rattle.tc_model.specs.Calls.{call_of}
-use Rattle.tc_shared.specs.Passes.{IsPassOf, Waits}
+use Rattle.tc_shared.specs.Passes.{IsPassOf, WaitsInTurns}
 use Rattle.tc_shared.proofs.Waiting.{ahead-first, ahead-rested, seen-waits, refused-waits, called-later, waited-in-vain, refused-at-once}
 use Rattle.tc_shared.proofs.centre.SharedCentre.wait.Goals as goal
 
@@ -33,7 +33,7 @@ loop-preserved g c =
     let r = c.rest.new.pass in
     let n = c.look-in-loop.new.pass in
     let sees = c.in-Ok-None-look.ensures.seen.0 in
-    let waits : Waits t p n = seen-waits t p r n (length l.seen + 1)
+    let waits : WaitsInTurns t p n = seen-waits t p r n (length l.seen + 1)
     (ahead-rested t p l r i.own i.known i.after i.turns i.fell c.rest.ensures) sees in
     let same : r.number ≡ p.number =
     ap (λ (x : PassState Entry Origin). x.number) c.rest.ensures.after ∙ ap (λ (x : PassState Entry Origin). x.number) i.after in

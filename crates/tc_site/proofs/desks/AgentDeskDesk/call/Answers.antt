@@ -5,7 +5,7 @@ use Rattle.tc_desk.specs.Decided.{IsRead}
 use Rattle.tc_desk.specs.Desks.{with_row}
 use Rattle.tc_desk.specs.declared.rows.LogRow.{LogRow}
 use Rattle.tc_desk.specs.declared.rows.LogResult.TheVariants.{Refused}
-use Rattle.tc_site.specs.Desks.{AgentState, IsSound}
+use Rattle.tc_site.specs.Desks.{AgentState, IsDecidedLog}
 use Rattle.tc_site.specs.Turns.{IsTurn, waiting_of}
 use Rattle.tc_site.proofs.Told.{at-pass, decides, decides-refused, goes-after, goes-turn, keeps-gone, keeps-refused, keeps-same, lost-before, lost-turn}
 use Rattle.tc_site.proofs.Told.{pushed, read-row, read-turn, refuses, spends-gone, spends-refused, tells}
@@ -150,7 +150,7 @@ returns-in-Ok-turn_at g c =
       sound = λ sound.
           decides g.W.Warden.permits _ c.self.invariant c.is_some-waits.result c.is_some-waits.ensures c.args.centre.now c.args.ask place
           allowed.0 op allowed.1 t p q c.centre.ensures at-p c.turn_at.ensures.kept became row pushed-log site.differ row-is log-is turn
-          (subst (λ (x : AgentState g.row.W.Denot). IsSound g.W.Warden.permits x.site x.agent x.log) (sym c.self.view_is) sound);
+          (subst (λ (x : AgentState g.row.W.Denot). IsDecidedLog g.W.Warden.permits x.site x.agent x.log) (sym c.self.view_is) sound);
       became = tells g.W.Warden.permits _ c.self.invariant c.is_some-waits.result c.is_some-waits.ensures c.args.centre.now c.args.ask place
           allowed.0 op allowed.1 t p q c.centre.ensures at-p c.turn_at.ensures.kept became row pushed-log c.waiting-self-inside.result
           c.told-told.result c.args.self.now row-is log-is c.waiting-self-inside.ensures c.told-told.ensures c.self.view_is turn;
@@ -211,7 +211,7 @@ returns-in_default-why g c =
       sound = λ sound.
           decides-refused permits _ c.self.invariant waits c.is_some-waits.ensures c.args.centre.now c.args.ask why other refused log log-is
           c.args.self.now c.self.view_is c.judge.ensures.site.differ
-          (subst (λ (x : AgentState g.row.W.Denot). IsSound permits x.site x.agent x.log) (sym c.self.view_is) sound);
+          (subst (λ (x : AgentState g.row.W.Denot). IsDecidedLog permits x.site x.agent x.log) (sym c.self.view_is) sound);
       became = refuses permits _ c.self.invariant waits c.is_some-waits.ensures c.args.centre.now c.args.ask why other refused log log-is
           c.args.self.now c.self.view_is;
       there = refused-there _ c.args.centre.now c.args.ask log c.args.self.now c.self.view_is permits waits why other refused;
