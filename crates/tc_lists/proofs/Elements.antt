@@ -5,7 +5,7 @@ use Rattle.std.proofs.Math.Seq.{take-append_seam, drop-append_seam}
 use Rattle.std.proofs.lemmas.List.{reverse-append}
 use Rattle.std.proofs.lemmas.List.Elements.{All-nil, All-cons, All-head, All-tail, All-append, All-push, All-pop, All-take, All-drop}
 use Rattle.std.proofs.lemmas.Option.{slice_get_within, get_or_from_slice_get}
-use Rattle.tc_lists.proofs.Parts.{take_read}
+use Rattle.tc_lists.proofs.Parts.{drop-popped, take_read}
 
 module _ {X : Type 0} (P : X → Type 0) where
   pub All-append_left : (xs ys : List X) → All P (xs ++ ys) → All P xs
@@ -49,6 +49,13 @@ module _ {X : Type 0} (P : X → Type 0) where
   pub All-remove : (xs : List X) (n : ℕ) → All P xs → All P (remove xs n)
   All-remove xs n all =
       All-append P (take n xs) (drop (suc n) xs) (All-take P n xs all) (All-drop P (suc n) xs all)
+
+  -- what a pop leaves behind a place, and what it gave
+  pub All-drop_popped : (xs rest : List X) (x : X) (i : ℕ) → xs ≡ rest ++ x ∷ [] → i ≤ length rest
+      → All P (drop i xs) → All P (drop i rest) × P x
+  All-drop_popped xs rest x i split within all =
+      All-pop P (drop i rest ++ x ∷ []) (drop i rest) (Some x) refl
+      (subst (All P) (drop-popped xs rest x i split within) all)
 
   pub All-reverse : (xs : List X) → All P xs → All P (reverse xs)
   All-reverse [] all = all

@@ -2,6 +2,8 @@ pub mod Bools
 pub mod Options
 pub mod Results
 pub mod Parts
+pub mod Fronts
+pub mod Chunks
 pub mod Prefixes
 pub mod Places
 pub mod Elements

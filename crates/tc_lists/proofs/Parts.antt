@@ -1,7 +1,7 @@
 -- Parts of a list: its first and its last element, what stands before and behind a place.
 use Rattle.std.proofs.Common.{◌≡◌, ◌⊎◌, ℕ, zero, suc, ◌+◌, ◌-◌, ◌<◌, ◌≤◌, List, [], ◌∷◌, ◌++◌, length, get_or, slice_get, take, drop, Some, inl, inr, refl, sym, ap, ◌∙◌, length-append, length-take, length-drop, take_all, arith}
 use Rattle.std.proofs.Math.Seq.{take-append_seam, drop-append_seam}
-use Rattle.std.proofs.lemmas.List.{append_assoc, take_at, take_more, drop_all, drop_more, take-append-drop}
+use Rattle.std.proofs.lemmas.List.{append_assoc, take_at, take_more, drop_all, drop_more, drop-append-le, take-append-drop, take-append-le}
 use Rattle.std.proofs.lemmas.Option.{same_Some}
 
 -- two lists that are one
@@ -109,6 +109,19 @@ take-append_all new old n same long =
 pub take_pushed : {X : Type 0} (xs : List X) (x : X) → take (length (xs ++ x ∷ []) - 1) (xs ++ x ∷ []) ≡ xs
 take_pushed xs x =
     take_at xs (x ∷ []) (length (xs ++ x ∷ []) - 1) (omega (arith, length-append xs (x ∷ [])))
+
+-- what a pop leaves, told by the list as it was
+pub length-popped : {X : Type 0} (xs rest : List X) (x : X) (i n : ℕ) → xs ≡ rest ++ x ∷ [] → n ≡ length xs
+    → i < n → i ≤ length rest
+length-popped xs rest x i n split long below = omega (arith, ap length split, length-append rest (x ∷ []), long)
+
+pub take-popped : {X : Type 0} (xs rest : List X) (x : X) (i : ℕ) → xs ≡ rest ++ x ∷ [] → i ≤ length rest
+    → take i rest ≡ take i xs
+take-popped xs rest x i split within = sym (ap (take i) split ∙ take-append-le i rest (x ∷ []) within)
+
+pub drop-popped : {X : Type 0} (xs rest : List X) (x : X) (i : ℕ) → xs ≡ rest ++ x ∷ [] → i ≤ length rest
+    → drop i xs ≡ drop i rest ++ x ∷ []
+drop-popped xs rest x i split within = ap (drop i) split ∙ drop-append-le i rest (x ∷ []) within
 
 -- more is taken of a longer list, where there is room behind what was taken
 pub take-append_room : {X : Type 0} (n : ℕ) (xs ys : List X)

@@ -2,11 +2,12 @@
 use Rattle.std.proofs.Common.{◌≡◌, ℕ, zero, suc, ◌+◌, ◌<◌, true, false, cond, eqb, List, [], ◌∷◌, ◌++◌, Some, length, get_or, take, drop, map, refl, ap, ◌∙◌, sym, subst, ⊎_elim, add-one, arith}
 use Rattle.std.proofs.Math.ListN.{set}
 use Rattle.std.proofs.lemmas.Bool.{cases_Bool, eqb-true, eqb-false}
-use Rattle.std.proofs.lemmas.List.{get_or-set_same, get_or-set_other, set_split}
+use Rattle.std.proofs.lemmas.List.{get_or-set_same, get_or-set_other, map-set, set_split}
 use Rattle.std.specs.List.{slice_get}
 use Rattle.std.specs.Option.{option_map}
-use Rattle.std.proofs.lemmas.Option.{none-some, same_Some, slice_get-map}
+use Rattle.std.proofs.lemmas.Option.{none-some, same_Some, slice_get-map, slice_get_read, get_or_from_slice_get}
 use Rattle.tc_lists.proofs.Options.{option_map_some}
+use Rattle.tc_lists.proofs.Parts.{cons_head, cons_tail}
 
 -- what stands at the place then
 pub slice_get-set_same : {X : Type 0} (xs : List X) (k : ℕ) (v x : X) → slice_get xs k ≡ Some x → slice_get (set xs k v) k ≡ Some v
@@ -32,6 +33,25 @@ slice_get-as_long (x ∷ xs) (y ∷ ys) (suc k) z same at = slice_get-as_long xs
 -- the image of what stands at a place stands there in the images
 pub slice_get-map_at : {X Y : Type 0} (f : X → Y) (xs : List X) (k : ℕ) (x : X) → slice_get xs k ≡ Some x → slice_get (map f xs) k ≡ Some (f x)
 slice_get-map_at f xs k x at = slice_get-map f xs k ∙ ap (option_map f) at
+
+-- the image of what was read stands at its place in the images
+pub slice_get-map_read : {X Y : Type 0} (f : X → Y) (xs : List X) (n i : ℕ) (x : X) → i < n → length xs ≡ n
+    → x ≡ get_or xs i x → slice_get (map f xs) i ≡ Some (f x)
+slice_get-map_read f xs n i x below long is = slice_get-map_at f xs i x (slice_get_read xs n i x (sym long) below is)
+
+-- and is read there, whatever the default
+pub get_or-map_at : {X Y : Type 0} (f : X → Y) (xs : List X) (k : ℕ) (x : X) (d : Y) → slice_get xs k ≡ Some x
+    → get_or (map f xs) k d ≡ f x
+get_or-map_at f xs k x d at = get_or_from_slice_get (map f xs) k (f x) d (slice_get-map_at f xs k x at)
+
+-- where images are the same list, each image of one list's elements is one of the other's
+pub map_same-read : {X Y Z : Type 0} (f : X → Z) (g : Y → Z) (xs : List X) (ys : List Y) (i : ℕ) (x : X)
+    → map f xs ≡ map g ys → i < length xs → x ≡ get_or xs i x → (y : Y) × (f x ≡ g y)
+map_same-read f g [] ys i x same within is = absurd (omega arith)
+map_same-read f g (a ∷ xs) [] i x same within is = absurd (cc)
+map_same-read f g (a ∷ xs) (b ∷ ys) zero x same within is = (b, ap f is ∙ cons_head same)
+map_same-read f g (a ∷ xs) (b ∷ ys) (suc i) x same within is =
+    map_same-read f g xs ys i x (cons_tail same) (omega (arith, within)) is
 
 -- what stands at a place of the images is the image of what stands there
 pub slice_get-map_from : {X Y : Type 0} (f : X → Y) (xs : List X) (k : ℕ) (y : Y) → slice_get (map f xs) k ≡ Some y → (x : X) × (slice_get xs k ≡ Some x) × (f x ≡ y)
@@ -75,3 +95,19 @@ get_or-set_cases xs i j x d inside =
     (λ (other : eqb i j ≡ false).
     get_or-set_other xs i j x d (λ same. eqb-false i j other (sym same)) ∙ ap (λ b. cond b x (get_or xs j d)) (sym other))
     (cases_Bool (eqb i j))
+
+-- what is read of the images, where one element is set
+module _ {X Y : Type 0} (f : X → Y) where
+  pub get_or-map_set_other : (xs : List X) (i k : ℕ) (v : X) (d : Y) → (k ≡ i → ⊥)
+      → get_or (map f (set xs i v)) k d ≡ get_or (map f xs) k d
+  get_or-map_set_other xs i k v d other =
+      ap (λ ys. get_or ys k d) (map-set f xs i v) ∙ get_or-set_other (map f xs) i k (f v) d other
+
+  -- what holds between each and itself, and between the old image and the new one, holds at each place
+  pub get_or-map_set : (R : Y → Y → Type 0) → ((y : Y) → R y y) → (xs : List X) (i : ℕ) (x v : X) (d : Y)
+      → slice_get xs i ≡ Some x → R (f x) (f v) → (k : ℕ) → R (get_or (map f xs) k d) (get_or (map f (set xs i v)) k d)
+  get_or-map_set R same [] i x v d at goes k = absurd (none-some x at)
+  get_or-map_set R same (y ∷ xs) zero x v d at goes zero = subst (λ z. R (f z) (f v)) (sym (same_Some y x at)) goes
+  get_or-map_set R same (y ∷ xs) zero x v d at goes (suc k) = same (get_or (map f xs) k d)
+  get_or-map_set R same (y ∷ xs) (suc i) x v d at goes zero = same (f y)
+  get_or-map_set R same (y ∷ xs) (suc i) x v d at goes (suc k) = get_or-map_set R same xs i x v d at goes k

@@ -1,6 +1,8 @@
 -- Two lists, place by place.
-use Rattle.std.proofs.Common.{◌≡◌, ℕ, zero, suc, List, [], ◌∷◌, ◌++◌, length, slice_get, Some, refl, ap, subst, arith}
+use Rattle.std.proofs.Common.{◌≡◌, ℕ, zero, suc, Bool, false, ◌&&◌, List, [], ◌∷◌, ◌++◌, length, slice_get, Some, refl, ap, ◌∙◌, subst, arith}
+use Rattle.std.specs.Cmp.Lexicographic.{pointwise}
 use Rattle.std.specs.List.{AllZip}
+use Rattle.std.proofs.Math.Bool.{and-false}
 use Rattle.std.proofs.lemmas.Option.{none-some, same_Some}
 
 -- what stands in the second list is related to what stands in the first
@@ -30,3 +32,12 @@ slice_get-push_both P (u ∷ xs) [] x y same each last k a b at there = absurd (
 slice_get-push_both P (u ∷ xs) (v ∷ ys) x y same each last zero a b at there = each zero a b at there
 slice_get-push_both P (u ∷ xs) (v ∷ ys) x y same each last (suc k) a b at there =
     slice_get-push_both P xs ys x y (omega (arith, same)) (λ j. each (suc j)) last k a b at there
+
+-- lists of different lengths aren't equal at each place
+pub pointwise-length : {X : Type 0} (same : X → X → Bool) (xs ys : List X) → (length xs ≡ length ys → ⊥)
+    → pointwise same xs ys ≡ false
+pointwise-length same [] [] differ = absurd (differ refl)
+pointwise-length same [] (y ∷ ys) differ = refl
+pointwise-length same (x ∷ xs) [] differ = refl
+pointwise-length same (x ∷ xs) (y ∷ ys) differ =
+    ap (λ rest. same x y && rest) (pointwise-length same xs ys (λ e. differ (ap suc e))) ∙ and-false (same x y)

@@ -1,5 +1,5 @@
 -- Lists of terms, and the arguments that they are.
-use Rattle.std.proofs.Common.{◌≡◌, ◌<◌, ◌≤◌, ◌&&◌, ℕ, suc, All, Bool, List, [], ◌∷◌, ◌++◌, length, map, drop, get_or, false, refl, ap, sym, ◌∙◌, arith}
+use Rattle.std.proofs.Common.{◌≡◌, ◌<◌, ◌≤◌, ◌&&◌, ℕ, All, List, [], ◌∷◌, ◌++◌, length, map, drop, get_or, refl, ap, sym, ◌∙◌, arith}
 use Rattle.std.specs.Cmp.Lexicographic.{pointwise}
 use Rattle.std.proofs.Math.Bool.{and-true, and-false}
 use Rattle.std.proofs.lemmas.List.{append-nil, drop_all}
@@ -55,11 +55,3 @@ pub same_trees-seen : (xs ys : List Term) (ts us : Trees) → trees_of xs ≡ ts
     same_trees ts us ≡ pointwise same_term xs ys
 same_trees-seen xs ys ts us seen seen' some some' =
     rw (← seen, ← seen') (same_trees-trees_of xs ys some some')
-
--- lists of different lengths aren't equal at each place
-pub pointwise-length : {X : Type 0} (same : X → X → Bool) (xs ys : List X) → (length xs ≡ length ys → ⊥) → pointwise same xs ys ≡ false
-pointwise-length same [] [] differ = absurd (differ refl)
-pointwise-length same [] (y ∷ ys) differ = refl
-pointwise-length same (x ∷ xs) [] differ = refl
-pointwise-length same (x ∷ xs) (y ∷ ys) differ =
-    ap (λ rest. same x y && rest) (pointwise-length same xs ys (λ e. differ (ap suc e))) ∙ and-false (same x y)

@@ -1,5 +1,6 @@
 use Rattle.std.proofs.Common.{◌≡◌, ap, sym, ◌∙◌, length, arith}
-use Rattle.tc_term.proofs.Trees.{pointwise-length, same_trees-seen}
+use Rattle.tc_lists.proofs.Zips.{pointwise-length}
+use Rattle.tc_term.proofs.Trees.{same_trees-seen}
 use Rattle.tc_term.specs.Same.{same_term}
 use Rattle.tc_term.proofs.terms.+same.Goals as goal
 
