@@ -1,10 +1,10 @@
 -- The arena: what its nodes are, also once it grows or is cut.
-use Rattle.std.proofs.Common.{◌≡◌, ◌≢◌, ℕ, ◌+◌, ◌-◌, ◌<◌, ◌≤◌, ◌⊎◌, inl, inr, List, [], ◌∷◌, ◌++◌, length, length-append, length-drop, take, drop, append_assoc, get_or, refl, sym, ap, ap₂, ◌∙◌, subst, arith, Bool, cond, ℤ}
+use Rattle.std.proofs.Common.{◌≡◌, ◌≢◌, ℕ, ◌+◌, ◌-◌, ◌<◌, ◌≤◌, ◌⊎◌, inl, inr, List, [], ◌∷◌, ◌++◌, length, length-append, length-drop, take, drop, get_or, refl, sym, ap, ap₂, ◌∙◌, subst, arith, Bool, cond, ℤ}
 use Rattle.std.proofs.lemmas.Bool.Decides.{Decides-ltb}
 use Rattle.std.proofs.lemmas.Bool.{cases_lt, cases_order, le-ltb}
 use Rattle.std.proofs.lemmas.List.{take-append-drop, take-append-le, drop-append-le, take_all, length-take-le, get_or_default}
 use Rattle.std.proofs.lemmas.List.Elements.{All-nil, All-cons, All-get_or, All-push, All-weaker}
-use Rattle.std.proofs.Math.ListN.{get_or-append, get_or-eq_default}
+use Rattle.std.proofs.Math.ListN.{get_or-eq_default}
 use Rattle.std.proofs.Math.Seq.{take-append_seam, get_or-append_seam}
 use Rattle.std.proofs.Math.Path.{fun_ext}
 use Rattle.tc_term.specs.Tree.{Tree, Variable, Atomic, Number}
@@ -14,12 +14,14 @@ use Rattle.tc_unify.specs.Names.{name_at}
 use Rattle.tc_unify.specs.declared.nodes.Node.{Node}
 use Rattle.tc_unify.specs.declared.nodes.Node.TheVariants.{Atom, Int, Apply}
 use Rattle.tc_unify.specs.Nodes.{Shape, VariableNode, AtomNode, NumberNode, ApplyNode, IsVariable, IsTerm, IsHead, IsPlain, IsInOrder, InOrder, tree_of_node, applied, label}
-use Rattle.tc_unify.proofs.Labels.{IsWithin, label-same, label-labels}
+use Rattle.tc_unify.proofs.Labels.{label-same, label-labels}
+use Rattle.tc_unify.specs.Walks.{NamesAll}
 use Rattle.tc_unify.specs.Arena.{node_shape, outer_shape, shape_in, IsInside, HasLink, IsNodeWithin, IsArenaOf, IsArena, IsNodeOf, AreNodesOf, Grows, IsNodeFor, IsHeadFor, shape_of, node_tree, Begins}
 use Rattle.tc_unify.specs.declared.nodes.Arena.{Arena}
 use Rattle.std.specs.Prelude.{bytes_eq, slice_range, Decides}
 use Rattle.std.proofs.lemmas.Slice.Eq.{bytes_eq-Decides}
 use Rattle.tc_lists.proofs.Parts.{take-drop-append}
+use Rattle.tc_lists.proofs.Prefixes.{IsPrefix-from_take, IsPrefix-trans, get_or-IsPrefix, length-IsPrefix, take-IsPrefix}
 
 -- what a term's node is
 pub shape_in-term : (nodes : List Node) (text : List ℕ) (k : ℕ) → k < FIRST_NAME → shape_in nodes text k ≡ node_shape text (get_or nodes k (Atom 0 0))
@@ -137,9 +139,7 @@ Begins-rest : {X : Type 0} (xs ys : List X) → Begins xs ys → ys ≡ xs ++ dr
 Begins-rest xs ys h = sym (take-append-drop (length xs) ys) ∙ ap (λ zs. zs ++ drop (length xs) ys) h
 
 pub Begins-length : {X : Type 0} (xs ys : List X) → Begins xs ys → length xs ≤ length ys
-Begins-length xs ys h =
-    let e : length ys ≡ length xs + length (drop (length xs) ys) = ap length (Begins-rest xs ys h) ∙ length-append xs (drop (length xs) ys) in
-    omega (arith, e)
+Begins-length xs ys h = length-IsPrefix xs ys (IsPrefix-from_take xs ys h)
 
 pub Begins-itself : {X : Type 0} (xs : List X) → Begins xs xs
 Begins-itself xs = take_all (length xs) xs (omega arith)
@@ -149,12 +149,7 @@ Begins-append xs more = take-append_seam xs more
 
 pub Begins-trans : {X : Type 0} (xs ys zs : List X) → Begins xs ys → Begins ys zs → Begins xs zs
 Begins-trans xs ys zs h i =
-    let e : zs ≡ xs ++ (drop (length xs) ys ++ drop (length ys) zs) =
-    Begins-rest ys zs i ∙ ap (λ us. us ++ drop (length ys) zs) (Begins-rest xs ys h) ∙ append_assoc xs (drop (length xs) ys) (drop (length ys) zs) in
-    ap (take (length xs)) e ∙ take-append_seam xs (drop (length xs) ys ++ drop (length ys) zs)
-
-pub get_or-begins : {X : Type 0} (xs ys : List X) (d : X) (k : ℕ) → Begins xs ys → k < length xs → get_or ys k d ≡ get_or xs k d
-get_or-begins xs ys d k h i = ap (λ zs. get_or zs k d) (Begins-rest xs ys h) ∙ get_or-append xs (drop (length xs) ys) d k i
+    take-IsPrefix xs zs (IsPrefix-trans xs ys zs (IsPrefix-from_take xs ys h) (IsPrefix-from_take ys zs i))
 
 name-begins : (text longer : List ℕ) (from len : ℕ) → Begins text longer → from + len ≤ length text → take len (drop from longer) ≡ take len (drop from text)
 name-begins text longer from len h i =
@@ -177,27 +172,27 @@ module _ (nodes more : List Node) (text longer : List ℕ) (count : ℕ) (arena 
   shape_in-grows k (inl h) =
       let few = arena.few in
       shape_in-term more longer k (omega arith)
-      ∙ ap (node_shape longer) (get_or-begins nodes more (Atom 0 0) k grows h)
+      ∙ ap (node_shape longer) (get_or-IsPrefix nodes more k (Atom 0 0) (IsPrefix-from_take nodes more grows) h)
       ∙ node_shape-begins nodes text longer count (get_or nodes k (Atom 0 0)) text_grows (node_at k h)
       ∙ sym (shape_in-term nodes text k (omega arith))
   shape_in-grows k (inr h) = shape_in-outer more longer k h.0 ∙ sym (shape_in-outer nodes text k h.0)
 
-  within_shape : (node : Node) → IsNodeWithin nodes text count node → IsWithin (IsInside nodes count) (node_shape text node)
+  within_shape : (node : Node) → IsNodeWithin nodes text count node → NamesAll (IsInside nodes count) (node_shape text node)
   within_shape (Atom from len) h = tt
   within_shape (Int n) h = tt
   within_shape (Apply head argument) h = h
 
-  plain_within : (s : Shape) → IsPlain s → IsWithin (IsInside nodes count) s
+  plain_within : (s : Shape) → IsPlain s → NamesAll (IsInside nodes count) s
   plain_within (VariableNode n) h = tt
   plain_within (AtomNode name) h = tt
   plain_within (NumberNode n) h = tt
   plain_within (ApplyNode head argument) h = absurd h
 
   -- the nodes that a node names are inside
-  pub inside_within : (k : ℕ) → IsInside nodes count k → IsWithin (IsInside nodes count) (shape_in nodes text k)
+  pub inside_within : (k : ℕ) → IsInside nodes count k → NamesAll (IsInside nodes count) (shape_in nodes text k)
   inside_within k (inl h) =
       let few = arena.few in
-      subst (IsWithin (IsInside nodes count)) (sym (shape_in-term nodes text k (omega arith))) (within_shape (get_or nodes k (Atom 0 0)) (node_at k h))
+      subst (NamesAll (IsInside nodes count)) (sym (shape_in-term nodes text k (omega arith))) (within_shape (get_or nodes k (Atom 0 0)) (node_at k h))
   inside_within k (inr h) = plain_within (shape_in nodes text k) (outer_plain nodes text k h.0)
 
   -- and their trees
@@ -226,7 +221,7 @@ within_more nodes node text count (Atom from len) h = h
 within_more nodes node text count (Int n) h = tt
 within_more nodes node text count (Apply head argument) h = (inside_more nodes node count head h.0, inside_more nodes node count argument h.1)
 
-order_of : (nodes : List Node) (text : List ℕ) (count k : ℕ) (other : ℕ → Shape) (s : Shape) → ((j : ℕ) → IsInside nodes count j → other j ≡ shape_in nodes text j) → IsWithin (IsInside nodes count) s → IsInOrder (shape_in nodes text) k s → IsInOrder other k s
+order_of : (nodes : List Node) (text : List ℕ) (count k : ℕ) (other : ℕ → Shape) (s : Shape) → ((j : ℕ) → IsInside nodes count j → other j ≡ shape_in nodes text j) → NamesAll (IsInside nodes count) s → IsInOrder (shape_in nodes text) k s → IsInOrder other k s
 order_of nodes text count k other (VariableNode n) e w h = tt
 order_of nodes text count k other (AtomNode name) e w h = tt
 order_of nodes text count k other (NumberNode n) e w h = tt
@@ -248,7 +243,7 @@ module _ (nodes : List Node) (node : Node) (text : List ℕ) (count : ℕ) (aren
   unfolding pushed
   pushed-inside k h = shape_in-grows nodes (nodes ++ node ∷ []) text text count arena (Begins-append nodes (node ∷ [])) (Begins-itself text) k h
 
-  within_next : (k : ℕ) → k < length nodes → IsWithin (IsInside nodes count) (shape_in nodes text k)
+  within_next : (k : ℕ) → k < length nodes → NamesAll (IsInside nodes count) (shape_in nodes text k)
   within_next k h = inside_within nodes nodes text text count arena (Begins-itself nodes) (Begins-itself text) k (inl h)
 
   inside_order : (k : ℕ) → IsInside nodes count k → IsPlain (pushed k) ⊎ (k < length nodes)
@@ -302,10 +297,10 @@ named_nodes a j k f x g y arena h i d e =
     let P : ℕ × ℕ → Type 0 = λ p. IsNodeOf a p.0 × IsNodeOf a p.1 in
     let nodes = a.nodes.items in
     let text = a.text.items in
-    let within : (n : ℕ) → n < length nodes → IsWithin (IsNodeOf a) (shape_of a n) =
+    let within : (n : ℕ) → n < length nodes → NamesAll (IsNodeOf a) (shape_of a n) =
     λ n m. inside_within nodes nodes text text a.variables arena (Begins-itself nodes) (Begins-itself text) n (inl m) in
-    let left = subst (IsWithin (IsNodeOf a)) d (within j h) in
-    let right = subst (IsWithin (IsNodeOf a)) e (within k i) in
+    let left = subst (NamesAll (IsNodeOf a)) d (within j h) in
+    let right = subst (NamesAll (IsNodeOf a)) e (within k i) in
     All-cons P (x, y) ((f, g) ∷ []) (left.1, right.1) (All-cons P (f, g) [] (left.0, right.0) (All-nil P))
 
 node_shape-plain : (text : List ℕ) (node : Node) → ((head argument : ℕ) → node ≢ Apply head argument) → IsPlain (node_shape text node)
@@ -322,7 +317,7 @@ pub named_node : (a : Arena) (k f x : ℕ) → IsArena a → k < length a.nodes.
 named_node a k f x arena h e =
     let nodes = a.nodes.items in
     let text = a.text.items in
-    subst (IsWithin (IsNodeOf a)) e (inside_within nodes nodes text text a.variables arena (Begins-itself nodes) (Begins-itself text) k (inl h))
+    subst (NamesAll (IsNodeOf a)) e (inside_within nodes nodes text text a.variables arena (Begins-itself nodes) (Begins-itself text) k (inl h))
 
 -- longer text changes no node
 shape_in-text : (nodes : List Node) (text longer : List ℕ) (count : ℕ) → IsArenaOf nodes text count → Begins text longer → (k : ℕ) → shape_in nodes longer k ≡ shape_in nodes text k

@@ -3,6 +3,7 @@ use Rattle.std.proofs.Common.{◌≡◌, ℕ, zero, suc, ◌+◌, ◌<◌, ◌�
 use Rattle.tc_term.specs.Tree.{Tree, Variable, Atomic, Number, Compound, Trees, Last, More, nodes, nodes_of_all, depth, depth_of_all, name_bytes, name_bytes_of_all}
 use Rattle.tc_term.specs.Variables.{instance, instances}
 use Rattle.tc_unify.specs.Nodes.{and_last, applied, Shape, VariableNode, AtomNode, NumberNode, ApplyNode, tree_of_node, IsTerm, IsHead, IsPlain, IsInOrder, InOrder, IsLabelling, label_within, label}
+use Rattle.tc_unify.specs.Walks.{NamesAll}
 
 -- a term that can have one argument more
 abbrev pub IsSpine : Tree → Type 0
@@ -191,20 +192,14 @@ label_within-unique shape v F o l zero k d = absurd (elim d [ inl low ↦ omega 
 label_within-unique shape v F o l (suc f) k d =
     l k ∙ tree_of_node-below shape v F (label_within f shape v) f k (shape k) (o k) (deep_enough shape f k d) (λ j e. label_within-unique shape v F o l f j e)
 
--- the nodes that a node names have a property
-abbrev pub IsWithin : (ℕ → Type 0) → Shape → Type 0
-IsWithin P (ApplyNode head argument) = P head × P argument
-IsWithin P (VariableNode n) = Unit {0}
-IsWithin P (AtomNode name) = Unit {0}
-IsWithin P (NumberNode n) = Unit {0}
-
-tree_of_node-within : (P : ℕ → Type 0) (v F G : ℕ → Tree) (s : Shape) → IsWithin P s → ((j : ℕ) → P j → F j ≡ G j) → tree_of_node v F s ≡ tree_of_node v G s
+-- where the nodes that a node names have a property
+tree_of_node-within : (P : ℕ → Type 0) (v F G : ℕ → Tree) (s : Shape) → NamesAll P s → ((j : ℕ) → P j → F j ≡ G j) → tree_of_node v F s ≡ tree_of_node v G s
 tree_of_node-within P v F G (VariableNode n) h e = refl
 tree_of_node-within P v F G (AtomNode name) h e = refl
 tree_of_node-within P v F G (NumberNode n) h e = refl
 tree_of_node-within P v F G (ApplyNode head argument) h e = ap₂ applied (e head h.0) (e argument h.1)
 
-label_within-agree : (shape other : ℕ → Shape) (v : ℕ → Tree) (P : ℕ → Type 0) → ((k : ℕ) → P k → shape k ≡ other k) → ((k : ℕ) → P k → IsWithin P (shape k)) → (f k : ℕ) → P k → label_within f shape v k ≡ label_within f other v k
+label_within-agree : (shape other : ℕ → Shape) (v : ℕ → Tree) (P : ℕ → Type 0) → ((k : ℕ) → P k → shape k ≡ other k) → ((k : ℕ) → P k → NamesAll P (shape k)) → (f k : ℕ) → P k → label_within f shape v k ≡ label_within f other v k
 label_within-agree shape other v P same kids zero k p = refl
 label_within-agree shape other v P same kids (suc f) k p =
     tree_of_node-within P v (label_within f shape v) (label_within f other v) (shape k) (kids k p) (label_within-agree shape other v P same kids f)
@@ -238,6 +233,6 @@ instance-label shape f o =
     (λ k. ap (instance f) (label-labels shape Variable o k) ∙ instance-tree_of_node f (label shape Variable) shape k (shape k) (o k) (IsSpine-label shape Variable))
 
 -- nodes below a number that have the same shapes in two arenas have the same trees there
-pub label-same : (shape other : ℕ → Shape) (v : ℕ → Tree) (P : ℕ → Type 0) → ((k : ℕ) → P k → shape k ≡ other k) → ((k : ℕ) → P k → IsWithin P (shape k)) → (k : ℕ) → P k → label shape v k ≡ label other v k
+pub label-same : (shape other : ℕ → Shape) (v : ℕ → Tree) (P : ℕ → Type 0) → ((k : ℕ) → P k → shape k ≡ other k) → ((k : ℕ) → P k → NamesAll P (shape k)) → (k : ℕ) → P k → label shape v k ≡ label other v k
 unfolding label
 label-same shape other v P same kids k p = label_within-agree shape other v P same kids (suc (suc k)) k p

@@ -1,12 +1,11 @@
 -- Tables of links: what they give, and what a write or a rewinding leaves.
-use Rattle.std.proofs.Common.{◌≡◌, ◌≢◌, ℕ, zero, suc, ◌+◌, ◌-◌, ◌<◌, ◌≤◌, ◌⊎◌, inl, inr, List, [], ◌∷◌, ◌++◌, length, get_or, set, refl, sym, ap, ◌∙◌, subst, arith, Bool, true, false, cond, ◌==◌, true≢false, append_assoc, append-nil, take, drop, length-append, length-take, All}
-use Rattle.std.specs.Prelude.{Some}
-use Rattle.std.proofs.Math.ListN.{get_or-append, get_or-eq_default}
-use Rattle.std.proofs.Math.Seq.{get_or-append_seam}
-use Rattle.std.proofs.lemmas.List.Elements.{All-head, All-tail, All-pop}
+use Rattle.std.proofs.Common.{◌≡◌, ◌≢◌, ℕ, zero, suc, ◌+◌, ◌-◌, ◌<◌, ◌≤◌, ◌⊎◌, inl, inr, List, [], ◌∷◌, ◌++◌, length, get_or, set, refl, sym, ap, ◌∙◌, subst, arith, Bool, true, false, cond, ◌==◌, true≢false, append_assoc, append-nil, take, drop, length-take, All}
+use Rattle.std.proofs.Math.ListN.{get_or-eq_default}
+use Rattle.std.proofs.lemmas.List.Elements.{All-head, All-tail}
 use Rattle.std.proofs.lemmas.Bool.Decides.{Decides-ltb, Decides-eqb, nat_tests}
-use Rattle.std.proofs.lemmas.Bool.{cases_lt, cases_order, le-ltb}
-use Rattle.std.proofs.lemmas.List.{get_or-set_same, get_or-set_other, drop-append-le, take-append-le, get_or-take}
+use Rattle.std.proofs.lemmas.Bool.{cases_lt, le-ltb}
+use Rattle.std.proofs.lemmas.List.{get_or-set_same, get_or-set_other, get_or-take}
+use Rattle.tc_lists.proofs.Parts.{drop-popped}
 use Rattle.tc_unify.specs.declared.nodes.TheConstants.{FIRST_VARIABLE}
 use Rattle.tc_unify.specs.declared.links.Links.{Links}
 use Rattle.tc_unify.specs.Links.{linked, root, Falls}
@@ -197,35 +196,11 @@ pub rewound-popped : (link new : ℕ → ℕ) (trail rest : List ℕ) (x len : �
 rewound-popped link new trail rest x len e h set k =
     rewound-same new (rewound link (x ∷ [])) (drop len rest) k (λ j. set j ∙ sym (rewound-reset link x j))
     ∙ sym (rewound-append link (drop len rest) (x ∷ []) k)
-    ∙ ap (λ ns. rewound link ns k) (sym (ap (drop len) e ∙ drop-append-le len rest (x ∷ []) h))
-
--- a place more that links to itself changes no link
-pub own_pushed : (table : List ℕ) (first k : ℕ) → get_or (table ++ (first + length table) ∷ []) k (first + k) ≡ get_or table k (first + k)
-own_pushed table first k =
-    elim (cases_order k (length table)) [
-      | inl at ↦
-          ap (λ j. get_or (table ++ (first + length table) ∷ []) j (first + k)) at
-          ∙ get_or-append_seam table (first + length table) [] (first + k)
-          ∙ ap (λ j. first + j) (sym at) ∙ sym (get_or-eq_default table (first + k) (omega arith))
-      | inr (inl below) ↦ get_or-append table ((first + length table) ∷ []) (first + k) k below
-      | inr (inr above) ↦
-          get_or-eq_default (table ++ (first + length table) ∷ []) (first + k) (omega (arith, length-append table ((first + length table) ∷ [])))
-          ∙ sym (get_or-eq_default table (first + k) (omega arith))
-    ]
+    ∙ ap (λ ns. rewound link ns k) (sym (drop-popped trail rest x len e h))
 
 pub HasNode-same : (l m : Links) → length m.terms.items ≡ length l.terms.items → length m.variables.items ≡ length l.variables.items → (k : ℕ) → HasNode l k → HasNode m k
 HasNode-same l m terms variables k (inl h) = inl (let below = h.0 in omega arith, h.1)
 HasNode-same l m terms variables k (inr h) = inr (h.0, (let below = h.1 in omega arith))
-
-pub rest_length : (trail rest : List ℕ) (x len n : ℕ) → trail ≡ rest ++ x ∷ [] → n ≡ length trail → len < n → len ≤ length rest
-rest_length trail rest x len n e size h = omega (arith, ap length e, length-append rest (x ∷ []))
-
-pub places_popped : (P : ℕ → Type 0) (trail rest : List ℕ) (x len : ℕ) → trail ≡ rest ++ x ∷ [] → len ≤ length rest → All P (drop len trail) → All P (drop len rest) × P x
-places_popped P trail rest x len e h all =
-    All-pop P (drop len rest ++ x ∷ []) (drop len rest) (Some x) refl (subst (All P) (ap (drop len) e ∙ drop-append-le len rest (x ∷ []) h) all)
-
-pub take_popped : (trail rest : List ℕ) (x len : ℕ) → trail ≡ rest ++ x ∷ [] → len ≤ length rest → take len rest ≡ take len trail
-take_popped trail rest x len e h = sym (ap (take len) e ∙ take-append-le len rest (x ∷ []) h)
 
 -- a table that is cut links what it lost to itself
 pub link_in-cut : (terms variables : List ℕ) (n : ℕ) (f : ℕ → ℕ) → ((k : ℕ) → link_in terms variables k ≡ f k) → ((k : ℕ) → n ≤ k → k < FIRST_VARIABLE → f k ≡ k) → (k : ℕ) → link_in (take n terms) variables k ≡ f k

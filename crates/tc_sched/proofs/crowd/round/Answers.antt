@@ -3,11 +3,13 @@ use denote.Param.Send.{param_send}
 use Rattle.tc_sched.proofs.crowd.round.Lts as lts
 use Rattle.tc_sched.proofs.Sending.{actor_send}
 use Rattle.std.proofs.Common.{◌*◌, ◌+◌, length, sym, arith, subst, List, take, drop, All}
+use Rattle.std.proofs.Math.Nat.{le-mul_of_pos_right}
 use Rattle.tc_sched.specs.Clients.{Client}
 use Rattle.tc_sched.specs.Steps.{left_in, IsReady, Settles}
 use Rattle.std.proofs.lemmas.List.Elements.{All-take, All-drop}
 use Rattle.tc_sched.proofs.Crowds.{all-less, settles-append}
-use Rattle.tc_sched.proofs.Chunks.{by-chunks, left-part, roomy}
+use Rattle.tc_lists.proofs.Chunks.{by-chunks}
+use Rattle.tc_sched.proofs.Chunks.{left-part}
 use Rattle.tc_sched.proofs.crowd.round.Goals as goal
 
 pub for_each_chunk_mut-requires-clause-accepts : goal.for_each_chunk_mut-requires-clause-accepts
@@ -25,7 +27,7 @@ returns-then-load g c =
     let Q : List (Client g.row.D.Denot) → List (Client g.row.D.Denot) → Type 0 = Settles g.D.Desk.state g.D.Desk.bond g.D.Desk.sound in
     let cs = c.args.actors.now in let es = c.for_each_chunk_mut.new.s in
     by-chunks Q (record { left = omega arith; went = tt }) (λ xs ys xs' ys' a b. settles-append g.D.Desk.state g.D.Desk.bond g.D.Desk.sound xs ys xs' ys' a b) c.args.size (length cs) cs es c.for_each_chunk_mut.auto.s
-    (roomy (length cs) c.args.size c.requires.size)
+    (le-mul_of_pos_right (length cs) c.requires.size)
     (λ n below. let k = c.for_each_chunk_mut.ensures.chunks n below in
     subst (λ (xs : List (Client g.row.D.Denot)). Q xs (take c.args.size (drop (n * c.args.size) es))) k.argument_is (subst (Q k.argument.now) k.left k.call))
 
@@ -34,7 +36,7 @@ returns g c =
     let Q : List (Client g.row.D.Denot) → List (Client g.row.D.Denot) → Type 0 = Settles g.D.Desk.state g.D.Desk.bond g.D.Desk.sound in
     let cs = c.args.actors.now in let es = c.for_each_chunk_mut.new.s in
     by-chunks Q (record { left = omega arith; went = tt }) (λ xs ys xs' ys' a b. settles-append g.D.Desk.state g.D.Desk.bond g.D.Desk.sound xs ys xs' ys' a b) c.args.size (length cs) cs es c.for_each_chunk_mut.auto.s
-    (roomy (length cs) c.args.size c.requires.size)
+    (le-mul_of_pos_right (length cs) c.requires.size)
     (λ n below. let k = c.for_each_chunk_mut.ensures.chunks n below in
     subst (λ (xs : List (Client g.row.D.Denot)). Q xs (take c.args.size (drop (n * c.args.size) es))) k.argument_is (subst (Q k.argument.now) k.left k.call))
 
