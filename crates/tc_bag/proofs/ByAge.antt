@@ -112,7 +112,7 @@ map-others f age (s ∷ ss) same others =
     cc
 
 -- a slot with another number
-abbrev slot_with : Slot → ℕ → Slot
+abbrev pub slot_with : Slot → ℕ → Slot
 slot_with s n = record s { taken = n }
 
 pub with_taken-other : (age n : ℕ) (s : Slot) → s.age ≢ age → with_taken age n s ≡ s

@@ -4,7 +4,7 @@ use Rattle.std.proofs.lemmas.Bool.{cases_Bool, eqb-true, eq-eqb, ne_eqb, true≢
 use Rattle.std.proofs.lemmas.Bool.Decides.{nat_tests}
 use Rattle.std.proofs.lemmas.List.Elements.{All-weaker, All-map, All-filter, filter_passes}
 use Rattle.tc_bag.specs.Slots.{Slot, InOrder, IsLogged, is_there, stays, revived_at, revived}
-use Rattle.tc_bag.proofs.ByAge.{behind_others, map-others, map-alike}
+use Rattle.tc_bag.proofs.ByAge.{slot_with, behind_others, map-others, map-alike}
 use Rattle.tc_lists.proofs.Filters.{filter_all}
 use Rattle.tc_lists.proofs.Places.{slice_get_push}
 use Rattle.std.proofs.lemmas.List.Folds.{map_fixed}
@@ -37,9 +37,6 @@ InOrder-filter p (s ∷ ss) order =
     ]
 
 -- numbers of taken rows that are brought back
-abbrev with_number : Slot → ℕ → Slot
-with_number s n = record s { taken = n }
-
 twice : (b : Bool) (n t : ℕ) → cond (nat_lt n (cond (b && nat_lt n t) 0 t)) 0 (cond (b && nat_lt n t) 0 t) ≡ cond (nat_lt n t) 0 t
 twice b n t = grind (arith, nat_tests)
 
@@ -62,12 +59,12 @@ revived-twice age n ss =
     ∙ map-alike (λ s. revived n (revived_at age n s)) (revived n) ss
     (λ k d inside.
     let s = get_or ss k d in
-    ap (with_number s) (twice (s.age == age) n s.taken))
+    ap (slot_with s) (twice (s.age == age) n s.taken))
 
 pub revived-all : (n : ℕ) (ss : List Slot) → All (λ s. s.taken ≤ n) ss → ss ≡ map (revived n) ss
 revived-all n ss below =
     sym (map_fixed (revived n) ss
-    (All-weaker (λ s. s.taken ≤ n) (λ s. revived n s ≡ s) (λ s down. ap (with_number s) (few n s.taken down)) ss below))
+    (All-weaker (λ s. s.taken ≤ n) (λ s. revived n s ≡ s) (λ s down. ap (slot_with s) (few n s.taken down)) ss below))
 
 -- the last of the list is brought back
 pub logged_back : (front : List ℕ) (age n : ℕ) (ss : List Slot) → n ≤ length front → All (IsLogged (front ++ age ∷ [])) ss
@@ -100,7 +97,7 @@ cond_both true s t xs ys few = omega (arith, few)
 cond_both false s t xs ys few = few
 
 pub revived_at-other : (age n : ℕ) (s : Slot) → s.age ≢ age → revived_at age n s ≡ s
-revived_at-other age n s other = ap (λ b. with_number s (cond (b && nat_lt n s.taken) 0 s.taken)) (ne_eqb s.age age other)
+revived_at-other age n s other = ap (λ b. slot_with s (cond (b && nat_lt n s.taken) 0 s.taken)) (ne_eqb s.age age other)
 
 pub revived-count : (age n : ℕ) (ss : List Slot) → InOrder ss
     → length (filter is_there (map (revived_at age n) ss)) ≤ length (filter is_there ss) + 1

@@ -13,7 +13,7 @@ use Rattle.tc_bag.specs.Slots.{Slot, slot, row_of, is_there, is_older, was_there
 use Rattle.tc_bag.proofs.Ages.{IsOther, without_age-none, tuple_at-none}
 use Rattle.tc_lists.specs.Marks.{IsBack, IsGivenUp, Climbs}
 use Rattle.tc_lists.proofs.Marks.{Climbs-more, Climbs-push, Climbs-pop}
-use Rattle.tc_bag.proofs.ByAge.{behind_others, map-others, filter-others}
+use Rattle.tc_bag.proofs.ByAge.{slot_with, behind_others, map-others, filter-others}
 use Rattle.tc_bag.proofs.Logged.{InOrder-map, InOrder-filter, taken_within}
 use Rattle.tc_lists.proofs.Filters.{IsTold, filter_all, map-filter-append, map-filter_alike, map-filter_at, map-filter_changed, map-filter_fail}
 use Rattle.tc_lists.proofs.Firsts.{All-from_NoneOf, NoneOf-from_All}
@@ -74,11 +74,8 @@ rows-removed age (s ∷ ss) order =
     ]
 
 -- a row that is taken
-abbrev with_number : Slot → ℕ → Slot
-with_number s n = record s { taken = n }
-
 taken_at-other : (age n : ℕ) (s : Slot) → s.age ≢ age → taken_at age n s ≡ s
-taken_at-other age n s other = ap (λ b. with_number s (cond (b && is_there s) n s.taken)) (ne_eqb s.age age other)
+taken_at-other age n s other = ap (λ b. slot_with s (cond (b && is_there s) n s.taken)) (ne_eqb s.age age other)
 
 taken_gone : (n t : ℕ) → 0 < n → (cond (t == 0) n t == 0) ≡ false
 taken_gone n t some = grind (arith, nat_tests)

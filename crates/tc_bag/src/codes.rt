@@ -53,8 +53,8 @@ fn key_code(key: Lent) -> u64
     }
 }
 
-// The code of a term without its arguments.
-fn top_code(t: &Term) -> u64
+/// The code of a term without its arguments; 0 of a variable.
+pub fn top_code(t: &Term) -> u64
     ensures { result ≡ top_code (tree_of t.now) }
 {
     match t {

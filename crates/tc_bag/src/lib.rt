@@ -22,6 +22,7 @@ mod rows;
 mod slots;
 
 pub use bag::{Bag, PutFault};
+pub use codes::top_code;
 pub use key::{Key, known_first};
 pub use laws::{matching_tuple_agrees, matching_tuple_has_first};
 pub use tc_lists::NoMemory;

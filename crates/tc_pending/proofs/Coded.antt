@@ -1,21 +1,23 @@
 -- Codes of terms and of lists of requests.
 use Rattle.std.proofs.Common.{◌≡◌, ◌≢◌, ◌<◌, ◌-◌, ℕ, suc, inl, inr, List, [], ◌∷◌, ◌++◌, length, get_or, take, drop, refl, ap, sym, subst, ◌∙◌, arith}
-use Rattle.std.specs.List.{remove, insert, take-map, drop-map}
+use Rattle.std.specs.List.{fold, remove, insert, take-map, drop-map}
 use Rattle.std.proofs.lemmas.List.{map-append, length-map, get_or-map, length-take}
 use Rattle.tc_term.proofs.Instances.{instance-ground}
 use Rattle.tc_term.specs.Equations.{at, under}
 use Rattle.tc_term.specs.Tree.{Tree, Variable, Atomic, Number, Compound, Trees, IsTuple}
 use Rattle.tc_term.specs.Variables.{instance, instances}
+use Rattle.tc_lists.specs.Codes.{mixed}
+use Rattle.tc_bag.specs.Codes.{top_code}
 use Rattle.tc_bag.specs.Keys.{first_of}
 use Rattle.tc_bag.proofs.Agreement.{arity-instances, first_of-instances}
 use Rattle.tc_model.specs.State.{IsMatch}
 use Rattle.tc_model.specs.declared.calls.Request.{Request}
-use Rattle.tc_pending.specs.Codes.{joined, joined_all, top_code, with_first, code_of, MayMatch, codes_of}
+use Rattle.tc_pending.specs.Codes.{with_first, code_of, MayMatch, codes_of}
 
 -- a term has its code without its arguments still once its variables are replaced
 top-instance : (f : ℕ → Tree) (name : List ℕ) (args : Trees)
     → top_code (Compound name args) ≡ top_code (Compound name (instances f args))
-top-instance f name args = ap (joined (joined_all 3 name)) (sym (arity-instances f args))
+top-instance f name args = ap (λ n. fold mixed (mixed 3 n) name) (sym (arity-instances f args))
 
 first-instance : (f : ℕ → Tree) (name : List ℕ) (args : Trees) (first : Tree) → first_of args ≡ first
     → MayMatch (with_first (top_code (Compound name args)) first) (Compound name (instances f args))
@@ -32,7 +34,7 @@ first-instance f name args (Compound other more) is =
     let there : first_of (instances f args) ≡ Compound other (instances f more) =
     first_of-instances f args ∙ ap (instance f) is in
     inr (inr (ap (λ top. with_first top (Compound other more)) (top-instance f name args)
-    ∙ ap (joined (top_code (Compound name (instances f args)))) (top-instance f other more)
+    ∙ ap (mixed (top_code (Compound name (instances f args)))) (top-instance f other more)
     ∙ ap (with_first (top_code (Compound name (instances f args)))) (sym there)))
 
 code-instance : (f : ℕ → Tree) (t : Tree) → MayMatch (code_of t) (instance f t)

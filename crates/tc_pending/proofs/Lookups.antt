@@ -5,10 +5,11 @@ use Rattle.std.proofs.lemmas.List.{length-take, get_or-take, get_or-map}
 use Rattle.std.proofs.lemmas.Option.{slice_get-get_or, slice_get_within, get_or_from_slice_get, same_Some}
 use Rattle.tc_lists.specs.Firsts.{NoneOf}
 use Rattle.tc_term.specs.Tree.{Tree, IsTuple}
+use Rattle.tc_bag.specs.Codes.{top_code}
 use Rattle.tc_model.specs.declared.calls.Request.{Request}
 use Rattle.tc_pending.specs.declared.index.Index.{Index}
 use Rattle.tc_pending.specs.Answers.{AsksFor, IsOldestAsking}
-use Rattle.tc_pending.specs.Codes.{top_code, code_of, codes_of}
+use Rattle.tc_pending.specs.Codes.{code_of, codes_of}
 use Rattle.tc_pending.specs.Filed.{Has, HasFirst, HasNone, IsAsking, NoneAsks}
 use Rattle.tc_pending.specs.Rising.{NumbersRise, IsAt}
 use Rattle.tc_pending.proofs.Coded.{code, code-match}

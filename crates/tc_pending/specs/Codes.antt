@@ -1,31 +1,17 @@
--- Codes of terms, by which most requests that don't ask for a tuple are passed over.
-use Rattle.std.specs.Prelude.{◌≡◌, ℕ, ◌+◌, ◌*◌, ◌%◌, ◌⊎◌, List, [], ◌∷◌, map, unsigned_abs}
+-- Codes of templates, by which most requests that don't ask for a tuple are passed over.
+use Rattle.std.specs.Prelude.{◌≡◌, ℕ, ◌⊎◌, List, map}
+use Rattle.tc_lists.specs.Codes.{mixed}
 use Rattle.tc_term.specs.Tree.{Tree, Variable, Atomic, Number, Compound}
-use Rattle.tc_bag.specs.Keys.{arity, first_of}
+use Rattle.tc_bag.specs.Codes.{top_code}
+use Rattle.tc_bag.specs.Keys.{first_of}
 use Rattle.tc_model.specs.declared.calls.Request.{Request}
-
--- two codes in one, from 1 on
-abbrev pub joined : ℕ → ℕ → ℕ
-joined a b = (a * 31 + b % 2147483647) % 2147483647 + 1
-
--- a code joined with each of some numbers in turn
-abbrev pub joined_all : ℕ → List ℕ → ℕ
-joined_all a [] = a
-joined_all a (b ∷ bs) = joined_all (joined a b) bs
-
--- the code of a term without its arguments; 0 of a variable
-abbrev pub top_code : Tree → ℕ
-top_code (Variable n) = 0
-top_code (Atomic name) = joined_all 1 name
-top_code (Number n) = joined 2 (unsigned_abs n)
-top_code (Compound name args) = joined (joined_all 3 name) (arity args)
 
 -- a code with that of a first argument, where this is no variable
 abbrev pub with_first : ℕ → Tree → ℕ
 with_first top (Variable n) = top
-with_first top (Atomic name) = joined top (top_code (Atomic name))
-with_first top (Number n) = joined top (top_code (Number n))
-with_first top (Compound name args) = joined top (top_code (Compound name args))
+with_first top (Atomic name) = mixed top (top_code (Atomic name))
+with_first top (Number n) = mixed top (top_code (Number n))
+with_first top (Compound name args) = mixed top (top_code (Compound name args))
 
 -- the code of a term with its first argument
 abbrev pub code_of : Tree → ℕ

@@ -3,14 +3,16 @@ ghost use Rattle.std.specs.Prelude.{◌≡◌, ◌↔◌, ◌<◌, ◌≤◌, le
 ghost use Rattle.tc_lists.specs.Firsts.{NoneOf};
 ghost use Rattle.tc_term.specs.Tree.{IsTuple};
 ghost use Rattle.tc_pending.specs.Answers.{AsksFor, IsOldestAsking};
-ghost use Rattle.tc_pending.specs.Codes.{top_code, code_of, codes_of};
+ghost use Rattle.tc_bag.specs.Codes.{top_code};
+ghost use Rattle.tc_pending.specs.Codes.{code_of, codes_of};
 ghost use Rattle.tc_pending.specs.Rising.{NumbersRise};
 ghost use Rattle.tc_pending.specs.Filed.{IsFiled, HasFirst, HasNone, IsAsking, NoneAsks};
 
-use crate::codes::{code_of, top_code};
+use crate::codes::code_of;
 use crate::index::Index;
 use crate::numbers::{count_below, place_of};
 use crate::waiters::Waiters;
+use tc_bag::top_code;
 use tc_model::Request;
 use tc_search::does_match;
 use tc_term::Ground;
