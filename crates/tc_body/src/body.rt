@@ -5,6 +5,7 @@ ghost use Rattle.tc_model.specs.Choices.{TheFirst};
 ghost use Rattle.tc_model.specs.Tuples.{after_effects};
 ghost use Rattle.tc_model.specs.Cascades.{pick_of, clause_of};
 ghost use Rattle.tc_model.specs.Triggers.{raises};
+ghost use Rattle.tc_model.specs.declared.limits.TheConstants.{MOST_GOALS};
 ghost use Rattle.tc_bag.specs.Stock.{tuples_of, AddsNone};
 ghost use Rattle.tc_body.specs.Left.{IsLeft};
 
@@ -29,7 +30,7 @@ pub fn execute(
     context: &Context,
     bag: &mut Bag,
 ) -> Result<(Item, Vec<Event>), NoMemory>
-    requires { bag.old.next + 64 ≤ u64.MAX }
+    requires { bag.old.next + MOST_GOALS ≤ u64.MAX }
     ensures body { IfOk result
         (λ x. IsBody TheFirst r.now e.now context.now (tuples_of bag.old.now) x.0) }
     ensures names { IfOk result (λ x. (pick_of x.0 ≡ pick) × (clause_of x.0 ≡ clause)) }
@@ -37,7 +38,7 @@ pub fn execute(
     ensures tuples { IfOk result (λ x. IsLeft x.0 bag.old bag.new) }
     ensures same { OnErr result (bag.new ≡ bag.old) }
     ensures saved { bag.new.saved ≡ bag.old.saved }
-    ensures next { bag.new.next ≤ bag.old.next + 64 }
+    ensures next { bag.new.next ≤ bag.old.next + MOST_GOALS }
     ensures rises { bag.old.next ≤ bag.new.next }
     ensures old { AddsNone bag.old.next bag.old.now bag.new.now }
 {
@@ -58,7 +59,7 @@ pub fn execute_in(
     context: &Context,
     bag: &mut Bag,
 ) -> Result<(Item, Vec<Event>), NoMemory>
-    requires { bag.old.next + 64 ≤ u64.MAX }
+    requires { bag.old.next + MOST_GOALS ≤ u64.MAX }
     ensures body { IfOk result
         (λ x. IsBody TheFirst r.now e.now context.now (tuples_of bag.old.now) x.0) }
     ensures names { IfOk result (λ x. (pick_of x.0 ≡ pick) × (clause_of x.0 ≡ clause)) }
@@ -66,7 +67,7 @@ pub fn execute_in(
     ensures tuples { IfOk result (λ x. IsLeft x.0 bag.old bag.new) }
     ensures same { OnErr result (bag.new ≡ bag.old) }
     ensures saved { bag.new.saved ≡ bag.old.saved }
-    ensures next { bag.new.next ≤ bag.old.next + 64 }
+    ensures next { bag.new.next ≤ bag.old.next + MOST_GOALS }
     ensures rises { bag.old.next ≤ bag.new.next }
     ensures old { AddsNone bag.old.next bag.old.now bag.new.now }
 {
@@ -123,7 +124,7 @@ pub fn run_goals(
     context: &Context,
     bag: &mut Bag,
 ) -> Result<(Option<u32>, Vec<Effect>), NoMemory>
-    requires { bag.old.next + 64 ≤ u64.MAX }
+    requires { bag.old.next + MOST_GOALS ≤ u64.MAX }
     ensures fired { IfOk result (λ x. IfNone x.0
         (IsFired TheFirst r.now e.now context.now (tuples_of bag.old.now) x.1.items)) }
     ensures failed { IfOk result (λ x. IfSome x.0 (λ goal.
@@ -131,7 +132,7 @@ pub fn run_goals(
     ensures tuples { IfOk result (λ x. IfNone x.0
         (tuples_of bag.new.now ≡ after_effects x.1.items (tuples_of bag.old.now))) }
     ensures saved { bag.new.saved ≡ bag.old.saved }
-    ensures next { bag.new.next ≤ bag.old.next + 64 }
+    ensures next { bag.new.next ≤ bag.old.next + MOST_GOALS }
     ensures rises { bag.old.next ≤ bag.new.next }
     ensures old { AddsNone bag.old.next bag.old.now bag.new.now }
 {
