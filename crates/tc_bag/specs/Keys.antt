@@ -17,8 +17,8 @@ key_of (Number n) = Int
 key_of (Compound name args) = Comp name (arity args)
 
 -- the tuple agrees with the key: that is any, or the tuple's own
-abbrev pub Agrees : Key → Tree → Type 0
-Agrees key tuple = (key ≡ Any) ⊎ (key ≡ key_of tuple)
+abbrev pub IsOfKey : Key → Tree → Type 0
+IsOfKey key tuple = (key ≡ Any) ⊎ (key ≡ key_of tuple)
 
 -- the first of some arguments
 abbrev pub first_of : Trees → Tree
@@ -45,4 +45,4 @@ HasFirst first tuple = IfSome first (λ t. first_argument tuple ≡ Some t)
 
 -- the tuple agrees with the key and has this first argument, where one is given
 abbrev pub IsLike : Key → Option Tree → Tree → Type 0
-IsLike key first tuple = Agrees key tuple × HasFirst first tuple
+IsLike key first tuple = IsOfKey key tuple × HasFirst first tuple

@@ -4,7 +4,7 @@ use Rattle.std.specs.Prelude.{◌∷◌, ◌++◌, map, All, Contains, Option, S
 use Rattle.tc_lists.specs.Marks.{with_mark}
 use Rattle.tc_term.specs.Tree.{Tree}
 use Rattle.tc_bag.specs.declared.key.Key.{Key}
-use Rattle.tc_bag.specs.Keys.{Agrees, IsLike}
+use Rattle.tc_bag.specs.Keys.{IsOfKey, IsLike}
 
 -- a tuple with its age, a number that rises from tuple to tuple
 pub record Row : Type 0 where
@@ -42,7 +42,7 @@ AddsNone age old new = (row : Row) → Contains new row → row.age < age → Co
 
 -- the row's age is at least this number, and its tuple agrees with the key
 abbrev pub IsCandidate : Key → ℕ → Row → Type 0
-IsCandidate key from row = (from ≤ row.age) × Agrees key row.tuple
+IsCandidate key from row = (from ≤ row.age) × IsOfKey key row.tuple
 
 -- the same, and the tuple has this first argument, where one is given
 abbrev pub IsCandidateLike : Key → Option Tree → ℕ → Row → Type 0

@@ -21,7 +21,7 @@ pub enum Key {
 }
 
 impl Key {
-    ghost use Rattle.tc_bag.specs.Keys.{key_of, Agrees};
+    ghost use Rattle.tc_bag.specs.Keys.{key_of, IsOfKey};
 
     /// The key of a term.
     pub fn of(alloc: Global, t: &Term) -> Result<Key, NoMemory>
@@ -40,7 +40,7 @@ impl Key {
 
     /// Whether a tuple has this key, or the key is `Any`. No memory is taken.
     pub fn agrees(&self, tuple: &Ground) -> bool
-        ensures { IsTrue result ↔ Agrees self.now tuple.now }
+        ensures { IsTrue result ↔ IsOfKey self.now tuple.now }
     {
         self.lend().agrees(tuple)
     }
@@ -68,7 +68,7 @@ pub(crate) enum Lent<'n> {
 }
 
 impl<'n> Lent<'n> {
-    ghost use Rattle.tc_bag.specs.Keys.{key_of, Agrees};
+    ghost use Rattle.tc_bag.specs.Keys.{key_of, IsOfKey};
 
     /// The key of a term.
     pub(crate) fn of(t: &'n Term) -> Lent<'n>
@@ -85,7 +85,7 @@ impl<'n> Lent<'n> {
 
     /// Whether a tuple has this key, or the key is `Any`.
     fn agrees(self, tuple: &Ground) -> bool
-        ensures { IsTrue result ↔ Agrees (lent_key self.entry) tuple.now }
+        ensures { IsTrue result ↔ IsOfKey (lent_key self.entry) tuple.now }
     {
         match (self, tuple.term()) {
             (Lent::Any, _) => true,

@@ -8,7 +8,7 @@ use Rattle.tc_lists.proofs.Places.{Contains-take_longer, Contains-slice_get, sli
 use Rattle.tc_term.specs.Tree.{Tree}
 use Rattle.tc_term.specs.Variables.{var_bound}
 use Rattle.tc_bag.specs.declared.key.Key.TheVariants.{Any}
-use Rattle.tc_bag.specs.Keys.{Agrees}
+use Rattle.tc_bag.specs.Keys.{IsOfKey}
 use Rattle.tc_bag.specs.Stock.{Row, AgesRiseBelow, IsCandidate, tuples_of}
 use Rattle.tc_search.specs.Found.{IsFound}
 use Rattle.tc_search.proofs.Passing.{IsPassed, IsKey, passed_more, passed_all, found_row}
@@ -32,7 +32,7 @@ pub record IsSoFar (rows : List Row) (requests : List Request) (most : ℕ) (nex
   pub none : IfNone next (count ≡ most)
 
 -- any tuple agrees with the key of a variable
-any : (P : Tree → Type 0) (rows : List Row) → IsKey P (Agrees Any) rows
+any : (P : Tree → Type 0) (rows : List Row) → IsKey P (IsOfKey Any) rows
 any P rows k d inside has = inl refl
 
 module _ (rows : List Row) (requests : List Request) (count from : ℕ)
@@ -47,7 +47,7 @@ module _ (rows : List Row) (requests : List Request) (count from : ℕ)
     known-more fewer less none q r stands there younger match =
         let P : Tree → Type 0 = IsMatch q.template in
         let more : IsPassed P (row.age + 1) rows =
-        passed_more P (Agrees Any) from next rows row rises (any P rows)
+        passed_more P (IsOfKey Any) from next rows row rises (any P rows)
         (passed q (Contains-take_longer requests fewer count q less stands)) first (none q stands) in
         All-contains (λ (s : Row). s.age < row.age + 1 → P s.tuple → ⊥) rows r more there younger match
 
@@ -60,7 +60,7 @@ module _ (rows : List Row) (requests : List Request) (count from : ℕ)
           request = q;
           stands = oldest.stands;
           tuple = row.tuple;
-          found = found_row (var_bound q.template) [] q.template (Agrees Any) from next rows row rises (any P rows)
+          found = found_row (var_bound q.template) [] q.template (IsOfKey Any) from next rows row rises (any P rows)
               (passed q (Contains-slice_get (take count requests) place q (slice_get-take requests count place q inside oldest.stands))) first oldest.asks;
         }
 
@@ -68,7 +68,7 @@ module _ (rows : List Row) (requests : List Request) (count from : ℕ)
   pub none-answerable : NoneOf (IsCandidate Any from) rows → NoneOf (IsAnswerable (tuples_of rows)) (take count requests)
   none-answerable none q stands answerable =
       let P : Tree → Type 0 = IsMatch q.template in
-      passed_all P (Agrees Any) from rows (any P rows) (passed q stands) none answerable.tuple answerable.stands answerable.matches
+      passed_all P (IsOfKey Any) from rows (any P rows) (passed q stands) none answerable.tuple answerable.stands answerable.matches
 
 module _ (rows : List Row) (requests : List Request) (most : ℕ) (next : Option (ℕ × ℕ)) (count from : ℕ)
     (far : IsSoFar rows requests most next count from) where

@@ -3,7 +3,7 @@ use Rattle.std.proofs.lemmas.List.{append_assoc, append-nil, length-append}
 use Rattle.tc_term.specs.Tokens.{Lexeme, Longest, BeginsNone}
 use Rattle.tc_term.specs.Layouts.{Layout, At, Stop, TextEnd, ClauseEnd, NoToken, Scan, at_text_end, at_clause_end, at_no_token, token}
 use Rattle.tc_read.specs.Lexing.{Begins}
-use Rattle.tc_read.specs.Scan.{IsEnd}
+use Rattle.tc_read.specs.Scan.{IsClauseEnd}
 use Rattle.tc_read.specs.Scanner.{Gathers}
 use Rattle.tc_read.specs.declared.scanner.Scanner.{Scanner}
 use Rattle.tc_read.proofs.Blanks.{layout_shorter}
@@ -15,13 +15,13 @@ pub found_text_end : (clauses : Bool) (size : ℕ) (s mid : List ℕ) → Layout
 found_text_end clauses size s [] l e = at_text_end l
 found_text_end clauses size s (b ∷ mid) l e = absurd (omega arith)
 
-pub found_end : (clauses : Bool) (size place : ℕ) (s mid : List ℕ) → Layout s mid → clauses ≡ true → IsEnd mid → place ≡ size - length mid → Scan clauses size s [] (ClauseEnd place)
+pub found_end : (clauses : Bool) (size place : ℕ) (s mid : List ℕ) → Layout s mid → clauses ≡ true → IsClauseEnd mid → place ≡ size - length mid → Scan clauses size s [] (ClauseEnd place)
 found_end clauses size place s [] l c e p = absurd e
 found_end clauses size place s (b ∷ after) l c e p =
     let length_is : length (b ∷ after) ≡ suc (length after) = refl in
     subst (λ x. Scan clauses size s [] (ClauseEnd x)) (sym p) (at_clause_end c (subst (λ x. Layout s (x ∷ after)) e.0 l) e.1)
 
-pub found_none : (clauses : Bool) (size place : ℕ) (s mid : List ℕ) → Layout s mid → (length mid ≡ 0 → ⊥) → BeginsNone mid → (clauses ≡ true → IsEnd mid → ⊥) → place ≡ size - length mid → Scan clauses size s [] (NoToken place)
+pub found_none : (clauses : Bool) (size place : ℕ) (s mid : List ℕ) → Layout s mid → (length mid ≡ 0 → ⊥) → BeginsNone mid → (clauses ≡ true → IsClauseEnd mid → ⊥) → place ≡ size - length mid → Scan clauses size s [] (NoToken place)
 found_none clauses size place s [] l n b e p = absurd (n refl)
 found_none clauses size place s (b ∷ rest) l n none e p = subst (λ x. Scan clauses size s [] (NoToken x)) (sym p) (at_no_token l none (λ c is end. e c (is, end)))
 

@@ -3,7 +3,7 @@ use Rattle.std.proofs.lemmas.Bool.{leb-true, and_parts}
 use Rattle.std.proofs.lemmas.Bool.Decides.{nat_tests}
 use Rattle.tc_term.specs.Tokens.{Sign, Minus, sign_bytes}
 use Rattle.tc_term.specs.Grammar.{Token, Variable, Integer, Name, Symbol, Open, Close, OpenList, CloseList, Comma, Bar, Operator, infix_of, NotCalled, Meaning, nil, cell, between, Derives, Arguments, last_argument, more_arguments, Items, last_item, list_tail, more_items}
-use Rattle.tc_read.specs.Machine.{Frame, Between, Negated, Group, Args, Elements, Tail, limit, Standing, Awaits, Holds, Ends, Move, Refused, Goes_to, turned, applied, cells, named, minus, unbracketed, signed, listed, close_group, close_argument, close_element, close_tail, close_all, close, fitting_operator, go_on_by, go_on, start}
+use Rattle.tc_read.specs.Machine.{Frame, Between, Negated, Group, Args, Elements, Tail, limit, Standing, Awaits, Holds, Ends, MachineStep, Refused, Goes_to, turned, applied, cells, named, minus, unbracketed, signed, listed, close_group, close_argument, close_element, close_tail, close_all, close, fitting_operator, go_on_by, go_on, start}
 use Rattle.tc_read.proofs.Grammar.{IsSound, table, apart, Goes, stop, on, Wants, Has, MoreArguments, no_more, one_more, MoreItems, no_more_items, tail_only, one_more_item, InBetween, InNegated, InGroup, InArgs, InElements, InTail, none_empty, none_close, none_close_list, none_comma, none_bar, none_sign, at_variable, at_integer, at_atom, at_negative, at_prefix, at_compound, at_group, at_no_items, at_list, at_nothing, at_infix, at_end}
 use Rattle.std.proofs.lemmas.Option.{same_Some}
 use Rattle.tc_lists.proofs.Parts.{cons_head}
@@ -60,7 +60,7 @@ module _ {A : Type 0} (m : Meaning A) where
     pub same : (t : A) → Leads t s old ts ↔ Leads t s' new ts'
     pub shorter : left_over s' new ts' < left_over s old ts
 
-  abbrev pub Moves : List (Frame A) → Standing A → List Token → Move A → Type 0
+  abbrev pub Moves : List (Frame A) → Standing A → List Token → MachineStep A → Type 0
   Moves s old ts Refused = (t : A) → Leads t s old ts → ⊥
   Moves s old ts (Goes_to s' new ts') = Follows s old ts s' new ts'
 
@@ -142,7 +142,7 @@ module _ {A : Type 0} (m : Meaning A) where
     pub same : (t : A) → Returns t s b ts ↔ Leads t s' new ts'
     pub shorter : left_over s' new ts' < 2 * length ts + length s + 1
 
-  abbrev pub Closes : List (Frame A) → A → List Token → Move A → Type 0
+  abbrev pub Closes : List (Frame A) → A → List Token → MachineStep A → Type 0
   Closes s b ts Refused = (t : A) → Returns t s b ts → ⊥
   Closes s b ts (Goes_to s' new ts') = Comes s b ts s' new ts'
 
@@ -262,7 +262,7 @@ module _ {A : Type 0} (m : Meaning A) where
   closes (Elements done ∷ s) h b ts = after_element s h done b ts
   closes (Tail done ∷ s) h b ts = after_tail s h done b ts
 
-  moved : (s : List (Frame A)) (a : A) (pa : ℕ) (ts : List Token) (move : Move A) → ((t : A) → Has m (limit s) (Returns t s) a pa ts ↔ Returns t s a ts) → Closes s a ts move → Moves s (Holds a pa) ts move
+  moved : (s : List (Frame A)) (a : A) (pa : ℕ) (ts : List Token) (move : MachineStep A) → ((t : A) → Has m (limit s) (Returns t s) a pa ts ↔ Returns t s a ts) → Closes s a ts move → Moves s (Holds a pa) ts move
   moved s a pa ts Refused same c = λ t h. c t ((same t).0 h)
   moved s a pa ts (Goes_to s' new ts') same c = record { sound = c.sound; placed = c.placed; shorter = c.shorter; same = λ t. (λ h. (c.same t).0 ((same t).0 h), λ l. (same t).1 ((c.same t).1 l)) }
 

@@ -1,6 +1,6 @@
 use Rattle.std.proofs.Common.{◌≡◌, ℕ, zero, suc, ◌<◌, List, [], refl, sym, ◌∙◌, subst, arith, ◌↔◌}
 use Rattle.tc_term.specs.Grammar.{Token, Meaning, Derives, IsTerm}
-use Rattle.tc_read.specs.Machine.{Frame, Standing, Awaits, Holds, Ends, Move, Refused, Goes_to, start, go_on}
+use Rattle.tc_read.specs.Machine.{Frame, Standing, Awaits, Holds, Ends, MachineStep, Refused, Goes_to, start, go_on}
 use Rattle.tc_read.proofs.Steps.{Leads, Sound, IsPlaced, left_over, Moves, starts, goes}
 
 -- The machine comes to an end, so tokens are one term at most.
@@ -9,7 +9,7 @@ module _ {A : Type 0} (m : Meaning A) where
   abbrev Unique : ℕ → Type 0
   Unique n = (s : List (Frame A)) (now : Standing A) (ts : List Token) (a b : A) → left_over m s now ts < n → Sound m s → IsPlaced m s now → Leads m a s now ts → Leads m b s now ts → a ≡ b
 
-  onward : (n : ℕ) → Unique n → (s : List (Frame A)) (now : Standing A) (ts : List Token) (move : Move A) (a b : A) → left_over m s now ts < suc n → Moves m s now ts move → Leads m a s now ts → Leads m b s now ts → a ≡ b
+  onward : (n : ℕ) → Unique n → (s : List (Frame A)) (now : Standing A) (ts : List Token) (move : MachineStep A) (a b : A) → left_over m s now ts < suc n → Moves m s now ts move → Leads m a s now ts → Leads m b s now ts → a ≡ b
   onward n ih s now ts Refused a b le none l k = absurd (none a l)
   onward n ih s now ts (Goes_to s' new ts') a b le f l k = ih s' new ts' a b (omega (arith, f.shorter)) f.sound f.placed ((f.same a).0 l) ((f.same b).0 k)
 

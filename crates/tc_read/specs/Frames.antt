@@ -74,7 +74,7 @@ standing (Holds priority) stack = machine.Holds (top (items_of stack)) priority
 standing Ends stack = machine.Ends (top (items_of stack))
 
 -- the step where the last item is whole, inside this frame, which was taken off
-abbrev pub close_in : Frame → Stack → List grammar.Token → machine.Move Kept
+abbrev pub close_in : Frame → Stack → List grammar.Token → machine.MachineStep Kept
 close_in frame stack ts = machine.close kept
     (framed (frame ∷ frames_of stack) (below (items_of stack))) (top (items_of stack)) ts
 
@@ -83,7 +83,7 @@ abbrev pub tokens_left : Step → List grammar.Token
 tokens_left step = map token_view step.rest.now
 
 -- the step that the machine makes: none, or the one that leads there
-abbrev pub IsMove : machine.Move Kept → Stack → Option Step → Type 0
+abbrev pub IsMove : machine.MachineStep Kept → Stack → Option Step → Type 0
 IsMove move stack None = move ≡ machine.Refused
 IsMove move stack (Some step) = move
     ≡ machine.Goes_to (opened_in step.state stack) (standing step.state stack) (tokens_left step)

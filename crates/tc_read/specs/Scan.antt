@@ -16,9 +16,9 @@ stop_view (ClauseEnd place) = scanned.ClauseEnd place
 stop_view (NoToken place) = scanned.NoToken place
 
 -- a . that ends a clause stands at the front
-abbrev pub IsEnd : List ℕ → Type 0
-IsEnd [] = ⊥
-IsEnd (b ∷ s) = (b ≡ 46) × IsBehindEnd s
+abbrev pub IsClauseEnd : List ℕ → Type 0
+IsClauseEnd [] = ⊥
+IsClauseEnd (b ∷ s) = (b ≡ 46) × IsBehindEnd s
 
 -- the bytes, at the end of a text of this size, have no token before this end, or one before other
 -- tokens

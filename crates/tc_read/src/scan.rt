@@ -2,7 +2,7 @@
 ghost use Rattle.std.specs.Prelude.{◌≡◌, true, IfOk, IsTrue, IfNone, IfSome, List, length, ℕ, ◌↔◌};
 ghost use Rattle.tc_term.specs.Layouts.{At, IsBehindEnd, Scan};
 ghost use Rattle.tc_term.specs.Tokens.{BeginsNone};
-ghost use Rattle.tc_read.specs.Scan.{IsEnd, StandsNext, IsScanned, stop_view};
+ghost use Rattle.tc_read.specs.Scan.{IsClauseEnd, StandsNext, IsScanned, stop_view};
 
 use crate::layout::{behind_layout, behind_piece, next_byte};
 use crate::lexeme::Lexeme;
@@ -37,7 +37,7 @@ pub struct Scanned<'a> {
 
 /// Whether a `.` that ends a clause stands here, where clauses are read.
 fn is_end(text: &[u8], clauses: bool) -> bool
-    ensures { IsTrue result ↔ ((clauses ≡ true) × IsEnd text.now) }
+    ensures { IsTrue result ↔ ((clauses ≡ true) × IsClauseEnd text.now) }
 {
     if !clauses {
         return false;

@@ -12,17 +12,17 @@ use Rattle.tc_term.specs.TreeView.{tree_of}
 use Rattle.tc_term.specs.Variables.{instance, var_bound}
 use Rattle.tc_term.proofs.Instances.{instance-same}
 use Rattle.tc_term.proofs.Matching.{valuation_of, at-valuation_of, Solves-one, Matches-one}
-use Rattle.tc_search.specs.Bindings.{Follows, IsFree, AreGround, Makes, Always, Binds, NeverBinds}
+use Rattle.tc_search.specs.Bindings.{FollowsBindings, IsFree, AreGround, MakesTuple, Always, Binds, NeverBinds}
 
 -- a variable that is bound
 module _ (bound : List (Option (Bor Term))) (n : ℕ) (first : Bor Term) (t : Tree) (is : get_or bound n None ≡ Some first) where
-  pub bound_same : tree_of first.now ≡ t → Binds bound (Makes (Variable n) t) bound Always
+  pub bound_same : tree_of first.now ≡ t → Binds bound (MakesTuple (Variable n) t) bound Always
   bound_same same = record {
     forth = λ f h p. (h, tt);
     back = λ f h q. (h, h n first is ∙ same);
   }
 
-  pub bound_differs : (tree_of first.now ≡ t → ⊥) → NeverBinds bound (Makes (Variable n) t)
+  pub bound_differs : (tree_of first.now ≡ t → ⊥) → NeverBinds bound (MakesTuple (Variable n) t)
   bound_differs differ f h p = differ (sym (h n first is) ∙ p)
 
 -- what a place has once a variable is bound
@@ -34,7 +34,7 @@ module _ (bound : List (Option (Bor Term))) (n : ℕ) (tuple : Bor Term) (inside
   as_before : (k : ℕ) (t : Bor Term) → (k ≡ n → ⊥) → get_or (set bound n (Some tuple)) k None ≡ Some t → get_or bound k None ≡ Some t
   as_before k t ne h = sym (get_or-set_other bound n k (Some tuple) None ne) ∙ h
 
-  pub bound_new : get_or bound n None ≡ None → Binds bound (Makes (Variable n) (tree_of tuple.now)) (set bound n (Some tuple)) Always
+  pub bound_new : get_or bound n None ≡ None → Binds bound (MakesTuple (Variable n) (tree_of tuple.now)) (set bound n (Some tuple)) Always
   bound_new free = record {
     forth = λ f h p. (
       λ k t e. elim (cases_eq k n) [
@@ -68,7 +68,7 @@ module _ (bound : List (Option (Bor Term))) (free : IsFree bound) where
         | inr past ↦ none-some t (sym (get_or_past bound n None past) ∙ e)
       ]
 
-  pub Follows-free : (f : ℕ → Tree) → Follows f bound
+  pub Follows-free : (f : ℕ → Tree) → FollowsBindings f bound
   Follows-free f n t e = absurd (nothing n t e)
 
   pub AreGround-free : AreGround bound
@@ -82,7 +82,7 @@ tree_at None = Atomic []
 abbrev trees_at : List (Option (Bor Term)) → ℕ → Tree
 trees_at bound n = tree_at (get_or bound n None)
 
-Follows-trees : (bound : List (Option (Bor Term))) → Follows (trees_at bound) bound
+Follows-trees : (bound : List (Option (Bor Term))) → FollowsBindings (trees_at bound) bound
 Follows-trees bound n t e = ap tree_at e
 
 ground-trees : (bound : List (Option (Bor Term))) → AreGround bound → (n : ℕ) → IsTrue (is_ground (trees_at bound n))
@@ -96,7 +96,7 @@ ground-trees bound all n =
 
 -- a template matches a tuple where the walk binds its variables, and where it never does it doesn't
 module _ (template tuple : Tree) (ground : IsTrue (is_ground tuple)) (old : List (Option (Bor Term))) (free : IsFree old) where
-  pub matches_bound : (new : List (Option (Bor Term))) → AreGround new → Binds old (Makes template tuple) new Always → Matches (var_bound template) [] template tuple
+  pub matches_bound : (new : List (Option (Bor Term))) → AreGround new → Binds old (MakesTuple template tuple) new Always → Matches (var_bound template) [] template tuple
   matches_bound new all binds =
       let f = trees_at new in
       let n = var_bound template in
@@ -108,7 +108,7 @@ module _ (template tuple : Tree) (ground : IsTrue (is_ground tuple)) (old : List
         solves = Solves-one f n template tuple (ground-trees new all) ground (alike ∙ equal);
       }
 
-  pub matches_never : NeverBinds old (Makes template tuple) → Matches (var_bound template) [] template tuple → ⊥
+  pub matches_never : NeverBinds old (MakesTuple template tuple) → Matches (var_bound template) [] template tuple → ⊥
   matches_never never match =
       let v = match.valuation in
       never (at v) (Follows-free old free (at v)) (Matches-one (var_bound template) template tuple v ground match.solves)

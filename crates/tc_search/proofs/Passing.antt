@@ -13,7 +13,7 @@ use Rattle.tc_term.specs.Equations.{Equation, Matches}
 use Rattle.tc_term.specs.Tree.{Tree, IsTuple}
 use Rattle.tc_term.specs.TreeView.{tree_of}
 use Rattle.tc_bag.specs.declared.key.Key.{Key}
-use Rattle.tc_bag.specs.Keys.{key_of, known_first, Agrees, HasFirst, IsLike}
+use Rattle.tc_bag.specs.Keys.{key_of, known_first, IsOfKey, HasFirst, IsLike}
 use Rattle.tc_bag.specs.Stock.{Row, AgesRiseBelow, tuples_of, tuple_at, without_age}
 use Rattle.tc_bag.proofs.Agreement.{Agrees-match, HasFirst-match}
 use Rattle.tc_bag.proofs.Ages.{AgesRiseBelow-all, others_before, without_age-at, tuple_at-at}
@@ -135,7 +135,7 @@ pub likes_agree : (n : ℕ) (es : List Equation) (template : Tree) (key : Key) (
 likes_agree n es template key first rows same known tuples =
     All-weaker (λ r. IsTuple r.tuple) (λ r. Matches n es template r.tuple → IsLike key first r.tuple)
     (λ r tuple match. (
-      subst (λ k. Agrees k r.tuple) (sym same) (Agrees-match n es template r.tuple match tuple),
+      subst (λ k. IsOfKey k r.tuple) (sym same) (Agrees-match n es template r.tuple match tuple),
       subst (λ f. HasFirst f r.tuple) (sym known) (HasFirst-match n es template r.tuple match tuple),
     )) rows tuples
 

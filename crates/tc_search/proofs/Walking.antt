@@ -8,7 +8,7 @@ use Rattle.tc_term.specs.Tree.{Tree, Atomic, Compound, Trees, More}
 use Rattle.tc_term.specs.TreeView.{tree_of, trees_of}
 use Rattle.tc_term.specs.Variables.{instance, instances}
 use Rattle.tc_unify.proofs.Splitting.{head_of, rest_of, trees_in, list_of, list-trees, arguments_of, name_of}
-use Rattle.tc_search.specs.Bindings.{Makes, Always, Binds, NeverBinds}
+use Rattle.tc_search.specs.Bindings.{MakesTuple, Always, Binds, NeverBinds}
 
 -- what the trees of the variables make of terms
 abbrev made : (ℕ → Tree) → List Term → List Tree
@@ -51,7 +51,7 @@ never_more old mid P R E Q first parts never f h p =
 
 -- the terms from a place on are made where the first one is and those behind
 pub makes_next : (i : ℕ) (ss ts : List Term) (x y : Term) → i < length ss → i < length ts → x ≡ get_or ss i x → y ≡ get_or ts i y
-    → (f : ℕ → Tree) → MakesFrom i ss ts f ↔ (Makes (tree_of x) (tree_of y) f × MakesFrom (i + 1) ss ts f)
+    → (f : ℕ → Tree) → MakesFrom i ss ts f ↔ (MakesTuple (tree_of x) (tree_of y) f × MakesFrom (i + 1) ss ts f)
 makes_next i ss ts x y below under left right f = (
   (λ e.
       let h = sym one ∙ e ∙ two in
@@ -103,18 +103,18 @@ module _ (s t : Term) (m n : List ℕ) (left right : Trees) (ss ts : List Term) 
   whole_right : tree_of t ≡ Compound n (trees_in (seen ts))
   whole_right = other ∙ ap (Compound n) (sym rights) ∙ ap (Compound n) (seen-trees ts)
 
-  pub makes_arguments : (f : ℕ → Tree) → Makes (tree_of s) (tree_of t) f → (m ≡ n) × MakesFrom 0 ss ts f
+  pub makes_arguments : (f : ℕ → Tree) → MakesTuple (tree_of s) (tree_of t) f → (m ≡ n) × MakesFrom 0 ss ts f
   makes_arguments f e =
       let h = sym (whole_left f) ∙ e ∙ whole_right in
       (ap name_of h, sym (list-made f ss some) ∙ ap (λ u. list_of (arguments_of u)) h ∙ list-seen ts more)
 
-  pub makes_compounds : m ≡ n → (f : ℕ → Tree) → Makes (tree_of s) (tree_of t) f ↔ MakesFrom 0 ss ts f
+  pub makes_compounds : m ≡ n → (f : ℕ → Tree) → MakesTuple (tree_of s) (tree_of t) f ↔ MakesFrom 0 ss ts f
   makes_compounds e f = (
     (λ h. (makes_arguments f h).1),
     (λ h. whole_left f ∙ ap₂ (λ (name : List ℕ) (us : List Tree). Compound name (trees_in us)) e h ∙ sym whole_right),
   )
 
   -- never, with other numbers of arguments
-  pub never_lengths : (old : List (Option (Bor Term))) → (length ss ≡ length ts → ⊥) → NeverBinds old (Makes (tree_of s) (tree_of t))
+  pub never_lengths : (old : List (Option (Bor Term))) → (length ss ≡ length ts → ⊥) → NeverBinds old (MakesTuple (tree_of s) (tree_of t))
   never_lengths old differ f h e =
       differ (sym (length-map ss (λ u. instance f (tree_of u))) ∙ ap length (makes_arguments f e).1 ∙ length-map ts (λ u. tree_of u))

@@ -7,8 +7,9 @@ use Rattle.tc_term.specs.TreeView.{tree_of}
 use Rattle.tc_term.specs.Variables.{instance}
 
 -- each variable that is bound has the tree that it is bound to
-abbrev pub Follows : (ℕ → Tree) → List (Option (Bor Term)) → Type 0
-Follows f bound = (n : ℕ) (t : Bor Term) → slice_index_or bound n None ≡ Some t → f n ≡ tree_of t.now
+abbrev pub FollowsBindings : (ℕ → Tree) → List (Option (Bor Term)) → Type 0
+FollowsBindings f bound =
+    (n : ℕ) (t : Bor Term) → slice_index_or bound n None ≡ Some t → f n ≡ tree_of t.now
 
 -- no variable is bound
 abbrev pub IsFree : List (Option (Bor Term)) → Type 0
@@ -20,8 +21,8 @@ AreGround bound = (n : ℕ) (t : Bor Term) → slice_index_or bound n None ≡ S
     → IsTrue (is_ground (tree_of t.now))
 
 -- the trees of the variables make the term the tuple
-abbrev pub Makes : Tree → Tree → (ℕ → Tree) → Type 0
-Makes term tuple f = instance f term ≡ tuple
+abbrev pub MakesTuple : Tree → Tree → (ℕ → Tree) → Type 0
+MakesTuple term tuple f = instance f term ≡ tuple
 
 -- nothing is asked
 abbrev pub Always : (ℕ → Tree) → Type 0
@@ -31,9 +32,9 @@ Always f = Unit {0}
 -- meet the other
 pub record Binds (old : List (Option (Bor Term))) (P : (ℕ → Tree) → Type 0)
     (new : List (Option (Bor Term))) (Q : (ℕ → Tree) → Type 0) : Type 0 where
-  pub forth : (f : ℕ → Tree) → Follows f old → P f → Follows f new × Q f
-  pub back : (f : ℕ → Tree) → Follows f new → Q f → Follows f old × P f
+  pub forth : (f : ℕ → Tree) → FollowsBindings f old → P f → FollowsBindings f new × Q f
+  pub back : (f : ℕ → Tree) → FollowsBindings f new → Q f → FollowsBindings f old × P f
 
 -- no trees that follow what is bound meet the demand
 abbrev pub NeverBinds : List (Option (Bor Term)) → ((ℕ → Tree) → Type 0) → Type 0
-NeverBinds old P = (f : ℕ → Tree) → Follows f old → P f → ⊥
+NeverBinds old P = (f : ℕ → Tree) → FollowsBindings f old → P f → ⊥

@@ -4,7 +4,7 @@ ghost use Rattle.tc_term.specs.Equations.{Matches};
 ghost use Rattle.tc_term.specs.Tree.{Variable, is_ground};
 ghost use Rattle.tc_term.specs.TreeView.{tree_of};
 ghost use Rattle.tc_term.specs.Variables.{var_bound};
-ghost use Rattle.tc_search.specs.Bindings.{IsFree, AreGround, Makes, Always, Binds, NeverBinds};
+ghost use Rattle.tc_search.specs.Bindings.{IsFree, AreGround, MakesTuple, Always, Binds, NeverBinds};
 
 use tc_term::{Ground, Pattern, Term};
 
@@ -47,8 +47,8 @@ fn agrees<'t>(term: &Term, tuple: &'t Term, bound: &mut [Option<&'t Term>]) -> b
     requires tuple { IsTrue (is_ground (tree_of tuple.now)) }
     requires ground { AreGround bound.old }
     ensures yes { IsTrue result
-        → Binds bound.old (Makes (tree_of term.now) (tree_of tuple.now)) bound.new Always }
-    ensures no { result ≡ false → NeverBinds bound.old (Makes (tree_of term.now) (tree_of tuple.now)) }
+        → Binds bound.old (MakesTuple (tree_of term.now) (tree_of tuple.now)) bound.new Always }
+    ensures no { result ≡ false → NeverBinds bound.old (MakesTuple (tree_of term.now) (tree_of tuple.now)) }
     ensures ground { AreGround bound.new }
 {
     match (term, tuple) {
@@ -81,8 +81,8 @@ fn bind<'t>(variable: usize, tuple: &'t Term, bound: &mut [Option<&'t Term>]) ->
     requires tuple { IsTrue (is_ground (tree_of tuple.now)) }
     requires ground { AreGround bound.old }
     ensures yes { IsTrue result
-        → Binds bound.old (Makes (Variable variable) (tree_of tuple.now)) bound.new Always }
-    ensures no { result ≡ false → NeverBinds bound.old (Makes (Variable variable) (tree_of tuple.now)) }
+        → Binds bound.old (MakesTuple (Variable variable) (tree_of tuple.now)) bound.new Always }
+    ensures no { result ≡ false → NeverBinds bound.old (MakesTuple (Variable variable) (tree_of tuple.now)) }
     ensures ground { AreGround bound.new }
 {
     if let Some(first) = bound[variable] {

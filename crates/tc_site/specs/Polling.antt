@@ -33,7 +33,8 @@ abbrev pub IsPolled : TurnstileState Origin → ℕ → PassState Entry Origin �
     → Result Seen DeskFault → PassState Entry Origin → List LogRow → Type 0
 IsPolled t place p centre log (Ok seen.Answered) q after = HasToldReply t place p centre log q after
 IsPolled t place p centre log (Ok seen.StillPending) q after =
-    PollsInTurn t p (length log + 1) (place + 1) poll.NotYet q × (after ≡ with_row log centre None (Polled None))
+    PollsInTurn t p (length log + 1) (place + 1) poll.NotYet q
+    × (after ≡ with_row log centre None (Polled None))
 IsPolled t place p centre log (Err (fault.Full weight pending)) q after =
     SeesFull t p weight pending q × (after ≡ with_row log centre None (Refused (refusal.Full weight pending)))
 IsPolled t place p centre log (Err fault.TurnsSpent) q after = IsSpent p q × (after ≡ log)

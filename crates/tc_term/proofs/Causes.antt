@@ -1,6 +1,6 @@
 -- What is a template or a tuple is not refused.
 use Rattle.std.proofs.Common.{arith}
-use Rattle.tc_term.specs.Ground.{HasCause}
+use Rattle.tc_term.specs.Ground.{HasTupleCause}
 use Rattle.tc_term.specs.Limits.{most_depth}
 use Rattle.tc_term.specs.Pattern.{HasExcess}
 use Rattle.tc_term.specs.Room.{whole, IsWithin}
@@ -18,7 +18,7 @@ pub IsWithin-Fits : (t : Tree) → Fits t → IsWithin t most_depth whole
 IsWithin-Fits t fits = record { nodes = fits.nodes; depth = fits.depth; name_bytes = fits.name_bytes }
 
 -- a tuple has no cause to be none
-pub HasCause-tuple : (t : Term) (why : NotTuple) → IsTuple (tree_of t) → HasCause t why → ⊥
+pub HasCause-tuple : (t : Term) (why : NotTuple) → IsTuple (tree_of t) → HasTupleCause t why → ⊥
 HasCause-tuple t (cause.TooBig u) tuple because = because.1 (IsWithin-Fits (tree_of t) tuple.fits)
 HasCause-tuple t (cause.NotGround u) tuple because = let ground = tuple.ground in let other = because.2 in absurd (cc)
 

@@ -3,7 +3,7 @@ use Rattle.std.proofs.Common.{◌≡◌, ◌<◌, ◌≤◌, ◌+◌, ◌-◌, �
 use Rattle.std.proofs.Math.Bool.{and-true}
 use Rattle.std.proofs.lemmas.List.{at_drop_all, at_drop_more}
 use Rattle.tc_term.specs.declared.limits.Room.{Room}
-use Rattle.tc_term.specs.Room.{IsWithin, IsSpent}
+use Rattle.tc_term.specs.Room.{IsWithin, TakesRoom}
 use Rattle.tc_term.specs.declared.terms.Term.{Term}
 use Rattle.tc_term.specs.Tree.{Tree, Compound, Trees, nodes, nodes_of_all, depth, depth_of_all, name_bytes, name_bytes_of_all, is_ground, are_ground, HasIntegers, HaveIntegers}
 use Rattle.tc_term.specs.TreeView.{tree_of, trees_of}
@@ -100,7 +100,7 @@ module _ (t : Tree) (name : List ℕ) (args : Trees) (ts : List Term) (limit : �
     (depth_so_far : max (limit - 1) (depth_in ts) ≡ max (limit - 1) (depth_in (drop i ts)))
     (bytes_so_far : left.name_bytes + name_bytes_in ts ≡ bytes_before + name_bytes_in (drop i ts)) where
   -- all of them are counted
-  pub IsSpent-compound : length ts ≤ i → IsSpent t limit room left
+  pub IsSpent-compound : length ts ≤ i → TakesRoom t limit room left
   IsSpent-compound ended = record {
     nodes = omega (arith, nodes-compound t name args ts compound seen some, nodes_so_far, at_drop_all nodes_in ts i ended, node_counted);
     depth = omega (arith, depth-compound t name args ts compound seen some, depth_so_far, at_drop_all depth_in ts i ended, deep);

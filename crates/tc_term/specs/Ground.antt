@@ -9,6 +9,6 @@ use Rattle.tc_term.specs.declared.tuple.NotTuple.{NotTuple}
 use Rattle.tc_term.specs.declared.tuple.NotTuple.TheVariants.{TooBig, NotGround}
 
 -- the term, given back, is too big, whatever its numbers, or it fits and has a variable
-abbrev pub HasCause : Term → NotTuple → Type 0
-HasCause t (TooBig u) = (u ≡ t) × (IsWithin (tree_of t) most_depth whole → ⊥)
-HasCause t (NotGround u) = (u ≡ t) × Fits (tree_of t) × (is_ground (tree_of t) ≡ false)
+abbrev pub HasTupleCause : Term → NotTuple → Type 0
+HasTupleCause t (TooBig u) = (u ≡ t) × (IsWithin (tree_of t) most_depth whole → ⊥)
+HasTupleCause t (NotGround u) = (u ≡ t) × Fits (tree_of t) × (is_ground (tree_of t) ≡ false)

@@ -15,7 +15,7 @@ pub record IsWithin (t : Tree) (limit : ℕ) (room : Room) : Type 0 where
   pub name_bytes : name_bytes t ≤ room.name_bytes
 
 -- the term is within the room, and this is left of it
-pub record IsSpent (t : Tree) (limit : ℕ) (room left : Room) : Type 0 where
+pub record TakesRoom (t : Tree) (limit : ℕ) (room left : Room) : Type 0 where
   pub nodes : left.nodes + nodes t ≡ room.nodes
   pub depth : depth t ≤ limit
   pub name_bytes : left.name_bytes + name_bytes t ≡ room.name_bytes

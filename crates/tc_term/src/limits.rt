@@ -1,7 +1,7 @@
 //! The limits of a term: how many nodes, how deep, and how many bytes of names.
 ghost use Rattle.std.specs.Prelude.{◌≡◌, ◌+◌, ◌<◌, ◌≤◌, ◌↔◌, false, IsTrue};
 ghost use Rattle.tc_term.specs.Limits.{most_depth};
-ghost use Rattle.tc_term.specs.Room.{whole, IsWithin, IsSpent};
+ghost use Rattle.tc_term.specs.Room.{whole, IsWithin, TakesRoom};
 ghost use Rattle.tc_term.specs.Tree.{Fits, HasIntegers};
 ghost use Rattle.tc_term.specs.TreeView.{tree_of};
 
@@ -73,7 +73,7 @@ pub fn fits(t: &Term) -> bool
 
 // Takes the room of a term of at most this depth, where there is room for it.
 fn take_term(t: &Term, depth: usize, room: &mut Room) -> bool
-    ensures spent { IsTrue result → IsSpent (tree_of t.now) depth room.old room.new }
+    ensures spent { IsTrue result → TakesRoom (tree_of t.now) depth room.old room.new }
     ensures integers { IsTrue result → HasIntegers (tree_of t.now) }
     ensures full { result ≡ false → IsWithin (tree_of t.now) depth room.old → ⊥ }
 {

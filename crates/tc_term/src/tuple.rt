@@ -43,12 +43,12 @@ impl Model for Ground {
 }
 
 impl Ground {
-    ghost use Rattle.tc_term.specs.Ground.{HasCause};
+    ghost use Rattle.tc_term.specs.Ground.{HasTupleCause};
 
     /// The term as a tuple, where it is one. No memory is taken.
     pub fn of(t: Term) -> Result<Ground, NotTuple>
         ensures ok { IfOk result (λ tuple. (tuple ≡ tree_of t) × IsTuple (tree_of t)) }
-        ensures err { IfErr result (HasCause t) }
+        ensures err { IfErr result (HasTupleCause t) }
     {
         if !fits(&t) {
             return Err(NotTuple::TooBig(t));

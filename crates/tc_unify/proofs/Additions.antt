@@ -17,7 +17,7 @@ use Rattle.tc_unify.specs.declared.links.Links.{Links}
 use Rattle.tc_unify.specs.declared.sizes.Sizes.{Sizes}
 use Rattle.tc_unify.specs.declared.sizes.Added.{Added}
 use Rattle.tc_unify.specs.Nodes.{label}
-use Rattle.tc_unify.specs.Solutions.{Means, NeverMeets, IsSolution, Demands}
+use Rattle.tc_unify.specs.Solutions.{LinksMean, NeverMeets, IsSolution, Demands}
 use Rattle.tc_unify.specs.Values.{AreSolved}
 use Rattle.tc_unify.specs.Arena.{IsArena, HasLinkIn, Grows, shape_of}
 use Rattle.tc_unify.specs.Tables.{link_of, rewound, HasNode, Extends}
@@ -65,14 +65,14 @@ module _ (a : Arena) (l : Links) (added : List Added) (store : IsStore a l added
   store_solved = record { linked = store_linked; alike = newest.means.alike; solution = newest.means.solution; solves = newest.means.solves }
 
   module _ (b : Arena) (grown : IsArena b) (grows : Grows a b) where
-    means_before : Means a.variables (shape_of b) (link_of l) (said_of (reverse added))
+    means_before : LinksMean a.variables (shape_of b) (link_of l) (said_of (reverse added))
     means_before = Means-grows a b (link_of l) (said_of (reverse added)) newest.arena grown grows newest.inside newest.past newest.means
 
     module _ (m : Links) (link : (k : ℕ) → link_of m k ≡ link_of l k) where
-      pub means_prepared : Means b.variables (shape_of b) (link_of m) (said_of (reverse added))
+      pub means_prepared : LinksMean b.variables (shape_of b) (link_of m) (said_of (reverse added))
       means_prepared =
-          subst (λ n. Means n (shape_of b) (link_of m) (said_of (reverse added))) (sym grows.variables)
-          (subst (λ f. Means a.variables (shape_of b) f (said_of (reverse added))) (sym (fun_ext link)) means_before)
+          subst (λ n. LinksMean n (shape_of b) (link_of m) (said_of (reverse added))) (sym grows.variables)
+          (subst (λ f. LinksMean a.variables (shape_of b) f (said_of (reverse added))) (sym (fun_ext link)) means_before)
 
       pub linked_prepared : m.trail.items ≡ l.trail.items → length m.terms.items ≡ length b.nodes.items → length m.variables.items ≡ length l.variables.items → IsLinked b m
       linked_prepared trail terms variables =
@@ -144,7 +144,7 @@ module _ (a : Arena) (l : Links) (added : List Added) (store : IsStore a l added
           inside = is.linked.inside;
           past = past_tables b m is.linked.terms is.linked.variables;
           trail_nodes = is.linked.trail;
-          means = subst (λ q. Means b.variables (shape_of b) (link_of m) (q ∷ said_of (reverse added))) (sym said) is.means;
+          means = subst (λ q. LinksMean b.variables (shape_of b) (link_of m) (q ∷ said_of (reverse added))) (sym said) is.means;
         },
         AreLevels-same a.variables b.variables a.nodes.items (take e.before.nodes b.nodes.items) a.text.items (take e.before.text b.text.items)
             (link_of l) (rewound (link_of m) (drop e.before.trail m.trail.items)) l.trail.items (take e.before.trail m.trail.items) (reverse added)

@@ -19,7 +19,7 @@ use Rattle.tc_unify.specs.Links.{root}
 use Rattle.tc_unify.specs.Solutions.{IsSolution}
 use Rattle.tc_unify.specs.Arena.{IsNodeOf, shape_of}
 use Rattle.tc_unify.specs.Tables.{link_of}
-use Rattle.tc_term.specs.Room.{IsWithin, IsSpent}
+use Rattle.tc_term.specs.Room.{IsWithin, TakesRoom}
 use Rattle.tc_unify.specs.Values.{AreSolved, IsFixed, IsValue, of_node, of_term}
 use Rattle.tc_unify.proofs.Labels.{depth-positive, nodes-positive, IsSpine, IsSpine-applied, applied-injective, nodes-applied, depth-applied, name_bytes-applied, label-labels}
 use Rattle.tc_unify.proofs.Roots.{root-tree}
@@ -37,7 +37,7 @@ Builds a l F V name values xs =
     → V v ≡ applied_over (F v) (applied_over tree_of (Atomic name) values) xs
 
 -- one argument more is spent
-pub IsSpent-applied : (s u : Tree) (limit : ℕ) (room left next : Room) → IsSpine s → 0 < limit → IsSpent s limit room left → IsSpent u (limit - 1) left next → IsSpent (applied s u) limit room next
+pub IsSpent-applied : (s u : Tree) (limit : ℕ) (room left next : Room) → IsSpine s → 0 < limit → TakesRoom s limit room left → TakesRoom u (limit - 1) left next → TakesRoom (applied s u) limit room next
 IsSpent-applied s u limit room left next spine some spent more = record {
   nodes = omega (arith, nodes-applied s u spine, spent.nodes, more.nodes);
   depth = omega (arith, depth-applied s u spine, spent.depth, more.depth, some);
@@ -100,7 +100,7 @@ module _ (a : Arena) (l : Links) (solved : AreSolved a l) where
 
   -- where the next argument has no value within the room that is left, the whole has none
   pub next_is_not_fixed : {X : Type 0} (F : List Tree → X → Tree) (V : List Tree → Tree) (s : Tree) (x : X) (xs : List X) (limit : ℕ) (room left : Room)
-      → IsSpine s → 0 < limit → IsSpent s limit room left
+      → IsSpine s → 0 < limit → TakesRoom s limit room left
       → ((v : List Tree) → IsSolution a.variables (shape_of a) (link_of l) v → V v ≡ applied_over (F v) s (x ∷ xs))
       → ((t : Tree) → IsFixed a l (λ v. F v x) t → IsWithin t (limit - 1) left → ⊥)
       → (t : Tree) → IsFixed a l V t → IsWithin t limit room → ⊥
@@ -124,7 +124,7 @@ module _ (a : Arena) (l : Links) (solved : AreSolved a l) where
       full (omega (arith, depth-positive t, within.depth)) (omega (arith, nodes-positive t, within.nodes)) (omega (arith, least, within.name_bytes))
 
   module _ {X : Type 0} (F : List Tree → X → Tree) (V : List Tree → Tree) (name : List ℕ) (values : List Term) (x : X) (xs rest : List X) (limit : ℕ) (room left : Room)
-      (next : xs ≡ x ∷ rest) (some : 0 < limit) (spent : IsSpent (applied_over tree_of (Atomic name) values) limit room left) (builds : Builds a l F V name values xs) where
+      (next : xs ≡ x ∷ rest) (some : 0 < limit) (spent : TakesRoom (applied_over tree_of (Atomic name) values) limit room left) (builds : Builds a l F V name values xs) where
     so_far : Tree
     so_far = applied_over tree_of (Atomic name) values
 
@@ -136,17 +136,17 @@ module _ (a : Arena) (l : Links) (solved : AreSolved a l) where
         (subst (λ f. IfNone f ((t : Tree) → IsFixed a l (λ v. F v x) t → IsWithin t (limit - 1) left → ⊥)) is value.none)
 
     module _ (found : Option Term) (after : Room) (y : Term) (more : List Term) (is : found ≡ Some y) (value : IsValue a l (λ v. F v x) (limit - 1) left after found) (pushed : more ≡ values ++ y ∷ []) where
-      its : IsFixed a l (λ v. F v x) (tree_of y) × IsSpent (tree_of y) (limit - 1) left after
-      its = subst (λ f. IfSome f (λ t. IsFixed a l (λ v. F v x) (tree_of t) × IsSpent (tree_of t) (limit - 1) left after)) is value.value
+      its : IsFixed a l (λ v. F v x) (tree_of y) × TakesRoom (tree_of y) (limit - 1) left after
+      its = subst (λ f. IfSome f (λ t. IsFixed a l (λ v. F v x) (tree_of t) × TakesRoom (tree_of t) (limit - 1) left after)) is value.value
 
       one_more : applied_over tree_of (Atomic name) more ≡ applied so_far (tree_of y)
       unfolding so_far
       one_more = ap (applied_over tree_of (Atomic name)) pushed ∙ applied_over-push tree_of (Atomic name) values y
 
-      pub spent_next : IsSpent (applied_over tree_of (Atomic name) more) limit room after
+      pub spent_next : TakesRoom (applied_over tree_of (Atomic name) more) limit room after
       unfolding so_far
       spent_next =
-          subst (λ t. IsSpent t limit room after) (sym one_more)
+          subst (λ t. TakesRoom t limit room after) (sym one_more)
           (IsSpent-applied so_far (tree_of y) limit room left after (IsSpine-applied_over tree_of (Atomic name) values tt) some spent its.1)
 
       pub builds_next : Builds a l F V name more rest
@@ -158,9 +158,9 @@ module _ (a : Arena) (l : Links) (solved : AreSolved a l) where
 
   -- the head of a compound, or an atom, is taken first
   pub IsSpent-head : (name : List ℕ) (values : List Term) (limit : ℕ) (room left : Room) (bytes : ℕ) → values ≡ [] → bytes ≡ length name → 0 < limit → left.nodes + 1 ≡ room.nodes → left.name_bytes + bytes ≡ room.name_bytes
-      → IsSpent (applied_over tree_of (Atomic name) values) limit room left
+      → TakesRoom (applied_over tree_of (Atomic name) values) limit room left
   IsSpent-head name values limit room left bytes none size some nodes name_bytes =
-      subst (λ ts. IsSpent (applied_over tree_of (Atomic name) ts) limit room left) (sym none)
+      subst (λ ts. TakesRoom (applied_over tree_of (Atomic name) ts) limit room left) (sym none)
       (record { nodes = nodes; depth = some; name_bytes = omega (arith, size, name_bytes) })
 
   -- the name of a compound is among its names
@@ -196,11 +196,11 @@ module _ (a : Arena) (l : Links) (solved : AreSolved a l) where
   none_value V limit room left none = record { value = tt; none = none }
 
   pub built_value : {X : Type 0} (F : List Tree → X → Tree) (V : List Tree → Tree) (name : List ℕ) (values : List Term) (xs : List X) (y : Term) (limit : ℕ) (room left : Room)
-      → xs ≡ [] → tree_of y ≡ applied_over tree_of (Atomic name) values → IsSpent (applied_over tree_of (Atomic name) values) limit room left → Builds a l F V name values xs → IsValue a l V limit room left (Some y)
+      → xs ≡ [] → tree_of y ≡ applied_over tree_of (Atomic name) values → TakesRoom (applied_over tree_of (Atomic name) values) limit room left → Builds a l F V name values xs → IsValue a l V limit room left (Some y)
   built_value F V name values xs y limit room left none made spent builds = record {
     value = (
       λ v solution. builds v solution ∙ ap (applied_over (F v) (applied_over tree_of (Atomic name) values)) none ∙ sym made,
-      subst (λ t. IsSpent t limit room left) (sym made) spent,
+      subst (λ t. TakesRoom t limit room left) (sym made) spent,
     );
     none = tt;
   }

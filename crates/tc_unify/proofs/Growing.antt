@@ -14,7 +14,7 @@ use Rattle.tc_unify.specs.declared.links.Links.{Links}
 use Rattle.tc_unify.specs.declared.sizes.Added.{Added}
 use Rattle.tc_unify.specs.Nodes.{IsTerm, tree_of_node, label}
 use Rattle.tc_unify.specs.Links.{Respects}
-use Rattle.tc_unify.specs.Solutions.{AreLinked, Means}
+use Rattle.tc_unify.specs.Solutions.{AreLinked, LinksMean}
 use Rattle.tc_unify.specs.Arena.{IsInside, IsArena, IsNodeOf, HasLinkIn, Grows, shape_of}
 use Rattle.tc_unify.specs.Tables.{link_of}
 use Rattle.tc_unify.specs.Meeting.{IsLinked}
@@ -54,7 +54,7 @@ module _ (old new : Arena) (link : ℕ → ℕ) (es : List Equation)
         | inr e ↦ ap (label (shape_of old) v) (sym e)
       ]
 
-  pub Means-grows : Means old.variables (shape_of old) link es → Means old.variables (shape_of new) link es
+  pub Means-grows : LinksMean old.variables (shape_of old) link es → LinksMean old.variables (shape_of new) link es
   Means-grows means = record {
     says = λ v h. respects_new v (means.says v h);
     said = λ v r. means.said v (respects_old v r);

@@ -19,7 +19,7 @@ use Rattle.tc_unify.specs.Arena.{IsNodeOf, shape_of}
 use Rattle.tc_unify.specs.Tables.{link_of}
 use Rattle.tc_unify.specs.Meeting.{IsLinked}
 use Rattle.tc_unify.specs.Walks.{Awaits, Descends, IsBelowAll, IsOpenIn}
-use Rattle.tc_unify.specs.Marks.{mark_of, steps_of, IsListed, IsMarked, IsStarted, IsStep, Knows, Keeps, IsEndless, unseen, walk_work}
+use Rattle.tc_unify.specs.Marks.{mark_of, steps_of, IsListed, IsMarked, IsStarted, IsStep, Knows, KeepsBelow, IsEndless, unseen, walk_work}
 use Rattle.tc_unify.proofs.Roots.{root-ends, root-fixed}
 use Rattle.tc_unify.proofs.Walks.{IsFinite-same, Awaits-more, Awaits-skipped, Awaits-passed, Awaits-entered, Descends-entered, Descends-open}
 use Rattle.tc_lists.proofs.Reversals.{reverse_push}
@@ -89,7 +89,7 @@ Knows-unseen a l w all none steps = record {
 
 module _ (a : Arena) (l : Links) (w : Walk) (linked : IsLinked a l) (known : Knows a l w) where
   -- a node with a finite root is passed
-  pub Keeps-passed : (node : ℕ) → IsFinite (shape_of a) (link_of l) node → Keeps a l (Enter node ∷ steps_of w) (steps_of w)
+  pub Keeps-passed : (node : ℕ) → IsFinite (shape_of a) (link_of l) node → KeepsBelow a l (Enter node ∷ steps_of w) (steps_of w)
   Keeps-passed node finite = record {
     awaits = λ for h. Awaits-passed (shape_of a) (link_of l) for node (steps_of w) h finite;
     descends = λ v r h. h.1;
@@ -121,7 +121,7 @@ module _ (a : Arena) (l : Links) (w : Walk) (linked : IsLinked a l) (known : Kno
     entered_steps : steps_of new ≡ Enter head ∷ Enter argument ∷ Leave r ∷ steps_of w
     entered_steps = ap reverse steps ∙ reverse-append w.steps.items (Leave r ∷ Enter argument ∷ Enter head ∷ [])
 
-    pub Keeps-entered : Keeps a l (Enter node ∷ steps_of w) (steps_of new)
+    pub Keeps-entered : KeepsBelow a l (Enter node ∷ steps_of w) (steps_of new)
     Keeps-entered = record {
       awaits = λ for h.
           subst (Awaits (shape_of a) (link_of l) for (IsFinite (shape_of a) (link_of l))) (sym entered_steps)

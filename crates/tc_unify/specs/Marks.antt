@@ -57,7 +57,7 @@ pub record Knows (a : Arena) (l : Links) (w : Walk) : Type 0 where
   pub steps : All (IsStep a l w.seen.items) w.steps.items
 
 -- what awaits the steps, and the trees below, are kept
-pub record Keeps (a : Arena) (l : Links) (old new : List Step) : Type 0 where
+pub record KeepsBelow (a : Arena) (l : Links) (old new : List Step) : Type 0 where
   pub awaits : (for : List ℕ)
       → Awaits (shape_of a) (link_of l) for (IsFinite (shape_of a) (link_of l)) old
       → Awaits (shape_of a) (link_of l) for (IsFinite (shape_of a) (link_of l)) new

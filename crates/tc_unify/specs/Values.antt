@@ -4,7 +4,7 @@ use Rattle.tc_term.specs.declared.terms.Term.{Term}
 use Rattle.tc_term.specs.Equations.{at, under}
 use Rattle.tc_term.specs.Tree.{Tree}
 use Rattle.tc_term.specs.declared.limits.Room.{Room}
-use Rattle.tc_term.specs.Room.{IsWithin, IsSpent}
+use Rattle.tc_term.specs.Room.{IsWithin, TakesRoom}
 use Rattle.tc_term.specs.TreeView.{tree_of}
 use Rattle.tc_term.specs.Variables.{raised}
 use Rattle.tc_unify.specs.declared.nodes.Arena.{Arena}
@@ -40,7 +40,7 @@ of_term shift t v = under v (raised shift (tree_of t))
 pub record IsValue
     (a : Arena) (l : Links) (V : List Tree → Tree) (limit : ℕ) (room left : Room) (found : Option Term)
     : Type 0 where
-  pub value : IfSome found (λ t. IsFixed a l V (tree_of t) × IsSpent (tree_of t) limit room left)
+  pub value : IfSome found (λ t. IsFixed a l V (tree_of t) × TakesRoom (tree_of t) limit room left)
   pub none : IfNone found ((t : Tree) → IsFixed a l V t → IsWithin t limit room → ⊥)
 
 -- the atom and the arguments of a node, the last argument first

@@ -1,6 +1,6 @@
 use Rattle.std.proofs.Common.{◌<◌, ◌+◌, Some, sym, subst, arith}
 use Rattle.tc_bag.specs.declared.key.Key.TheVariants.{Any}
-use Rattle.tc_bag.specs.Keys.{Agrees}
+use Rattle.tc_bag.specs.Keys.{IsOfKey}
 use Rattle.tc_bag.specs.Stock.{Row, row}
 use Rattle.tc_search.proofs.Passing.{candidate_below}
 use Rattle.tc_pending.proofs.Newly.{IsSoFar, far-found, far-none, far-next, far-no}
@@ -10,7 +10,7 @@ use Rattle.tc_pending.proofs.answering.newly_answerable.Goals.{in-Some-oldest_as
 -- the candidate's age
 below : (c : goal.Joined-oldest_asking) → c.in-Some.age < c.args.bag.now.next
 below c =
-    candidate_below (Agrees Any) c.loop-age.from c.args.bag.now.next c.args.bag.now.now (row c.in-Some.age c.in-Some.tuple.now)
+    candidate_below (IsOfKey Any) c.loop-age.from c.args.bag.now.next c.args.bag.now.now (row c.in-Some.age c.in-Some.tuple.now)
     c.in-Some.ensures.rises c.in-Some.ensures.found
 
 pub overflow_add-from : goal.overflow_add-from

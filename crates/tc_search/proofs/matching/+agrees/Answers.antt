@@ -1,7 +1,7 @@
 use Rattle.std.proofs.Common.{rules, ◌≡◌, ◌+◌, ◌≤◌, ◌<◌, length, map, sym, ap, ◌∙◌, subst, arith, drop_of_length-le}
 use Rattle.tc_term.specs.TreeView.{tree_of}
 use Rattle.tc_term.specs.Variables.{instance, var_bound}
-use Rattle.tc_search.specs.Bindings.{Makes}
+use Rattle.tc_search.specs.Bindings.{MakesTuple}
 use Rattle.tc_search.proofs.Arguments.{argument_fits, argument_ground}
 use Rattle.tc_search.proofs.Walking.{MakesFrom, binds_same, binds_more, binds_met, makes_next, makes_compounds, never_lengths}
 use Rattle.tc_search.proofs.matching.+agrees.Goals as goal
@@ -16,7 +16,7 @@ loop-i-init t c =
       ours = argument_fits c.args.term.now s.m s.left ours _ (ap tree_of s.is-0) c.items-ours.ensures.trees c.items-ours.ensures.depth c.requires.places;
       theirs = argument_ground c.args.tuple.now s.n s.right theirs (ap tree_of s.is-1) c.items-theirs.ensures.trees c.requires.tuple;
       ground = c.requires.ground;
-      binds = binds_same c.args.bound.now (Makes (tree_of c.args.term.now) (tree_of c.args.tuple.now)) (MakesFrom 0 ours theirs)
+      binds = binds_same c.args.bound.now (MakesTuple (tree_of c.args.term.now) (tree_of c.args.tuple.now)) (MakesFrom 0 ours theirs)
           (makes_compounds c.args.term.now c.args.tuple.now s.m s.n s.left s.right ours theirs (ap tree_of s.is-0) (ap tree_of s.is-1)
           c.items-ours.ensures.trees c.items-theirs.ensures.trees c.items-ours.ensures.some c.items-theirs.ensures.some same);
     }

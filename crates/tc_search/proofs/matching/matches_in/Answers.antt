@@ -1,7 +1,7 @@
 use Rattle.std.proofs.Common.{true, false, IsTrue, Bool, refl, subst, ◌≡◌}
 use Rattle.tc_term.specs.Tree.{Tree}
 use Rattle.tc_term.specs.TreeView.{tree_of}
-use Rattle.tc_search.specs.Bindings.{Makes, Always, Binds, NeverBinds}
+use Rattle.tc_search.specs.Bindings.{MakesTuple, Always, Binds, NeverBinds}
 use Rattle.tc_search.proofs.Bound.{matches_bound, matches_never}
 use Rattle.tc_search.proofs.matching.matches_in.Goals as goal
 
@@ -12,8 +12,8 @@ returns c =
     let old = c.args.bound.now in
     let new = c.agrees.new.bound in
     let ground = c.term-2.ensures.tuple.ground in
-    let Binds_both : Tree → Tree → Type 0 = λ s t. Binds old (Makes s t) new Always in
-    let Never_both : Tree → Tree → Type 0 = λ s t. NeverBinds old (Makes s t) in
+    let Binds_both : Tree → Tree → Type 0 = λ s t. Binds old (MakesTuple s t) new Always in
+    let Never_both : Tree → Tree → Type 0 = λ s t. NeverBinds old (MakesTuple s t) in
     let binds : IsTrue c.agrees.result → Binds_both template tuple = λ h.
     subst (λ s. Binds_both s tuple) c.term.ensures.term
     (subst (λ t. Binds_both (tree_of c.term.result.now) t) c.term-2.ensures.term (c.agrees.ensures.yes h)) in

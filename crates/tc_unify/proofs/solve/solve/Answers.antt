@@ -4,7 +4,7 @@ use Rattle.tc_term.specs.Equations.{Equation}
 use Rattle.tc_unify.specs.Arena.{shape_of}
 use Rattle.tc_unify.specs.Links.{IsFiniteVariable}
 use Rattle.tc_unify.specs.Tables.{link_of}
-use Rattle.tc_unify.specs.Solutions.{Means, NeverMeets, Demands}
+use Rattle.tc_unify.specs.Solutions.{LinksMean, NeverMeets, Demands}
 use Rattle.tc_unify.specs.Walks.{HasNoTrees}
 use Rattle.tc_unify.proofs.Solving.{solved_means, never_failed, never_endless}
 use Rattle.tc_unify.proofs.solve.solve.Goals as goal
@@ -27,8 +27,8 @@ returns-clause-solved c =
     let leads = c.in_ok-unify.ensures.met c.if-not-branch.false in
     IfOk-weaker c.are_finite.result
     (λ finite. IsTrue finite → All (IsFiniteVariable (shape_of a) (link_of new)) (drop c.len-from.result new.trail.items))
-    (λ solved. IsTrue solved → (es : List Equation) (s t : Tree) → Means a.variables (shape_of a) (link_of l) es
-    → Demands (shape_of a) s t pairs → Means a.variables (shape_of a) (link_of new) ((s, t) ∷ es))
+    (λ solved. IsTrue solved → (es : List Equation) (s t : Tree) → LinksMean a.variables (shape_of a) (link_of l) es
+    → Demands (shape_of a) s t pairs → LinksMean a.variables (shape_of a) (link_of new) ((s, t) ∷ es))
     (λ b finite true es s t means demands.
     solved_means a l new pairs es c.requires.linked c.unify.ensures.linked c.unify.ensures.extends means s t demands leads
     (subst (λ n. All (IsFiniteVariable (shape_of a) (link_of new)) (drop n new.trail.items))
@@ -45,7 +45,7 @@ returns-clause-never c =
     let leads = c.in_ok-unify.ensures.met c.if-not-branch.false in
     IfOk-weaker c.are_finite.result
     (λ finite. finite ≡ false → HasNoTrees (shape_of a) (link_of new))
-    (λ solved. solved ≡ false → (es : List Equation) → Means a.variables (shape_of a) (link_of l) es
+    (λ solved. solved ≡ false → (es : List Equation) → LinksMean a.variables (shape_of a) (link_of l) es
     → NeverMeets (shape_of a) (link_of l) pairs)
     (λ b endless no es means.
     never_endless a l new pairs es c.requires.linked c.unify.ensures.linked c.unify.ensures.extends means leads (endless no))
