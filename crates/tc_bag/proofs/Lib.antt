@@ -1,7 +1,7 @@
 pub mod Additions
 pub mod Agreement
 pub mod Ages
-pub mod Pairs
+pub mod PairOrder
 pub mod ByAge
 pub mod Gaps
 pub mod Searching

@@ -1,20 +1,14 @@
 -- Which ages an index has for a code.
-use Rattle.std.specs.Prelude.{ℕ, IsTrue, IfSome}
-use Rattle.std.specs.BTreeSet.{contains}
-use Rattle.std.specs.declared.cmp.Ordering.{Ordering}
-use Rattle.std.specs.Ordering.{nat_cmp, ordering_then}
+use Rattle.std.specs.Prelude.{ℕ, IfSome}
 use Rattle.tc_term.specs.Tree.{Tree}
 use Rattle.tc_bag.specs.declared.index.Index.{Index}
 use Rattle.tc_bag.specs.Codes.{key_code, first_code}
 use Rattle.tc_bag.specs.Keys.{key_of}
-
--- the order of pairs: by the code, then by the age
-abbrev pub pair_cmp : ℕ × ℕ → ℕ × ℕ → Ordering
-pair_cmp x y = ordering_then (nat_cmp x.0 y.0) (nat_cmp x.1 y.1)
+use Rattle.tc_bag.specs.Pairs.{HasPair}
 
 -- the index has the pair of a code and an age
 abbrev pub Has : Index → ℕ → ℕ → Type 0
-Has index code age = IsTrue (contains pair_cmp index.pairs (code, age))
+Has index code age = HasPair index.pairs code age
 
 -- the index has the age of a tuple by the code of its key, and by that of its key and first argument
 abbrev pub HasRow : Index → ℕ → Tree → Type 0

@@ -1,41 +1,25 @@
 //! Ages by codes.
-ghost use Rattle.std.specs.Prelude.{ℕ, ◌≡◌, ◌≢◌, ◌<◌, ◌≤◌, IsTrue, OnOk, IfSome, IfNone};
+ghost use Rattle.std.specs.Prelude.{ℕ, ◌≢◌, ◌<◌, ◌≤◌, IsTrue, OnOk, IfSome, IfNone};
 ghost use Rattle.tc_bag.specs.Ages.{Has, HasRow};
 
 use crate::codes::{first_code, tuple_code};
+use crate::pairs::Pairs;
 use std::alloc::Global;
-use std::collections::BTreeSet;
 use tc_lists::NoMemory;
 use tc_term::Ground;
 
 /// Pairs of a code and the age of a row, in order.
 #[derive(Drop)]
 pub(crate) struct Index {
-    pairs: BTreeSet<(u64, u64)>,
+    pairs: Pairs,
 }
 
 impl Index {
     /// No pair.
     pub(crate) fn new(alloc: Global) -> Index {
         Index {
-            pairs: BTreeSet::new(alloc),
+            pairs: Pairs::new(alloc),
         }
-    }
-
-    /// Enters a pair.
-    pub(crate) fn enter(&mut self, code: u64, age: u64) -> Result<(), NoMemory>
-        ensures entered { OnOk result (Has self.new code age) }
-        ensures kept { (c a : ℕ) → Has self.old c a → Has self.new c a }
-    {
-        self.pairs.insert((code, age))?;
-        Ok(())
-    }
-
-    /// Removes a pair, where it is there.
-    pub(crate) fn leave(&mut self, code: u64, age: u64)
-        ensures kept { (c a : ℕ) → a ≢ age → Has self.old c a → Has self.new c a }
-    {
-        self.pairs.remove(&(code, age));
     }
 
     /// The least age with this code that is at least `from`.
@@ -44,8 +28,7 @@ impl Index {
             × ((a : ℕ) → from ≤ a → a < age → Has self.now code a → ⊥)) }
         ensures none { IfNone result ((a : ℕ) → from ≤ a → Has self.now code a → ⊥) }
     {
-        let (found, age) = self.pairs.range((code, from)..).next()?;
-        if *found == code { Some(*age) } else { None }
+        self.pairs.next(code, from)
     }
 
     /// Enters a row.
@@ -54,9 +37,9 @@ impl Index {
         ensures kept { (c a : ℕ) → Has self.old c a → Has self.new c a }
     {
         let term = tuple.term();
-        self.enter(tuple_code(term), age)?;
+        self.pairs.enter(tuple_code(term), age)?;
         match first_code(term) {
-            Some(code) => self.enter(code, age),
+            Some(code) => self.pairs.enter(code, age),
             None => Ok(()),
         }
     }
@@ -77,9 +60,9 @@ impl Index {
         ensures kept { (c a : ℕ) → a ≢ age → Has self.old c a → Has self.new c a }
     {
         let term = tuple.term();
-        self.leave(tuple_code(term), age);
+        self.pairs.leave(tuple_code(term), age);
         if let Some(code) = first_code(term) {
-            self.leave(code, age);
+            self.pairs.leave(code, age);
         }
     }
 

@@ -1,11 +1,11 @@
 -- Serial numbers of requests, and an index of them by codes.
 use Rattle.std.specs.Prelude.{ℕ, ◌≡◌, ◌%◌, ◌<◌, ◌≤◌, false, List, length}
 use Rattle.std.specs.Prelude.{slice_index_or, slice_get, Some, IsTrue}
-use Rattle.std.specs.BTreeSet.{contains}
 use Rattle.tc_term.specs.Tree.{Tree}
-use Rattle.tc_bag.specs.Ages.{pair_cmp}
+use Rattle.tc_bag.specs.Pairs.{HasPair}
 use Rattle.tc_model.specs.declared.calls.Request.{Request}
 use Rattle.tc_pending.specs.declared.index.Index.{Index}
+use Rattle.tc_pending.specs.declared.index.TheConstants.{REMAINDERS}
 use Rattle.tc_pending.specs.Answers.{AsksFor}
 use Rattle.tc_pending.specs.Codes.{code_of}
 use Rattle.tc_pending.specs.Rising.{NumbersRise}
@@ -13,8 +13,8 @@ use Rattle.tc_pending.specs.Rising.{NumbersRise}
 -- the index has the pair of a code and a serial number, and that such a code was entered
 abbrev pub Has : Index → ℕ → ℕ → Type 0
 Has index code serial =
-    IsTrue (contains pair_cmp index.pairs (code, serial))
-    × IsTrue (slice_index_or index.entered.items (code % 1024) false)
+    HasPair index.pairs code serial
+    × IsTrue (slice_index_or index.entered.items (code % REMAINDERS) false)
 
 -- the index has the first so many pairs of these codes and serial numbers
 abbrev pub HasFirst : Index → List ℕ → List ℕ → ℕ → Type 0

@@ -6,20 +6,20 @@ ghost use Rattle.tc_pending.specs.Filed.{Has, IsFiled, KeepsAll};
 
 use crate::numbers::{count_below, number_behind, place_of};
 use std::alloc::Global;
-use std::collections::BTreeSet;
+use tc_bag::Pairs;
 use tc_lists::NoMemory;
 
 // Up to so many requests their codes are gone through, which is then faster than look-ups.
 const FEW: usize = 32;
 
-// So many remainders of codes are told apart.
-const REMAINDERS: u64 = 1024;
+/// So many remainders of codes are told apart.
+pub const REMAINDERS: u64 = 1024;
 
 /// Pairs of a code and a serial number, in order; and for each remainder of a code, once there was a
 /// pair, whether one with such a code was ever entered.
 #[derive(Drop)]
 pub(crate) struct Index {
-    pairs: BTreeSet<(u64, u64)>,
+    pairs: Pairs,
     entered: Vec<bool>,
 }
 
@@ -27,7 +27,7 @@ impl Index {
     /// No pair.
     pub(crate) fn new(alloc: Global) -> Index {
         Index {
-            pairs: BTreeSet::new(alloc),
+            pairs: Pairs::new(alloc),
             entered: Vec::new(alloc),
         }
     }
@@ -49,8 +49,7 @@ impl Index {
         if !self.may_have(code) {
             return None;
         }
-        let (found, serial) = self.pairs.range((code, from)..).next()?;
-        if *found == code { Some(*serial) } else { None }
+        self.pairs.next(code, from)
     }
 
     /// Removes a pair, unless its serial number is one of these.
@@ -59,7 +58,7 @@ impl Index {
         ensures { KeepsAll self.old self.new serials.now }
     {
         if place_of(serials, serial).is_none() {
-            self.pairs.remove(&(code, serial));
+            self.pairs.leave(code, serial);
         }
     }
 
@@ -69,7 +68,7 @@ impl Index {
         ensures kept { (c s : ℕ) → Has self.old c s → Has self.new c s }
     {
         self.entered.resize(REMAINDERS as usize, false)?;
-        self.pairs.insert((code, serial))?;
+        self.pairs.enter(code, serial)?;
         self.entered[(code % REMAINDERS) as usize] = true;
         Ok(())
     }

@@ -1,4 +1,4 @@
--- Pairs of a code and an age, in order.
+-- Pairs of numbers, in order.
 use Rattle.std.proofs.Common.{◌≡◌, ◌≢◌, ◌≤◌, ℕ, false, List, ◌∷◌, slice_get, IsTrue, subst, arith}
 use Rattle.std.specs.BTreeMap.{is_at}
 use Rattle.std.specs.BTreeSet.{BTreeSet, contains, IsKeyInRange, IsKeyRangeOf}
@@ -6,20 +6,20 @@ use Rattle.std.specs.declared.ops.Bound.TheVariants.{Included, Unbounded}
 use Rattle.std.specs.Option.{IfSome}
 use Rattle.std.specs.BTreeMap.Range.{IsLeBy}
 use Rattle.std.proofs.lemmas.Bool.Decides.{nat_tests}
-use Rattle.tc_bag.specs.Ages.{pair_cmp}
+use Rattle.tc_bag.specs.Pairs.{pair_cmp}
 
--- pairs of other ages differ
+-- pairs of other second numbers differ
 pub apart : (c a d b : ℕ) → a ≢ b → is_at (pair_cmp (c, a)) (d, b) ≡ false
 apart c a d b other = grind (arith, nat_tests)
 
--- the order within a code
+-- the order within a first number
 pub within : (c a b : ℕ) → a ≤ b → IsLeBy pair_cmp (c, a) (c, b)
 within c a b up = grind (arith, nat_tests)
 
 pub within_back : (c a b : ℕ) → IsLeBy pair_cmp (c, a) (c, b) → a ≤ b
 within_back c a b up = grind (arith, nat_tests)
 
--- what is between two pairs of a code has that code
+-- what is between two pairs of a first number has that number
 pub between : (c a d b e : ℕ) → IsLeBy pair_cmp (c, a) (d, b) → IsLeBy pair_cmp (d, b) (c, e) → c ≡ d
 between c a d b e up down = grind (arith, nat_tests)
 

@@ -1,0 +1,48 @@
+//! Pairs of numbers, in order.
+ghost use Rattle.std.specs.Prelude.{ℕ, ◌≢◌, ◌<◌, ◌≤◌, OnOk, IfSome, IfNone};
+ghost use Rattle.tc_bag.specs.Pairs.{HasPair};
+
+use std::alloc::Global;
+use std::collections::BTreeSet;
+use tc_lists::NoMemory;
+
+/// Pairs of numbers, in order: by the first, then by the second.
+#[derive(Drop)]
+pub struct Pairs {
+    pairs: BTreeSet<(u64, u64)>,
+}
+
+impl Pairs {
+    /// No pair.
+    pub fn new(alloc: Global) -> Pairs {
+        Pairs {
+            pairs: BTreeSet::new(alloc),
+        }
+    }
+
+    /// Enters a pair.
+    pub fn enter(&mut self, first: u64, second: u64) -> Result<(), NoMemory>
+        ensures entered { OnOk result (HasPair self.new first second) }
+        ensures kept { (c a : ℕ) → HasPair self.old c a → HasPair self.new c a }
+    {
+        self.pairs.insert((first, second))?;
+        Ok(())
+    }
+
+    /// Removes a pair, where it is there.
+    pub fn leave(&mut self, first: u64, second: u64)
+        ensures kept { (c a : ℕ) → a ≢ second → HasPair self.old c a → HasPair self.new c a }
+    {
+        self.pairs.remove(&(first, second));
+    }
+
+    /// The least second number with this first one that is at least `from`.
+    pub fn next(&self, first: u64, from: u64) -> Option<u64>
+        ensures found { IfSome result (λ second. (from ≤ second)
+            × ((a : ℕ) → from ≤ a → a < second → HasPair self.now first a → ⊥)) }
+        ensures none { IfNone result ((a : ℕ) → from ≤ a → HasPair self.now first a → ⊥) }
+    {
+        let (found, second) = self.pairs.range((first, from)..).next()?;
+        if *found == first { Some(*second) } else { None }
+    }
+}
