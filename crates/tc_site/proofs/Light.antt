@@ -3,7 +3,7 @@ use Rattle.std.proofs.Common.{◌≡◌, ℕ, ◌≤◌, ◌<◌, List, [], ◌�
 use Rattle.std.specs.List.{slice_get, slice_index}
 use Rattle.std.proofs.lemmas.List.Sums.{sum_by-cons}
 use Rattle.std.proofs.lemmas.Option.{slice_get_read}
-use Rattle.tc_lists.proofs.Sets.{slice_get_inside}
+use Rattle.tc_lists.proofs.Sets.{get_or-map_at, slice_get_inside}
 use Rattle.tc_model.specs.Entries.{weight, weight_of}
 use Rattle.tc_model.specs.State.{Origin}
 use Rattle.tc_model.specs.declared.entries.Entry.{Entry}
@@ -12,7 +12,6 @@ use Rattle.tc_model.specs.declared.limits.TheConstants.{MOST_WEIGHT}
 use Rattle.tc_turn.specs.Passes.{PassState}
 use Rattle.tc_site.specs.Desks.{AgentState, IsDesk, desk_of}
 use Rattle.tc_site.specs.Sites.{IsSite}
-use Rattle.tc_site.proofs.Told.{index-at}
 
 -- each entry weighs something
 weighs : (e : Entry) → 1 ≤ weight_of e
@@ -36,7 +35,7 @@ module _ {W : Type 0} (d : AgentState W) (is : IsDesk d) (site : IsSite d.site.n
     pub seen-count : (s : AgentState W) → d ≡ s → length p.seen ≡ slice_index (desk_of s).seen place
     seen-count s same =
         subst (λ (x : AgentState W). length p.seen ≡ slice_index (desk_of x).seen place) same
-        (sym (index-at (λ (x : PassState Entry Origin). length x.seen) d.passes place p at))
+        (sym (get_or-map_at (λ (x : PassState Entry Origin). length x.seen) d.passes place p 0 at))
 
     pub seen-few : length p.seen ≤ MOST_WEIGHT
     seen-few =

@@ -19,8 +19,8 @@ use Rattle.tc_site.specs.Pausing.{HasNoneLeft, HoldsTurn, Pauses, Resumes}
 use Rattle.tc_site.specs.Sites.{IsSite, histories_of, origins_of}
 use Rattle.tc_site.specs.Turns.{HasGrown}
 use Rattle.tc_site.proofs.Calling.{are-set}
-use Rattle.tc_lists.proofs.Sets.{map-set_both, map-set_like, slice_get-set_other, slice_get-set_same, slice_get_inside, set-slice_get}
-use Rattle.tc_site.proofs.Told.{at-pass, index-at, index-set_other}
+use Rattle.tc_lists.proofs.Sets.{get_or-map_at, get_or-map_set_other, map-set_both, map-set_like, slice_get-set_other, slice_get-set_same, slice_get_inside, set-slice_get}
+use Rattle.tc_site.proofs.Told.{at-pass}
 use Rattle.tc_site.proofs.Turned.{desk-longer, none-held, pass-free}
 
 is-set : (passes : List (PassState Entry Origin)) (place k : ℕ) (p q x : PassState Entry Origin) → slice_get passes place ≡ Some p → slice_get (set passes place q) k ≡ Some x
@@ -132,16 +132,16 @@ module _ {W : Type 0} (d : AgentState W) (is : IsDesk d) (site : IsSite d.site.n
   takes : TakesTurn (desk_of d) centre (desk_of holder)
   takes =
       let turns : PassState Entry Origin → ℕ = λ x. x.turns in
-      let before : slice_index (turns_of d.passes) place ≡ p.turns = index-at turns d.passes place p at-p in
+      let before : slice_index (turns_of d.passes) place ≡ p.turns = get_or-map_at turns d.passes place p 0 at-p in
       let after : slice_index (turns_of (set d.passes place q)) place ≡ q.turns =
-      index-at turns (set d.passes place q) place q (slice_get-set_same d.passes place q p at-p) in
+      get_or-map_at turns (set d.passes place q) place q 0 (slice_get-set_same d.passes place q p at-p) in
       let left = took.left in
       let fell : q.turns ≡ p.turns - 1 = ap turns took.after in
       record {
         place = place;
         named = named;
         one = omega (arith, before, after, left, fell);
-        others = λ k other. index-set_other turns d.passes place k q other;
+        others = λ k other. get_or-map_set_other turns d.passes place k q 0 other;
       }
 
   pub pauses : (s : AgentState W) → d ≡ s

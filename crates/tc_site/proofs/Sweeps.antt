@@ -1,12 +1,10 @@
 -- Loops that change one element after another, and lists that grow or shrink side by side.
-use Rattle.std.proofs.Common.{◌≡◌, ℕ, ◌+◌, ◌<◌, ◌≤◌, List, Some, Vec, length, map, get_or, sym, ◌∙◌, subst, arith, ⊎_elim}
-use Rattle.std.specs.Global.{Global}
+use Rattle.std.proofs.Common.{◌≡◌, ℕ, ◌+◌, ◌<◌, ◌≤◌, List, Some, length, sym, ◌∙◌, subst, arith, ⊎_elim}
 use Rattle.std.proofs.Math.ListN.{set, length-set}
 use Rattle.std.specs.List.{slice_get}
 use Rattle.std.proofs.lemmas.Bool.{cases_eq}
-use Rattle.std.proofs.lemmas.List.{map-set}
-use Rattle.std.proofs.lemmas.Option.{same_Some, slice_get_read, slice_get_within}
-use Rattle.tc_lists.proofs.Sets.{slice_get-map_at, slice_get-set_same, slice_get-set_other}
+use Rattle.std.proofs.lemmas.Option.{same_Some, slice_get_within}
+use Rattle.tc_lists.proofs.Sets.{slice_get-set_same, slice_get-set_other}
 
 -- the elements below the index have become what they were to become, and the others are as they were
 pub record Swept {X : Type 0} (R : ℕ → X → X → Type 0) (olds news : List X) (index : ℕ) : Type 0 where
@@ -48,13 +46,3 @@ swept-weaker R Q olds news i weaker swept = record {
   done = λ k x y below was now. weaker k x y (swept.done k x y below was now);
   same = swept.same;
 }
-
--- what the vector at a place has, and what the vectors have once one is replaced
-pub items-at : {X : Type 0} (vs : List (Vec X Global)) (n i : ℕ) (v : Vec X Global) → i < n → length vs ≡ n → v ≡ get_or vs i v
-    → slice_get (map (λ (w : Vec X Global). w.items) vs) i ≡ Some v.items
-items-at vs n i v below long is =
-    slice_get-map_at (λ (w : Vec _ Global). w.items) vs i v (slice_get_read vs n i v (sym long) below is)
-
-pub items-set : {X : Type 0} (vs : List (Vec X Global)) (i : ℕ) (v : Vec X Global)
-    → map (λ (w : Vec X Global). w.items) (set vs i v) ≡ set (map (λ (w : Vec X Global). w.items) vs) i v.items
-items-set vs i v = map-set (λ (w : Vec _ Global). w.items) vs i v

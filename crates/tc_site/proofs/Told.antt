@@ -1,14 +1,15 @@
 -- What a call leaves of an agent's desk, and what is told of it.
-use Rattle.std.proofs.Common.{◌≡◌, ◌≢◌, ℕ, zero, suc, ◌+◌, ◌-◌, ◌<◌, ◌≤◌, ◌||◌, Bool, true, false, List, [], ◌∷◌, ◌++◌, Option, Some, None, AllPairs, Contains, length, map, get_or, refl, sym, ap, ◌∙◌, subst, arith, inl, inr, ⊎_elim}
+use Rattle.std.proofs.Common.{◌≡◌, ◌≢◌, ℕ, ◌+◌, ◌-◌, ◌<◌, ◌≤◌, ◌||◌, Bool, true, false, List, [], ◌∷◌, ◌++◌, Option, Some, None, AllPairs, Contains, length, get_or, refl, sym, ap, ◌∙◌, subst, arith, inl, inr, ⊎_elim}
 use Rattle.std.specs.List.{slice_get, slice_index}
 use Rattle.std.specs.Option.{is_none, is_some}
 use Rattle.std.specs.Prelude.{MatchResult}
 use Rattle.std.specs.declared.result.Result.{Result}
+use Rattle.std.proofs.Math.Bool.{or-true}
 use Rattle.std.proofs.Math.ListN.{set}
 use Rattle.std.proofs.lemmas.Bool.{true≢false}
 use Rattle.std.proofs.lemmas.List.{length-append, length-map, length-set}
 use Rattle.std.proofs.lemmas.List.Elements.{Contains-append_right}
-use Rattle.std.proofs.lemmas.Option.{none-some, same_Some, slice_get_read, slice_get_within, get_or_from_slice_get}
+use Rattle.std.proofs.lemmas.Option.{same_Some, slice_get_read, slice_get_within, get_or_from_slice_get}
 use Rattle.tc_lists.proofs.Places.{slice_get_push, Contains-slice_get}
 use Rattle.tc_centre.specs.declared.answers.Answer.{Answer}
 use Rattle.tc_centre.specs.declared.answers.Answer.TheVariants as answer
@@ -44,38 +45,14 @@ use Rattle.tc_site.specs.Judging.{IsAllowed, IsRefusedFor}
 use Rattle.tc_site.specs.Sites.{IsSite, histories_of}
 use Rattle.tc_site.specs.Turns.{HasGrown, IsTurn, IsTurnRefused, told_of, waiting_of}
 use Rattle.tc_site.specs.declared.waiting.WaitingAt.{WaitingAt}
-use Rattle.tc_lists.proofs.Sets.{slice_get-map_at, slice_get-set_same, set-slice_get}
+use Rattle.tc_lists.proofs.Sets.{get_or-map_at, get_or-map_set, get_or-map_set_other, slice_get-map_at, slice_get-set_same, set-slice_get}
 use Rattle.tc_lists.proofs.Pairs.{AllPairs-one_place}
 use Rattle.tc_site.proofs.Turned.{idle-log}
-
--- the numbers of a list in which one element is replaced
-module _ {X : Type 0} (f : X → ℕ) where
-  pub index-set : (R : ℕ → ℕ → Type 0) → ((n : ℕ) → R n n) → (xs : List X) (place : ℕ) (p q : X) → slice_get xs place ≡ Some p → R (f p) (f q)
-      → (k : ℕ) → R (slice_index (map f xs) k) (slice_index (map f (set xs place q)) k)
-  index-set R same [] place p q at goes k = absurd (none-some p at)
-  index-set R same (x ∷ xs) zero p q at goes zero = subst (λ y. R (f y) (f q)) (sym (same_Some x p at)) goes
-  index-set R same (x ∷ xs) zero p q at goes (suc k) = same (slice_index (map f xs) k)
-  index-set R same (x ∷ xs) (suc place) p q at goes zero = same (f x)
-  index-set R same (x ∷ xs) (suc place) p q at goes (suc k) = index-set R same xs place p q at goes k
-
-  pub index-set_other : (xs : List X) (place k : ℕ) (q : X) → (k ≡ place → ⊥) → slice_index (map f (set xs place q)) k ≡ slice_index (map f xs) k
-  index-set_other [] place k q other = refl
-  index-set_other (x ∷ xs) zero zero q other = absurd (other refl)
-  index-set_other (x ∷ xs) zero (suc k) q other = refl
-  index-set_other (x ∷ xs) (suc place) zero q other = refl
-  index-set_other (x ∷ xs) (suc place) (suc k) q other = index-set_other xs place k q (λ e. other (ap suc e))
-
-  pub index-at : (xs : List X) (place : ℕ) (x : X) → slice_get xs place ≡ Some x → slice_index (map f xs) place ≡ f x
-  index-at xs place x at = get_or_from_slice_get (map f xs) place (f x) 0 (slice_get-map_at f xs place x at)
 
 -- whether a row is pending, where the desk knows of one
 any_pending-at : (front : List LogRow) (row : LogRow) (back : List LogRow) → is_pending row.result ≡ true → any_pending (front ++ row ∷ back) ≡ true
 any_pending-at [] row back e = ap (λ b. b || any_pending back) e
-any_pending-at (x ∷ front) row back e = ap (λ b. is_pending x.result || b) (any_pending-at front row back e) ∙ or-right (is_pending x.result)
-  where
-    or-right : (b : Bool) → (b || true) ≡ true
-    or-right true = refl
-    or-right false = refl
+any_pending-at (x ∷ front) row back e = ap (λ b. is_pending x.result || b) (any_pending-at front row back e) ∙ or-true (is_pending x.result)
 
 pub busy-some : (names : List (List ℕ)) (log : List LogRow) (pending : Option WaitingAt) → WaitsAt names log pending → is_some pending ≡ true → any_pending log ≡ true
 busy-some names log None at some = absurd (true≢false (sym some))
@@ -241,7 +218,7 @@ module _ {W : Type 0} (d : AgentState W) (place : ℕ) (p q : PassState Entry Or
       (λ (none : is_none d.held ≡ true). record {
         names = refl;
         free = none;
-        seen = index-set seen (λ a b. a ≤ b) (λ n. omega arith) d.passes place p q at-p longer;
+        seen = get_or-map_set seen (λ a b. a ≤ b) (λ n. omega arith) d.passes place p q 0 at-p longer;
         read = read;
       })
       free
@@ -253,21 +230,21 @@ module _ {W : Type 0} (d : AgentState W) (place : ℕ) (p q : PassState Entry Or
       subst (λ x. Spends 1 (desk_of x) (desk_of gone)) same
       (record {
         wide = length-map (set d.passes place q) turns ∙ length-set d.passes place q ∙ sym (length-map d.passes turns);
-        fell = index-set turns (λ a b. b ≤ a) (λ n. omega arith) d.passes place p q at-p goes.fell;
-        most = index-set turns (λ a b. a ≤ b + 1) (λ n. omega arith) d.passes place p q at-p goes.most;
+        fell = get_or-map_set turns (λ a b. b ≤ a) (λ n. omega arith) d.passes place p q 0 at-p goes.fell;
+        most = get_or-map_set turns (λ a b. a ≤ b + 1) (λ n. omega arith) d.passes place p q 0 at-p goes.most;
       })
 
   pub takes-gone : (centre : List ℕ) → slice_get d.site.names place ≡ Some centre → 0 < p.turns → q.turns ≡ p.turns - 1 → TakesTurn (desk_of d) centre (desk_of gone)
   takes-gone centre named left fell =
       let turns : PassState Entry Origin → ℕ = λ x. x.turns in
-      let before : slice_index (turns_of d.passes) place ≡ p.turns = index-at turns d.passes place p at-p in
+      let before : slice_index (turns_of d.passes) place ≡ p.turns = get_or-map_at turns d.passes place p 0 at-p in
       let after : slice_index (turns_of (set d.passes place q)) place ≡ q.turns =
-      index-at turns (set d.passes place q) place q (slice_get-set_same d.passes place q p at-p) in
+      get_or-map_at turns (set d.passes place q) place q 0 (slice_get-set_same d.passes place q p at-p) in
       record {
         place = place;
         named = named;
         one = omega (arith, before, after, left, fell);
-        others = λ k other. index-set_other turns d.passes place k q other;
+        others = λ k other. get_or-map_set_other turns d.passes place k q 0 other;
       }
 
 -- what a desk tells of a call that was allowed
@@ -354,7 +331,7 @@ module _ {W : Type 0} (permits : W → ℕ → ℕ → Primitive → Option ℕ)
   none-left none = record {
     place = place;
     named = allowed.named;
-    none = index-at (λ (x : PassState Entry Origin). x.turns) d.passes place p at-p ∙ none;
+    none = get_or-map_at (λ (x : PassState Entry Origin). x.turns) d.passes place p 0 at-p ∙ none;
   }
 
   refuses-turn : (why : Refusal) → IsTurnRefused t p why q → Refuses (desk_of d) centre ask why (desk_of (then (Refused why)))

@@ -1,5 +1,5 @@
 -- The agents as their desks end.
-use Rattle.std.proofs.Common.{◌≡◌, ◌∙◌, ℕ, zero, suc, ◌+◌, ◌<◌, ◌≤◌, true, List, [], ◌∷◌, ◌++◌, Some, All, length, map, set, get_or, refl, sym, ap, subst, arith, length-append, append_assoc, append-nil}
+use Rattle.std.proofs.Common.{◌≡◌, ◌∙◌, ℕ, zero, suc, ◌+◌, ◌<◌, ◌≤◌, true, List, [], ◌∷◌, ◌++◌, Some, All, length, map, set, get_or, take, drop, refl, sym, ap, subst, arith, length-append, append_assoc, append-nil}
 use Rattle.std.specs.List.{slice_get}
 use Rattle.std.proofs.lemmas.List.{length-map, map-append, nil_from_length}
 use Rattle.std.proofs.lemmas.List.Elements.{All-append, All-cons, All-head, All-nil, All-tail}
@@ -10,7 +10,7 @@ use Rattle.tc_sched.specs.Clients.{Client}
 use Rattle.tc_site.specs.Desks.{AgentState, desk_of}
 use Rattle.tc_site.specs.Sites.{EndedState}
 use Rattle.tc_workers.specs.Crews.{HasRows, ended_of, given_back, with_scripts}
-use Rattle.tc_workers.proofs.Patched.{patched, patched-all, patched-at, patched-set}
+use Rattle.tc_lists.proofs.Fronts.{front_whole, set_next-front, slice_get_next-front}
 
 abbrev IsFree : {W : Type 0} → Client (AgentState W) → Type 0
 IsFree c = (desk_of c.desk).free ≡ true
@@ -35,7 +35,7 @@ module _ {W : Type 0} where
     pub done : List (Client (AgentState W))
     pub split : all ≡ done ++ rest
     pub ended_are : ended ≡ map ended_of done
-    pub agents : now ≡ patched (length done) (given_back old all) old
+    pub agents : now ≡ take (length done) (given_back old all) ++ drop (length done) old
     pub rows : All HasRows done
     pub free : All IsFree rest
 
@@ -63,8 +63,8 @@ module _ {W : Type 0} where
     still-at : slice_get now (length ended) ≡ slice_get old (length ended)
     still-at =
         ap (λ xs. slice_get xs (length ended)) leaving.agents
-        ∙ ap (λ n. slice_get (patched n (given_back old all) old) (length ended)) (sym count)
-        ∙ patched-at (length ended) (given_back old all) old same-length
+        ∙ ap (λ n. slice_get (take n (given_back old all) ++ drop n old) (length ended)) (sym count)
+        ∙ slice_get_next-front (length ended) (given_back old all) old same-length
 
     agent-at : (a : AgentConf) → a ≡ get_or now (length ended) a → slice_get old (length ended) ≡ Some a
     agent-at a is =
@@ -95,9 +95,9 @@ module _ {W : Type 0} where
           ended_are = ap (λ es. es ++ ended_of c ∷ []) leaving.ended_are ∙ sym (map-append ended_of done (c ∷ []));
           agents =
               ap (λ xs. set xs n (with_scripts a c.scripts)) leaving.agents
-              ∙ ap (λ m. set (patched m (given_back old all) old) n (with_scripts a c.scripts)) (sym count)
-              ∙ patched-set n (given_back old all) old (with_scripts a c.scripts) same-length (given_back-at old all n a c (agent-at a is) member-at)
-              ∙ ap (λ m. patched m (given_back old all) old) (sym one);
+              ∙ ap (λ m. set (take m (given_back old all) ++ drop m old) n (with_scripts a c.scripts)) (sym count)
+              ∙ set_next-front n (given_back old all) old (with_scripts a c.scripts) same-length (given_back-at old all n a c (agent-at a is) member-at)
+              ∙ ap (λ m. take m (given_back old all) ++ drop m old) (sym one);
           rows = All-append HasRows done (c ∷ []) leaving.rows (All-cons HasRows c [] rows (All-nil HasRows));
           free = All-tail IsFree c rest leaving.free;
         }
@@ -118,4 +118,4 @@ module _ {W : Type 0} where
     left-agents =
         let same = length-given_back old all whole in
         leaving.agents
-        ∙ patched-all (length leaving.done) (given_back old all) old same (omega (arith, same, whole, ap length all-done))
+        ∙ front_whole (length leaving.done) (given_back old all) old same (omega (arith, same, whole, ap length all-done))

@@ -1,7 +1,6 @@
 pub mod Grants
 pub mod Follow
 pub mod Closed
-pub mod Patched
 pub mod Seating
 pub mod Leaving
 pub mod Driven

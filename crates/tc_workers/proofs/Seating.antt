@@ -1,8 +1,8 @@
 -- The agents as they sit down at their desks.
-use Rattle.std.proofs.Common.{◌≡◌, ◌∙◌, ℕ, zero, suc, ◌+◌, ◌<◌, ◌≤◌, List, [], ◌∷◌, ◌++◌, Option, Some, length, map, set, get_or, take, refl, sym, ap, subst, arith, ⊎_elim, length-append, take_all}
+use Rattle.std.proofs.Common.{◌≡◌, ◌∙◌, ℕ, suc, ◌+◌, ◌<◌, List, [], ◌∷◌, ◌++◌, Option, Some, length, map, set, get_or, take, drop, refl, sym, ap, subst, arith, ⊎_elim, length-append, take_all}
 use Rattle.std.specs.List.{slice_get}
 use Rattle.std.proofs.lemmas.List.{length-map, map-append}
-use Rattle.std.proofs.lemmas.Option.{none-some, same_Some, slice_get_within, slice_get-get_or, get_or_from_slice_get}
+use Rattle.std.proofs.lemmas.Option.{none-some, slice_get_within, slice_get-get_or, get_or_from_slice_get}
 use Rattle.tc_config.specs.declared.configs.AgentConf.{AgentConf}
 use Rattle.tc_lists.proofs.Parts.{take_read}
 use Rattle.tc_lists.proofs.Places.{slice_get_push}
@@ -13,7 +13,7 @@ use Rattle.tc_sched.specs.Clients.{Client}
 use Rattle.tc_site.specs.Desks.{AgentState}
 use Rattle.tc_site.specs.Sites.{AreOfSite, KitState, SiteState}
 use Rattle.tc_workers.specs.Crews.{AreAtDesks, IsAtDesk, bare}
-use Rattle.tc_workers.proofs.Patched.{patched, patched-all, patched-at, patched-set}
+use Rattle.tc_lists.proofs.Fronts.{front_whole, set_next-front, slice_get_next-front}
 
 abbrev pub scripts_of : {W : Type 0} → Client (AgentState W) → List Lines
 scripts_of c = c.scripts
@@ -26,7 +26,7 @@ module _ {W : Type 0} (permits : W → ℕ → ℕ → Primitive → Option ℕ)
   pub record Seating (old : List AgentConf) (rest : List (KitState W)) (now : List AgentConf) (crew : List (Client (AgentState W))) : Type 0 where
     pub many : length crew + length rest ≡ length old
     pub kits : (k : ℕ) (v : KitState W) → slice_get rest k ≡ Some v → (v.site ≡ s) × (v.agent ≡ length crew + k)
-    pub agents : now ≡ patched (length crew) (map bare old) old
+    pub agents : now ≡ take (length crew) (map bare old) ++ drop (length crew) old
     pub scripts : map scripts_of crew ≡ take (length crew) (map scripts_in old)
     pub each : (k : ℕ) (c : Client (AgentState W)) → slice_get crew k ≡ Some c → IsAtDesk permits s k c
 
@@ -52,7 +52,7 @@ module _ {W : Type 0} (permits : W → ℕ → ℕ → Primitive → Option ℕ)
     next-at a is =
         let n : ℕ = length crew in
         let same : slice_get now n ≡ slice_get old n =
-        ap (λ xs. slice_get xs n) seating.agents ∙ patched-at n (map bare old) old (length-map old bare) in
+        ap (λ xs. slice_get xs n) seating.agents ∙ slice_get_next-front n (map bare old) old (length-map old bare) in
         let there = slice_get-get_or old n a within in
         let read : get_or now n a ≡ get_or old n a = get_or_from_slice_get now n (get_or old n a) a (same ∙ there) in
         there ∙ ap Some (sym read ∙ sym is)
@@ -61,7 +61,7 @@ module _ {W : Type 0} (permits : W → ℕ → ℕ → Primitive → Option ℕ)
     next-within =
         let n : ℕ = length crew in
         let there = slice_get-get_or old n (get_or old n (record { name = []; role = 0; scripts = [] })) within in
-        slice_get_within now n _ (ap (λ xs. slice_get xs n) seating.agents ∙ patched-at n (map bare old) old (length-map old bare) ∙ there)
+        slice_get_within now n _ (ap (λ xs. slice_get xs n) seating.agents ∙ slice_get_next-front n (map bare old) old (length-map old bare) ∙ there)
 
     -- the next agent sits down
     pub seating-more : (a : AgentConf) (c : Client (AgentState W)) → a ≡ get_or now (length crew) a → c.scripts ≡ a.scripts → IsAtDesk permits s (length crew) c
@@ -76,8 +76,8 @@ module _ {W : Type 0} (permits : W → ℕ → ℕ → Primitive → Option ℕ)
           kits = λ k v here. let next = seating.kits (suc k) v here in (next.0, omega (arith, next.1, one));
           agents =
               ap (λ xs. set xs n (bare a)) seating.agents
-              ∙ patched-set n (map bare old) old (bare a) (length-map old bare) (slice_get-map_at bare old n a there)
-              ∙ ap (λ m. patched m (map bare old) old) (sym one);
+              ∙ set_next-front n (map bare old) old (bare a) (length-map old bare) (slice_get-map_at bare old n a there)
+              ∙ ap (λ m. take m (map bare old) ++ drop m old) (sym one);
           scripts =
               map-append scripts_of crew (c ∷ []) ∙ ap (λ ss. ss ++ c.scripts ∷ []) seating.scripts
               ∙ ap (λ x. take n (map scripts_in old) ++ x ∷ []) same
@@ -97,7 +97,7 @@ module _ {W : Type 0} (permits : W → ℕ → ℕ → Primitive → Option ℕ)
     pub seated-agents : now ≡ map bare old
     seated-agents =
         let many = seating.many in
-        seating.agents ∙ patched-all (length crew) (map bare old) old (length-map old bare) (omega (arith, many, none, length-map old bare))
+        seating.agents ∙ front_whole (length crew) (map bare old) old (length-map old bare) (omega (arith, many, none, length-map old bare))
 
     pub seated : AreAtDesks permits s old crew
     seated = record {

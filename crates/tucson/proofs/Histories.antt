@@ -1,22 +1,13 @@
 -- The history of each centre, by place.
-use Rattle.std.proofs.Common.{◌≡◌, ◌<◌, ◌≤◌, ◌∙◌, ℕ, zero, suc, List, [], ◌∷◌, Some, length, map, get_or, sym, ap, refl, arith}
+use Rattle.std.proofs.Common.{◌≡◌, ◌<◌, ◌≤◌, ℕ, zero, suc, List, [], ◌∷◌, Some, length, get_or, sym, ap, refl, arith}
 use Rattle.std.specs.Prelude.{slice_get}
-use Rattle.tc_lists.proofs.Parts.{cons_head, cons_tail}
+use Rattle.tc_lists.proofs.Sets.{map_same-read}
 use Rattle.tc_model.specs.State.{Origin}
 use Rattle.tc_centre.specs.Centre.{Centre}
 use Rattle.tc_config.specs.Configurations.{Configuration, agent_names}
 use Rattle.tc_config.specs.Good.{origin_of}
 use Rattle.tc_config.specs.declared.configs.CentreConf.{CentreConf}
 use Rattle.tc_runner.specs.Cores.{AreCores, histories_of}
-
--- where images are the same list, each image of one list's elements is one of the other's
-image_at : {X Y Z : Type 0} (f : X → Z) (g : Y → Z) (xs : List X) (ys : List Y) (i : ℕ) (x : X) → map f xs ≡ map g ys
-    → i < length xs → x ≡ get_or xs i x → (y : Y) × (f x ≡ g y)
-image_at f g [] ys i x same within is = absurd (omega arith)
-image_at f g (a ∷ xs) [] i x same within is = absurd (cc)
-image_at f g (a ∷ xs) (b ∷ ys) zero x same within is = (b, ap f is ∙ cons_head same)
-image_at f g (a ∷ xs) (b ∷ ys) (suc i) x same within is =
-    image_at f g xs ys i x (cons_tail same) (omega (arith, within)) is
 
 some_agent : {X : Type 0} (agents : List X) (cores : List Centre) (i : ℕ) → (length agents ≡ 0 → cores ≡ []) → i < length cores → 0 < length agents
 some_agent [] cores i none within = absurd (omega (arith, within, ap length (none refl)))
@@ -31,7 +22,7 @@ agents_there c cores i none within = some_agent c.agents cores i none within
 pub names_at : (c : Configuration) (cores : List Centre) (i : ℕ) (x : Centre) → AreCores c cores
     → (length c.agents ≡ 0 → cores ≡ []) → i < length cores → x ≡ get_or cores i x → x.origin.agents ≡ agent_names c
 names_at c cores i x are none within is =
-    let there = image_at (λ (y : Centre). y.origin) (origin_of c) cores c.centres i x (are (agents_there c cores i none within)) within is in
+    let there = map_same-read (λ (y : Centre). y.origin) (origin_of c) cores c.centres i x (are (agents_there c cores i none within)) within is in
     ap (λ (o : Origin). o.agents) there.1
 
 -- the history of a centre that is opened

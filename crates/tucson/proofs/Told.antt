@@ -1,5 +1,6 @@
 -- What is told of a run, from what was handed on of its text.
-use Rattle.std.proofs.Common.{◌≡◌, ◌∙◌, ℕ, Bool, true, false, IsTrue, List, [], Result, Ok, Err, inl, inr, refl, sym, ap, subst}
+use Rattle.std.proofs.Common.{◌≡◌, ◌∙◌, ℕ, Bool, true, false, List, [], Result, Ok, Err, inl, inr, refl, sym, ap, subst}
+use Rattle.std.proofs.lemmas.Bool.{false_from_ne_true}
 use Rattle.tc_io.specs.Sinks.{SinkState, appended}
 use Rattle.tc_io.specs.declared.sinks.SinkFault.{SinkFault}
 use Rattle.tc_io.specs.declared.sinks.SinkFault.TheVariants as fault
@@ -39,10 +40,6 @@ writes_whole : (blocked : Bool) (text : List ℕ) (old new : SinkState) → new.
 writes_whole true text old new taken = (refl, taken)
 writes_whole false text old new taken = (refl, taken)
 
-not_sure : (b : Bool) → (IsTrue b → ⊥) → b ≡ false
-not_sure true never = absurd (never refl)
-not_sure false never = refl
-
 module _ (c : Configuration) (histories : List (List Entry)) (logs : List (List LogRow)) (good : IsGood TheFirst c histories logs) where
   abbrev text : List ℕ
   text = run_text One (centre_names c) (agent_names c) histories logs
@@ -75,7 +72,7 @@ module _ (c : Configuration) (histories : List (List Entry)) (logs : List (List 
         is = outcome c (is_blocked logs) text is_text;
         writes = record {
           rises = amid.counted.failed refl;
-          unsure = not_sure old.sure (λ sure. amid.sure sure refl);
+          unsure = false_from_ne_true old.sure (λ sure. amid.sure sure refl);
           taken = amid.front;
         };
       })

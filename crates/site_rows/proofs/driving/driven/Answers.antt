@@ -1,27 +1,13 @@
 use denote.Param.Send.{param_send, sendable}
-use Rattle.std.proofs.Common.{◌≡◌, ◌+◌, ◌*◌, ◌++◌, ℕ, List, All, length, take, drop, sym, ap, subst, rules}
+use Rattle.std.proofs.Common.{◌+◌, ◌*◌, ◌++◌, ℕ, List, All, length, take, drop, sym, subst, rules}
 use Rattle.tc_lists.proofs.Parts.{take-append_all}
-use Rattle.tc_policy.specs.declared.grants.Grant.{Grant}
-use Rattle.tc_sched.specs.Clients.{Client}
-use Rattle.tc_sched.specs.Steps.{AllWent, IsReady, left_in}
-use Rattle.tc_site.specs.Desks.{AgentState, IsDecidedLog, desk_of}
-use Rattle.tc_site.specs.Sites.{SiteState}
-use Rattle.tc_workers.specs.Crews.{AreAtDesks, CanDrive}
+use Rattle.tc_sched.specs.Steps.{IsReady, left_in}
+use Rattle.tc_site.specs.Desks.{desk_of}
 use Rattle.tc_workers.proofs.Driven.{ready}
-use Rattle.tc_workers.proofs.Grants.{permits_by}
+use Rattle.tc_workers.proofs.Grants.{Driven, Member, permits_by}
 use Rattle.tc_workers.proofs.Sends.{roles_desk_send}
 use Rattle.site_rows.proofs.Driven.{ready-again}
 use Rattle.site_rows.proofs.driving.driven.Goals as goal
-
--- an agent at its desk
-abbrev Member : Type 0
-Member = Client (AgentState (List Grant))
-
--- the agents were driven
-abbrev Driven : List Member → List Member → Type 0
-Driven olds news =
-    AllWent {B = SiteState (List Grant) × ℕ} desk_of (λ (d : AgentState (List Grant)). (d.site, d.agent)) (λ (d : AgentState (List Grant)). IsDecidedLog permits_by d.site d.agent d.log)
-    (3 * left_in desk_of olds + 2) olds news
 
 pub drive-requires-send-D : goal.drive-requires-send-D
 drive-requires-send-D g c κs within = search (sendable, roles_desk_send) depth 20

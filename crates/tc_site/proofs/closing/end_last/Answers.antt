@@ -1,20 +1,24 @@
-use Rattle.std.proofs.Common.{◌≡◌, ◌+◌, [], ◌∷◌, ◌++◌, Vec, length, sym, ap, ◌∙◌, subst, arith}
+use Rattle.std.proofs.Common.{◌≡◌, ◌+◌, List, [], ◌∷◌, ◌++◌, Vec, length, sym, ap, ◌∙◌, subst, arith}
 use Rattle.std.specs.Global.{Global}
 use Rattle.std.proofs.Math.ListN.{set}
-use Rattle.std.proofs.lemmas.List.{length-map, length_push}
+use Rattle.std.proofs.lemmas.List.{length-map, length_push, map-set}
+use Rattle.tc_lists.proofs.Sets.{slice_get-map_read}
 use Rattle.tc_model.specs.State.{Origin}
 use Rattle.tc_model.specs.declared.entries.Entry.{Entry}
 use Rattle.tc_turn.specs.Passes as turnstile
 use Rattle.tc_turn.specs.Passes.{PassState, end_of}
 use Rattle.tc_site.specs.Columns.{columns_of}
-use Rattle.tc_site.proofs.Sweeps.{Swept, items-at, items-set}
+use Rattle.tc_site.proofs.Sweeps.{Swept}
 use Rattle.tc_site.proofs.Taken.{AreTaken-all, HasLost, losing-more, losing-own, losing-some}
 use Rattle.tc_site.proofs.closing.end_last.Goals as goal
+
+abbrev items_of : Vec (PassState Entry Origin) Global → List (PassState Entry Origin)
+items_of v = v.items
 
 pub unreachable-requires : goal.unreachable-requires
 unreachable-requires c =
     let columns = c.loop-column.columns in
-    let at = items-at columns (length c.args.columns.now) c.loop-column.column-index c.column-item.result c.loop-column-test.true c.loop-column.auto.columns c.column-item.is in
+    let at = slice_get-map_read items_of columns (length c.args.columns.now) c.loop-column.column-index c.column-item.result c.loop-column-test.true c.loop-column.auto.columns c.column-item.is in
     let some = losing-some c.args.centre.now c.loop-column.row.items (columns_of c.args.columns.now) (columns_of columns) c.loop-column.column-index
     c.column-item.result.items c.requires c.loop-column.invariant.swept at in
     let none : length c.column-item.result.items ≡ 0 = sym c.column-item.result.ok.0 ∙ ap (λ (v : Vec (PassState Entry Origin) Global). v.len) c.column-item.is
@@ -24,7 +28,7 @@ unreachable-requires c =
 pub end-requires-clause-own : goal.end-requires-clause-own
 end-requires-clause-own c =
     let columns = c.loop-column.columns in
-    let at = items-at columns (length c.args.columns.now) c.loop-column.column-index c.column-item.result c.loop-column-test.true c.loop-column.auto.columns c.column-item.is in
+    let at = slice_get-map_read items_of columns (length c.args.columns.now) c.loop-column.column-index c.column-item.result c.loop-column-test.true c.loop-column.auto.columns c.column-item.is in
     (losing-own c.args.centre.now c.loop-column.row.items (columns_of c.args.columns.now) (columns_of columns) c.loop-column.column-index
     c.column-item.result.items c.pop.new.self.items c.in-Some.pass c.requires c.loop-column.invariant.swept at
     (ap (λ (v : Vec (PassState Entry Origin) Global). v.items) c.column-item.is ∙ c.in-Some.ensures.items)).0.own
@@ -32,7 +36,7 @@ end-requires-clause-own c =
 pub end-requires-clause-free : goal.end-requires-clause-free
 end-requires-clause-free c =
     let columns = c.loop-column.columns in
-    let at = items-at columns (length c.args.columns.now) c.loop-column.column-index c.column-item.result c.loop-column-test.true c.loop-column.auto.columns c.column-item.is in
+    let at = slice_get-map_read items_of columns (length c.args.columns.now) c.loop-column.column-index c.column-item.result c.loop-column-test.true c.loop-column.auto.columns c.column-item.is in
     (losing-own c.args.centre.now c.loop-column.row.items (columns_of c.args.columns.now) (columns_of columns) c.loop-column.column-index
     c.column-item.result.items c.pop.new.self.items c.in-Some.pass c.requires c.loop-column.invariant.swept at
     (ap (λ (v : Vec (PassState Entry Origin) Global). v.items) c.column-item.is ∙ c.in-Some.ensures.items)).1
@@ -45,7 +49,7 @@ loop-column-preserved c =
     let i = c.loop-column.column-index in
     let row = c.loop-column.row.items in
     let pass = c.in-Some.pass in
-    let at = items-at columns (length c.args.columns.now) i c.column-item.result c.loop-column-test.true c.loop-column.auto.columns c.column-item.is in
+    let at = slice_get-map_read items_of columns (length c.args.columns.now) i c.column-item.result c.loop-column-test.true c.loop-column.auto.columns c.column-item.is in
     let row_is : c.push.new.self.items ≡ row ++ end_of pass ∷ [] =
     c.in_ok-push.ensures.items ∙ ap (λ (e : turnstile.EndedState Entry). row ++ e ∷ []) c.end.ensures in
     let swept : Swept (HasLost t (row ++ end_of pass ∷ [])) olds (set (columns_of columns) i c.pop.new.self.items) (i + 1) =
@@ -54,7 +58,7 @@ loop-column-preserved c =
     record {
       wide = ap length row_is ∙ length_push row (end_of pass) ∙ ap (λ n. n + 1) c.loop-column.invariant.wide;
       swept = subst (λ r. Swept (HasLost t r) olds (columns_of (set columns i c.pop.new.self)) (i + 1)) (sym row_is)
-          (subst (λ ns. Swept (HasLost t (row ++ end_of pass ∷ [])) olds ns (i + 1)) (sym (items-set columns i c.pop.new.self)) swept);
+          (subst (λ ns. Swept (HasLost t (row ++ end_of pass ∷ [])) olds ns (i + 1)) (sym (map-set items_of columns i c.pop.new.self)) swept);
     }
 
 pub returns : goal.returns

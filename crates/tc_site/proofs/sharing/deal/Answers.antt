@@ -1,13 +1,17 @@
-use Rattle.std.proofs.Common.{◌+◌, [], ◌∷◌, ◌++◌, Vec, length, sym, ap, ◌∙◌, subst, arith}
+use Rattle.std.proofs.Common.{◌+◌, List, [], ◌∷◌, ◌++◌, Vec, length, sym, ap, ◌∙◌, subst, arith}
 use Rattle.std.specs.Global.{Global}
-use Rattle.std.proofs.lemmas.List.{length-map}
+use Rattle.std.proofs.lemmas.List.{length-map, map-set}
+use Rattle.tc_lists.proofs.Sets.{slice_get-map_read}
 use Rattle.tc_model.specs.State.{Origin}
 use Rattle.tc_model.specs.declared.entries.Entry.{Entry}
 use Rattle.tc_turn.specs.Passes.{PassState}
 use Rattle.tc_site.specs.Columns.{columns_of}
 use Rattle.tc_site.proofs.Dealt.{AreDealt-all, HasGot, dealing-at, dealing-more}
-use Rattle.tc_site.proofs.Sweeps.{Swept, items-at, items-set, swept-step}
+use Rattle.tc_site.proofs.Sweeps.{Swept, swept-step}
 use Rattle.tc_site.proofs.sharing.deal.Goals as goal
+
+abbrev items_of : Vec (PassState Entry Origin) Global → List (PassState Entry Origin)
+items_of v = v.items
 
 pub loop-column-preserved : goal.loop-column-preserved
 loop-column-preserved c =
@@ -19,10 +23,10 @@ loop-column-preserved c =
     let next = c.next.new.self.rest.items in
     let pass = c.in-Some.pass in
     let dealing = c.loop-column.invariant.left in
-    let at = items-at columns (length c.args.columns.now) i c.column-item.result c.loop-column-test.true c.loop-column.auto.columns c.column-item.is in
+    let at = slice_get-map_read items_of columns (length c.args.columns.now) i c.column-item.result c.loop-column-test.true c.loop-column.auto.columns c.column-item.is in
     record {
       left = dealing-more passes left next pass i dealing c.in-Some.ensures.items;
-      swept = subst (λ ns. Swept (HasGot passes) olds ns (i + 1)) (sym (items-set columns i c.push.new.self))
+      swept = subst (λ ns. Swept (HasGot passes) olds ns (i + 1)) (sym (map-set items_of columns i c.push.new.self))
           (swept-step (HasGot passes) olds (columns_of columns) i c.column-item.result.items c.push.new.self.items c.loop-column.invariant.swept at (
             pass,
             dealing-at passes left next pass i dealing c.in-Some.ensures.items,

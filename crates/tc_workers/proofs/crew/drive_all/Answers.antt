@@ -1,31 +1,17 @@
 use denote.Param.Send.{param_send, sendable}
-use Rattle.std.proofs.Common.{◌≡◌, ◌∙◌, ◌+◌, ◌*◌, ◌++◌, ℕ, true, List, All, length, map, take, drop, sym, ap, subst, rules, arith}
+use Rattle.std.proofs.Common.{◌≡◌, ◌∙◌, ◌+◌, ◌*◌, ◌++◌, true, List, All, length, map, take, drop, sym, ap, subst, rules}
 use Rattle.std.proofs.lemmas.List.{length-map}
 use Rattle.std.proofs.lemmas.Result.{IfOk-weaker}
-use Rattle.tc_config.specs.declared.configs.AgentConf.{AgentConf}
 use Rattle.tc_lists.proofs.Parts.{take-append_all}
 use Rattle.tc_lists.proofs.Results.{IfOk-both}
-use Rattle.tc_policy.specs.declared.grants.Grant.{Grant}
-use Rattle.tc_sched.specs.Clients.{Client}
-use Rattle.tc_sched.specs.Steps.{AllWent, IsReady, left_in}
-use Rattle.tc_site.specs.Desks.{AgentState, IsDecidedLog, desk_of}
-use Rattle.tc_site.specs.Sites.{SiteState}
+use Rattle.tc_sched.specs.Steps.{IsReady, left_in}
+use Rattle.tc_site.specs.Desks.{desk_of}
 use Rattle.tc_workers.specs.Crews.{AreLeft, HasRows, bare, ended_of, given_back}
-use Rattle.tc_workers.proofs.Grants.{permits_by}
+use Rattle.tc_workers.proofs.Grants.{Driven, Member, permits_by}
 use Rattle.tc_workers.proofs.Driven.{driven-agents, driven-free, driven-left, driven-whole, ready}
 use Rattle.tc_workers.proofs.Sends.{roles_desk_send}
 use Rattle.tc_workers.proofs.crew.drive_all.Goals as goal
 use Rattle.tc_workers.proofs.crew.drive_all.Lts as lts
-
--- an agent at its desk
-abbrev Member : Type 0
-Member = Client (AgentState (List Grant))
-
--- the agents were driven
-abbrev Driven : List Member → List Member → Type 0
-Driven olds news =
-    AllWent {B = SiteState (List Grant) × ℕ} desk_of (λ (d : AgentState (List Grant)). (d.site, d.agent)) (λ (d : AgentState (List Grant)). IsDecidedLog permits_by d.site d.agent d.log)
-    (3 * left_in desk_of olds + 2) olds news
 
 pub drive-requires-clause-ready : goal.drive-requires-clause-ready
 drive-requires-clause-ready g c κs within =
