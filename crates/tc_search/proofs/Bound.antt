@@ -12,7 +12,8 @@ use Rattle.tc_term.specs.TreeView.{tree_of}
 use Rattle.tc_term.specs.Variables.{instance, var_bound}
 use Rattle.tc_term.proofs.Instances.{instance-same}
 use Rattle.tc_term.proofs.Matching.{valuation_of, at-valuation_of, Solves-one, Matches-one}
-use Rattle.tc_search.specs.Bindings.{FollowsBindings, IsFree, AreGround, MakesTuple, Always, Binds, NeverBinds}
+use Rattle.tc_unify.specs.Splits.{Always}
+use Rattle.tc_search.specs.Bindings.{FollowsBindings, IsFree, AreGround, MakesTuple, Binds, NeverBinds}
 
 -- a variable that is bound
 module _ (bound : List (Option (Bor Term))) (n : ℕ) (first : Bor Term) (t : Tree) (is : get_or bound n None ≡ Some first) where

@@ -8,7 +8,8 @@ use Rattle.tc_term.specs.Tree.{Tree, Atomic, Compound, Trees, More}
 use Rattle.tc_term.specs.TreeView.{tree_of, trees_of}
 use Rattle.tc_term.specs.Variables.{instance, instances}
 use Rattle.tc_unify.proofs.Splitting.{head_of, rest_of, trees_in, list_of, list-trees, arguments_of, name_of}
-use Rattle.tc_search.specs.Bindings.{MakesTuple, Always, Binds, NeverBinds}
+use Rattle.tc_unify.specs.Splits.{Always}
+use Rattle.tc_search.specs.Bindings.{MakesTuple, Binds, NeverBinds}
 
 -- what the trees of the variables make of terms
 abbrev made : (ℕ → Tree) → List Term → List Tree

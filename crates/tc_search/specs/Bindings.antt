@@ -24,10 +24,6 @@ AreGround bound = (n : ℕ) (t : Bor Term) → slice_index_or bound n None ≡ S
 abbrev pub MakesTuple : Tree → Tree → (ℕ → Tree) → Type 0
 MakesTuple term tuple f = instance f term ≡ tuple
 
--- nothing is asked
-abbrev pub Always : (ℕ → Tree) → Type 0
-Always f = Unit {0}
-
 -- the trees that follow what was bound and meet the one demand are those that follow what is bound and
 -- meet the other
 pub record Binds (old : List (Option (Bor Term))) (P : (ℕ → Tree) → Type 0)

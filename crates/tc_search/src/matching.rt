@@ -4,15 +4,13 @@ ghost use Rattle.tc_term.specs.Equations.{Matches};
 ghost use Rattle.tc_term.specs.Tree.{Variable, is_ground};
 ghost use Rattle.tc_term.specs.TreeView.{tree_of};
 ghost use Rattle.tc_term.specs.Variables.{var_bound};
-ghost use Rattle.tc_search.specs.Bindings.{IsFree, AreGround, MakesTuple, Always, Binds, NeverBinds};
+ghost use Rattle.tc_unify.specs.Splits.{Always};
+ghost use Rattle.tc_search.specs.Bindings.{IsFree, AreGround, MakesTuple, Binds, NeverBinds};
 
-use tc_term::{Ground, Pattern, Term};
+use tc_term::{Ground, MAX_VARIABLES, Pattern, Term};
 
 // As many variables as most templates have.
 const FEW: usize = 8;
-
-// As many variables as a template may have.
-const MOST: usize = 256;
 
 /// Whether a template matches a tuple.
 ///
@@ -27,7 +25,7 @@ pub fn does_match(template: &Pattern, tuple: &Ground) -> bool
     }
     // The term shows that there are no more variables than places.
     let _term = template.term();
-    let mut bound = [None; MOST];
+    let mut bound = [None; MAX_VARIABLES];
     matches_in(template, tuple, &mut bound)
 }
 

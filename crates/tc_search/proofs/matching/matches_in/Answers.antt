@@ -1,7 +1,8 @@
 use Rattle.std.proofs.Common.{true, false, IsTrue, Bool, refl, subst, ◌≡◌}
 use Rattle.tc_term.specs.Tree.{Tree}
 use Rattle.tc_term.specs.TreeView.{tree_of}
-use Rattle.tc_search.specs.Bindings.{MakesTuple, Always, Binds, NeverBinds}
+use Rattle.tc_unify.specs.Splits.{Always}
+use Rattle.tc_search.specs.Bindings.{MakesTuple, Binds, NeverBinds}
 use Rattle.tc_search.proofs.Bound.{matches_bound, matches_never}
 use Rattle.tc_search.proofs.matching.matches_in.Goals as goal
 
