@@ -1,5 +1,6 @@
 //! The clauses of a text, and the nodes of their terms.
 ghost use Rattle.std.specs.Prelude.{◌≡◌, ◌≤◌};
+ghost use Rattle.tc_term.specs.Limits.{most_nodes};
 ghost use Rattle.tc_term.specs.Tree as tree;
 ghost use Rattle.tc_term.specs.TreeView.{tree_of};
 
@@ -32,7 +33,7 @@ pub fn count_nodes(alloc: Global, text: &[u8]) -> Result<u64, ReadFault> {
 
 /// How many nodes a term has. Recurses as deep as the term is.
 fn nodes(term: &Term) -> u64
-    requires { tree.nodes (tree_of term.now) ≤ 10000 }
+    requires { tree.nodes (tree_of term.now) ≤ most_nodes }
     ensures { result ≡ tree.nodes (tree_of term.now) }
 {
     match term {

@@ -1,7 +1,7 @@
 //! A cascade: all that an event triggers, and what that triggers in turn.
 ghost use Rattle.std.specs.Prelude.{◌≡◌, ◌≤◌, ◌+◌, ◌*◌, ◌∷◌, [], length, IfOk, OnOk, OnErr};
 ghost use Rattle.tc_model.specs.Triggers.{IsClause};
-ghost use Rattle.tc_model.specs.declared.limits.TheConstants.{MOST_BUDGET};
+ghost use Rattle.tc_model.specs.declared.limits.TheConstants.{MOST_BUDGET, MOST_GOALS};
 ghost use Rattle.tc_bag.specs.Stock.{AddsNone, Stock, marked};
 ghost use Rattle.tc_cascade.specs.Ages.{most_ages};
 ghost use Rattle.tc_cascade.specs.Ends.{IsEnd, IsUndone, items_of, kept_or_undone};
@@ -43,7 +43,7 @@ pub fn run(
     ensures ends { IfOk result (IsEnd spec.now context.now budget e.now bag.old bag.new) }
     ensures over { IfOk result (λ c. IsUndone c bag.old bag.new) }
     ensures same { OnErr result (bag.new ≡ bag.old) }
-    ensures per_item { IfOk result (λ c. bag.new.next ≤ bag.old.next + 64 * length (items_of c)) }
+    ensures per_item { IfOk result (λ c. bag.new.next ≤ bag.old.next + MOST_GOALS * length (items_of c)) }
     ensures saved { bag.new.saved ≡ bag.old.saved }
     ensures next { bag.new.next ≤ bag.old.next + most_ages }
     ensures rises { bag.old.next ≤ bag.new.next }
@@ -85,7 +85,7 @@ pub fn run_in(
     requires few { budget ≤ MOST_BUDGET }
     requires next { bag.old.next + most_ages ≤ u64.MAX }
     ensures ends { IfOk result (IsEnd spec.now context.now budget e.now bag.old bag.new) }
-    ensures per_item { IfOk result (λ c. bag.new.next ≤ bag.old.next + 64 * length (items_of c)) }
+    ensures per_item { IfOk result (λ c. bag.new.next ≤ bag.old.next + MOST_GOALS * length (items_of c)) }
     ensures saved { bag.new.saved ≡ bag.old.saved }
     ensures next { bag.new.next ≤ bag.old.next + most_ages }
     ensures rises { bag.old.next ≤ bag.new.next }

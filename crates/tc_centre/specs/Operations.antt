@@ -13,6 +13,7 @@ use Rattle.tc_model.specs.declared.calls.Op.{Op}
 use Rattle.tc_model.specs.declared.calls.Op.TheVariants.{In, Rd, Inp, Rdp}
 use Rattle.tc_model.specs.declared.calls.Request.{Request}
 use Rattle.tc_model.specs.declared.items.Item.{Item}
+use Rattle.tc_model.specs.declared.limits.TheConstants.{MOST_GOALS}
 use Rattle.tc_model.specs.declared.outcomes.Outcome.{Outcome}
 use Rattle.tc_model.specs.declared.outcomes.Outcome.TheVariants.{Took, NoTuple}
 use Rattle.tc_centre.specs.Held.{origin_of, held, state_held, Grows, IsAtRest}
@@ -44,9 +45,9 @@ abbrev pub outcome_of : Option Tree → Outcome
 outcome_of (Some tuple) = Took tuple
 outcome_of None = NoTuple
 
--- the next age has risen by 1 at most, and by 64 for each of the items
+-- the next age has risen by 1 at most, and by the most goals of a reaction for each of the items
 abbrev pub RisesBy : List Item → Holdings → Holdings → Type 0
-RisesBy items old new = new.bag.next ≤ old.bag.next + 1 + 64 * length items
+RisesBy items old new = new.bag.next ≤ old.bag.next + 1 + MOST_GOALS * length items
 
 -- a call's operation was done, with this outcome and these items; at most one request was added
 pub record Performs (id : CallId) (op : Op) (old new : Holdings) (outcome : Outcome)

@@ -6,6 +6,7 @@ ghost use Rattle.tc_model.specs.State.{after_taking};
 ghost use Rattle.tc_model.specs.declared.events.EventOp.TheVariants.{Out};
 ghost use Rattle.tc_model.specs.declared.events.Phase.TheVariants.{Pre, Post};
 ghost use Rattle.tc_model.specs.declared.events.Sign.TheVariants.{Neither, Success, Failure};
+ghost use Rattle.tc_model.specs.declared.limits.TheConstants.{MOST_GOALS};
 ghost use Rattle.tc_cascade.specs.Ages.{most_ages};
 ghost use Rattle.tc_cascade.specs.Ends.{items_of};
 ghost use Rattle.tc_phases.specs.Phases.{IsRegime, IsPhase, IsSearch, IsOldest, asking_op, search_op};
@@ -39,7 +40,7 @@ pub fn put(
         (tuples_of bag.old.now ++ tuple.now ∷ []) bag.old bag.new) }
     ensures same { OnErr result (bag.new ≡ bag.old) }
     ensures old { OnOk result (AddsNone bag.old.next bag.old.now bag.new.now) }
-    ensures next { IfOk result (λ c. bag.new.next ≤ bag.old.next + 1 + 64 * length (items_of c)) }
+    ensures next { IfOk result (λ c. bag.new.next ≤ bag.old.next + 1 + MOST_GOALS * length (items_of c)) }
 
     // After each answer:
     ensures saved { bag.new.saved ≡ bag.old.saved }
@@ -66,7 +67,7 @@ pub fn request(
         (tuples_of bag.old.now) bag.old bag.new) }
     ensures same { OnErr result (bag.new ≡ bag.old) }
     ensures old { OnOk result (AddsNone bag.old.next bag.old.now bag.new.now) }
-    ensures next { IfOk result (λ c. bag.new.next ≤ bag.old.next + 1 + 64 * length (items_of c)) }
+    ensures next { IfOk result (λ c. bag.new.next ≤ bag.old.next + 1 + MOST_GOALS * length (items_of c)) }
 
     // After each answer:
     ensures saved { bag.new.saved ≡ bag.old.saved }
@@ -96,7 +97,7 @@ pub fn search(
     ensures same { OnErr result (bag.new ≡ bag.old) }
     ensures old { OnOk result (AddsNone bag.old.next bag.old.now bag.new.now) }
     ensures next { IfOk result
-        (λ x. bag.new.next ≤ bag.old.next + 1 + 64 * length (items_of x.1)) }
+        (λ x. bag.new.next ≤ bag.old.next + 1 + MOST_GOALS * length (items_of x.1)) }
 
     // After each answer:
     ensures saved { bag.new.saved ≡ bag.old.saved }
@@ -132,7 +133,7 @@ pub fn answer(
     ensures same { OnErr result (bag.new ≡ bag.old) }
     ensures old { OnOk result (AddsNone bag.old.next bag.old.now bag.new.now) }
     ensures next { IfOk result
-        (λ x. bag.new.next ≤ bag.old.next + 1 + 64 * length (items_of x.1)) }
+        (λ x. bag.new.next ≤ bag.old.next + 1 + MOST_GOALS * length (items_of x.1)) }
 
     // After each answer:
     ensures saved { bag.new.saved ≡ bag.old.saved }
@@ -175,7 +176,7 @@ fn run_found(
         (after_taking takes tuple.now (tuples_of bag.old.now)) bag.old bag.new) }
     ensures same { OnErr result (bag.new ≡ bag.old) }
     ensures old { OnOk result (AddsNone bag.old.next bag.old.now bag.new.now) }
-    ensures next { IfOk result (λ c. bag.new.next ≤ bag.old.next + 1 + 64 * length (items_of c)) }
+    ensures next { IfOk result (λ c. bag.new.next ≤ bag.old.next + 1 + MOST_GOALS * length (items_of c)) }
     ensures saved { bag.new.saved ≡ bag.old.saved }
     ensures rises { bag.old.next ≤ bag.new.next }
 {

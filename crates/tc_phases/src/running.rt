@@ -4,6 +4,7 @@ ghost use Rattle.tc_bag.specs.Stock.{AddsNone, tuples_of};
 ghost use Rattle.tc_model.specs.Events.{MayOccur, success_event};
 ghost use Rattle.tc_model.specs.declared.events.Phase.TheVariants.{Post};
 ghost use Rattle.tc_model.specs.declared.events.Sign.TheVariants.{Success};
+ghost use Rattle.tc_model.specs.declared.limits.TheConstants.{MOST_GOALS};
 ghost use Rattle.tc_cascade.specs.Ages.{most_ages};
 ghost use Rattle.tc_cascade.specs.Ends.{IsEnd, items_of};
 ghost use Rattle.tc_phases.specs.Phases.{IsRegime, IsPhase, setting_in};
@@ -66,7 +67,7 @@ pub fn run_phase(
         (tuples_of (changed change.now bag.old).now) bag.old bag.new) }
     ensures same { OnErr result (bag.new ≡ bag.old) }
     ensures old { OnOk result (AddsNone bag.old.next bag.old.now bag.new.now) }
-    ensures next { IfOk result (λ c. bag.new.next ≤ bag.old.next + 1 + 64 * length (items_of c)) }
+    ensures next { IfOk result (λ c. bag.new.next ≤ bag.old.next + 1 + MOST_GOALS * length (items_of c)) }
     ensures saved { bag.new.saved ≡ bag.old.saved }
     ensures rises { bag.old.next ≤ bag.new.next }
 {
@@ -96,7 +97,7 @@ fn make_and_run(
     ensures ends { IfOk result (IsEnd regime.now.spec.now (setting_in regime.now) regime.now.budget
         (event_in trigger.now) (changed change.now bag.old) bag.new) }
     ensures old { OnOk result (AddsNone bag.old.next bag.old.now bag.new.now) }
-    ensures next { IfOk result (λ c. bag.new.next ≤ bag.old.next + 1 + 64 * length (items_of c)) }
+    ensures next { IfOk result (λ c. bag.new.next ≤ bag.old.next + 1 + MOST_GOALS * length (items_of c)) }
     ensures saved { bag.new.saved ≡ bag.old.saved }
     ensures rises { bag.old.next ≤ bag.new.next }
 {
