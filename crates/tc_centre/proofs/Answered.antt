@@ -22,6 +22,7 @@ use Rattle.tc_model.specs.declared.items.Item.{Item}
 use Rattle.tc_model.specs.declared.outcomes.Outcome.{Outcome}
 use Rattle.tc_model.specs.declared.entries.Entry.{Entry}
 use Rattle.tc_model.specs.declared.entries.Entry.TheVariants.{Called, Gave, Looked}
+use Rattle.tc_model.specs.declared.limits.TheConstants.{MOST_GOALS}
 use Rattle.tc_model.proofs.WaitingCalls.{removed-is-without, takes-is, waiting-run}
 use Rattle.tc_model.proofs.Runs.{IsRun-first}
 use Rattle.tc_centre.specs.Held.{held, IsHeld}
@@ -68,7 +69,7 @@ module _ (origin : Origin) (history : List Entry) (clauses : List Rule) (rows : 
       → IsGiven TheFirst origin (held clauses rows requests) r result items
       → held clauses left requests ≡ after_giving r.takes result items (held clauses rows requests)
       → fewer ≡ remove requests place → longer ≡ history ++ Gave id result items ∷ []
-      → m ≤ n + 1 + 64 * length items → IsHeld origin longer clauses left m fewer
+      → m ≤ n + 1 + MOST_GOALS * length items → IsHeld origin longer clauses left m fewer
   answered longer left m fewer place age r id result items next stands of given leads gone grown ages =
       let s : State = held clauses rows requests in
       let same : next.request ≡ r = same_Some next.request r (sym next.stands ∙ stands) in

@@ -15,7 +15,7 @@ use Rattle.tc_model.specs.declared.outcomes.Outcome.{Outcome}
 use Rattle.tc_model.specs.declared.outcomes.Reply.{Reply}
 use Rattle.tc_model.specs.declared.entries.Entry.{Entry}
 use Rattle.tc_model.specs.declared.entries.Entry.TheVariants.{Called, Looked}
-use Rattle.tc_model.specs.declared.limits.TheConstants.{MOST_WEIGHT}
+use Rattle.tc_model.specs.declared.limits.TheConstants.{MOST_GOALS, MOST_WEIGHT}
 use Rattle.tc_centre.specs.Held.{held, IsHeld, IsSettled}
 use Rattle.tc_centre.proofs.Budgets.{served-within}
 use Rattle.tc_centre.proofs.Entries.{held-push}
@@ -28,7 +28,7 @@ module _ (origin : Origin) (history longer : List Entry) (clauses : List Rule) (
   pub called : (kept : List Rule) (new : List Row) (m : ℕ) (others : List Request) (op : Op) (result : Outcome) (items : List Item)
       → IsServed TheFirst origin (held clauses rows requests) id op result items
       → held kept new others ≡ after_call id op result items (held clauses rows requests)
-      → length others ≤ length requests + 1 → m ≤ n + 1 + 64 * length items
+      → length others ≤ length requests + 1 → m ≤ n + 1 + MOST_GOALS * length items
       → longer ≡ history ++ Called id op result items ∷ []
       → IsHeld origin longer kept new m others
   called kept new m others op result items served leads few ages grown =

@@ -18,6 +18,7 @@ use Rattle.tc_model.specs.declared.items.Item.{Item}
 use Rattle.tc_model.specs.declared.outcomes.Outcome.{Outcome}
 use Rattle.tc_model.specs.declared.outcomes.Outcome.TheVariants as outcome
 use Rattle.tc_model.specs.declared.outcomes.Outcome.TheVariants.{Took}
+use Rattle.tc_model.specs.declared.limits.TheConstants.{MOST_GOALS}
 use Rattle.tc_cascade.specs.Ends.{items_of}
 use Rattle.tc_cascade.specs.declared.cascade.Cascade.{Cascade}
 use Rattle.tc_cascade.specs.declared.cascade.Cascade.TheVariants.{Whole, Over}
@@ -77,7 +78,7 @@ module _ (old : Holdings) (place age : ℕ) (next : IsNextAnswer old.bag.now old
   pub gives : (new : Holdings) (regime : Regime) (t : Tree) (c k : Cascade) → IsRegimeOf old.founding old.spec r.id regime
       → tuple_at age old.bag.now ≡ Some t
       → IsPhase regime (success_event (asking_op r.takes) t) (after_taking r.takes t (tuples_of old.bag.now)) old.bag new.bag c
-      → new.bag.next ≤ old.bag.next + 1 + 64 * length (items_of c) → KeepsRows old.bag new.bag
+      → new.bag.next ≤ old.bag.next + 1 + MOST_GOALS * length (items_of c) → KeepsRows old.bag new.bag
       → c ≡ k → Gives place old new r.id (given_outcome t k) (items_of k)
   gives new regime t c k of there phase ages kept is =
       let tuples : List Tree = tuples_of old.bag.now in
