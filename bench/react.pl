@@ -1,6 +1,7 @@
 % The processor time of counting a number up by retract/1, is/2 and assertz/1, and that of one pass of a
 % loop that does nothing, which the other has too. Both in nanoseconds.
 :- initialization(main, main).
+:- include(measure).
 
 :- dynamic count/1.
 
@@ -9,13 +10,6 @@ count(0).
 main :-
     measure(nothing, 4000000),
     measure(counter, 1000000).
-
-measure(Case, Count) :-
-    statistics(cputime, Start),
-    loop(Case, Count),
-    statistics(cputime, End),
-    Nanoseconds is (End - Start) * 1000000000 / Count,
-    format("~w ~2f~n", [Case, Nanoseconds]).
 
 loop(nothing, Count) :-
     between(1, Count, _),

@@ -1,6 +1,7 @@
 % The processor time of one unification by unify_with_occurs_check/2, in four cases, and that of one
 % pass of a loop that does nothing, which each of them has too. All in nanoseconds.
 :- initialization(main, main).
+:- include(measure).
 
 main :-
     measure(nothing, 4000000),
@@ -8,13 +9,6 @@ main :-
     measure(reused, 2000000),
     measure(chains, 100000),
     measure(clash, 4000000).
-
-measure(Case, Count) :-
-    statistics(cputime, Start),
-    loop(Case, Count),
-    statistics(cputime, End),
-    Nanoseconds is (End - Start) * 1000000000 / Count,
-    format("~w ~2f~n", [Case, Nanoseconds]).
 
 % Each loop goes on by failure, which undoes what was bound.
 loop(nothing, Count) :-
