@@ -9,6 +9,11 @@ pub record SinkState : Type 0 where
   pub write_faults : ℕ
   pub sure : Bool
 
+-- what the object s keeps as a sink: what it has taken, its write faults, and whether it is sure
+abbrev pub sink_of : {S : Type 0} → (S → Option (List ℕ)) → (S → ℕ) → (S → Bool) → S → SinkState
+sink_of taken write_faults sure s =
+    record { taken = taken s; write_faults = write_faults s; sure = sure s }
+
 -- what was taken, and then these bytes
 abbrev pub appended : Option (List ℕ) → List ℕ → Option (List ℕ)
 appended taken bytes = option_map (λ before. before ++ bytes) taken

@@ -8,6 +8,12 @@ pub record SourceState : Type 0 where
   pub read_faults : ℕ
   pub sure : Bool
 
+-- what the object s keeps as a source: what is left of it, its read faults, and whether it is sure
+abbrev pub source_of : {S : Type 0} → (S → Option (List ℕ)) → (S → ℕ) → (S → Bool) → S
+    → SourceState
+source_of left read_faults sure s =
+    record { left = left s; read_faults = read_faults s; sure = sure s }
+
 -- n bytes come from the front of these to the front of the buffer, and none only at their end
 pub record GivesFront (bytes : List ℕ) (n : ℕ) (buffer : List ℕ) : Type 0 where
   pub within : n ≤ length bytes

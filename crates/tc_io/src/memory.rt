@@ -1,5 +1,5 @@
 //! A source and a sink in memory whose calls fail as told.
-ghost use Rattle.std.specs.Prelude.{◌≡◌, ◌<◌, ◌≤◌, ◌↔◌, ℕ, max, min, List, [], length};
+ghost use Rattle.std.specs.Prelude.{◌≡◌, ◌<◌, ◌≤◌, ◌↔◌, max, min, [], length};
 ghost use Rattle.std.specs.Prelude.{drop, Some, None, IsTrue, IsErr, IfOk, OnErr};
 ghost use Rattle.std.specs.Result.{IsErrOf};
 ghost use Rattle.tc_io.specs.Memory.{MemReading, MemWriting, MakesCall, GivesPiece};

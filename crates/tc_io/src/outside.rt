@@ -1,11 +1,12 @@
 //! std's readers and writers as a source and a sink.
 //!
 //! Nothing is told of the bytes: what the process is connected to is trusted.
-ghost use Rattle.std.specs.Prelude.{◌≡◌, ◌<◌, ◌≤◌, length, take, IfSome, IfOk, IfErr, IsErr, None, false};
-ghost use Rattle.std.specs.Io.KnownBytes.{ReadConsumes, Appends};
+ghost use Rattle.std.specs.Prelude.{◌≡◌, ◌<◌, ◌≤◌, length, take, IfOk, IfErr, IsErr, OnOk, None, true, false, not};
+ghost use Rattle.std.specs.Io.KnownBytes.{ReadConsumes, Appends, Keeps};
 ghost use Rattle.tc_io.specs.Faults.{Counts};
 
 use crate::{Failed, Sink, SinkFault, Source};
+use std::io;
 use std::io::{Read, Write};
 
 /// A reader, whose errors are counted.
@@ -55,15 +56,43 @@ impl<R: Read> Source for StdSource<R> {
 #[derive(Drop)]
 pub struct StdSink<W> {
     writer: W,
+    // Whether something was written that is not flushed yet.
+    unflushed: bool,
     faults: u64,
 }
 
 impl<W: Write> StdSink<W> {
     /// Writes to this writer; no write has failed yet.
     pub fn new(writer: W) -> StdSink<W>
-        ensures { result ≡ record { writer = writer; faults = 0 } }
+        ensures { result ≡ record { writer = writer; unflushed = false; faults = 0 } }
     {
-        StdSink { writer, faults: 0 }
+        StdSink {
+            writer,
+            unflushed: false,
+            faults: 0,
+        }
+    }
+
+    // Writes a front of the piece.
+    fn put(&mut self, piece: &[u8]) -> Result<usize, io::Error>
+        ensures count { IfOk result (λ n. n ≤ length piece.now) }
+        ensures written { IfOk result (λ n. Appends
+            (W.contents self.old.writer) (W.contents self.new.writer) (take n piece.now)) }
+        ensures unflushed { self.new.unflushed ≡ true }
+        ensures faults { self.new.faults ≡ self.old.faults }
+    {
+        self.unflushed = true;
+        self.writer.write(piece)
+    }
+
+    // Whether all that was written is flushed.
+    fn flush(&mut self) -> bool
+        ensures flushed { result ≡ not self.new.unflushed }
+        ensures kept { Keeps (W.contents self.old.writer) (W.contents self.new.writer) }
+        ensures faults { self.new.faults ≡ self.old.faults }
+    {
+        self.unflushed = self.writer.flush().is_err();
+        !self.unflushed
     }
 }
 
@@ -81,12 +110,13 @@ impl<W: Write> Sink for StdSink<W> {
         ensures failed { IfErr result (λ fault. fault ≡ SinkFault.Failed) }
         ensures counted { Counts (IsErr result) self.old.faults self.new.faults }
 
-        // The bytes went to the writer, where what it holds is known.
+        // The bytes went to the writer, where what it holds is known, and were flushed.
         ensures written { IfOk result (λ n. Appends
             (W.contents self.old.writer) (W.contents self.new.writer) (take n piece.now)) }
+        ensures flushed { OnOk result (self.new.unflushed ≡ false) }
     {
-        match self.writer.write(piece) {
-            Ok(n) if n > 0 && self.writer.flush().is_ok() => Ok(n),
+        match self.put(piece) {
+            Ok(n) if n > 0 && self.flush() => Ok(n),
             _ => {
                 self.faults = self.faults.saturating_add(1);
                 Err(SinkFault::Failed)

@@ -1,5 +1,5 @@
 //! The whole of an input, and the whole of a text.
-ghost use Rattle.std.specs.Prelude.{◌≡◌, ◌+◌, ◌^◌, ◌<◌, ◌≤◌, length, IfOk, OnOk, OnErr, IsTrue};
+ghost use Rattle.std.specs.Prelude.{◌≡◌, ◌+◌, ◌^◌, ◌<◌, IfOk, OnOk, OnErr, IsTrue};
 ghost use Rattle.std.specs.Result.{IsErrOf};
 ghost use Rattle.tc_io.specs.Faults.{Counts};
 ghost use Rattle.tc_io.specs.Sources.{ReadsAll, ReadsPast, ReadsSome};

@@ -2,7 +2,7 @@
 use Rattle.std.specs.Prelude.{◌≡◌, ℕ, Bool, List, ◌++◌, Option, Result, IsTrue, OnOk}
 use Rattle.std.specs.Result.{IsErrOf}
 use Rattle.tc_io.specs.Faults.{Counts}
-use Rattle.tc_io.specs.Sinks.{SinkState, AppendsFront, appended}
+use Rattle.tc_io.specs.Sinks.{SinkState, AppendsFront, appended, sink_of}
 use Rattle.tc_io.specs.declared.sinks.SinkFault.{SinkFault}
 use Rattle.tc_io.specs.declared.sinks.SinkFault.TheVariants.{Failed}
 
@@ -13,10 +13,8 @@ pub record Flow : Type 0 where
 
 -- the flow to a sink, of which this is what it has taken, its write faults, and whether it is sure
 abbrev pub flow : {S : Type 0} → (S → Option (List ℕ)) → (S → ℕ) → (S → Bool) → S → List ℕ → Flow
-flow taken write_faults sure s kept = record {
-  sink = record { taken = taken s; write_faults = write_faults s; sure = sure s };
-  kept = kept;
-}
+flow taken write_faults sure s kept =
+    record { sink = sink_of taken write_faults sure s; kept = kept }
 
 -- all bytes that were handed on: those that were taken, and those that are kept
 abbrev pub handed : Flow → Option (List ℕ)

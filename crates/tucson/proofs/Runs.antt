@@ -1,5 +1,5 @@
 -- Cores and logs of a run.
-use Rattle.std.proofs.Common.{◌≡◌, ◌<◌, ◌||◌, ◌∙◌, ℕ, zero, suc, true, List, [], ◌∷◌, Vec, Global, length, get_or, sym, subst, ap, arith}
+use Rattle.std.proofs.Common.{◌≡◌, ◌<◌, ◌||◌, ◌∙◌, ℕ, zero, suc, true, List, [], ◌∷◌, Vec, Global, length, get_or, sym, ap, arith}
 use Rattle.std.proofs.Math.Bool.{or-true}
 use Rattle.tc_desk.specs.Logs.{any_pending, is_blocked, rows_of}
 use Rattle.tc_desk.specs.declared.rows.LogRow.{LogRow}

@@ -1,5 +1,5 @@
 -- How a call ends, by its status.
-use Rattle.std.specs.Prelude.{◌≡◌, ℕ, ◌⊎◌, Bool, false, List, Option}
+use Rattle.std.specs.Prelude.{◌≡◌, ℕ, ◌⊎◌, false, List}
 use Rattle.tc_io.specs.Faults.{CountRises}
 use Rattle.tc_io.specs.Sources.{SourceState}
 use Rattle.tc_io.specs.Sinks.{SinkState, AppendsFront, appended}
@@ -7,15 +7,6 @@ use Rattle.tucson.specs.declared.status.Status.{Status}
 use Rattle.tucson.specs.declared.status.Status.TheVariants.{Ended, WriteFault, Blocked, ReadFault, NoMemory}
 use Rattle.tucson.specs.Answer.{Input, IsInput, IsDue}
 use Rattle.tucson.specs.Commands.{AsksToRun}
-
--- a source, by its meanings, and a sink
-abbrev pub source_of : {S : Type 0} → (S → Option (List ℕ)) → (S → ℕ) → (S → Bool) → S → SourceState
-source_of left read_faults sure s =
-    record { left = left s; read_faults = read_faults s; sure = sure s }
-
-abbrev pub sink_of : {S : Type 0} → (S → Option (List ℕ)) → (S → ℕ) → (S → Bool) → S → SinkState
-sink_of taken write_faults sure s =
-    record { taken = taken s; write_faults = write_faults s; sure = sure s }
 
 -- a call: its words, and the source and the sink as it begins and as it ends
 pub record Call : Type 0 where

@@ -1,8 +1,9 @@
 //! What is written of a configuration that is refused.
 ghost use Rattle.std.specs.Prelude.{◌≡◌, IfOk};
 ghost use Rattle.tc_io.specs.Faults.{Counts};
+ghost use Rattle.tc_io.specs.Sinks.{sink_of};
 ghost use Rattle.tucson.specs.Answer.{config_cause_text, refused_text};
-ghost use Rattle.tucson.specs.Ending.{IsUnlessStopped, Writes, sink_of};
+ghost use Rattle.tucson.specs.Ending.{IsUnlessStopped, Writes};
 
 use crate::status::Status;
 use crate::writing::written;

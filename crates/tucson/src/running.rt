@@ -1,6 +1,8 @@
 //! A configuration, read to its end and run.
 ghost use Rattle.std.specs.Prelude.{◌≡◌, ◌<◌, ◌≤◌, [], ℕ, IfOk, IfSome, length};
 ghost use Rattle.tc_io.specs.Faults.{Counts};
+ghost use Rattle.tc_io.specs.Sinks.{sink_of};
+ghost use Rattle.tc_io.specs.Sources.{source_of};
 ghost use Rattle.tc_model.specs.Choices.{TheFirst};
 ghost use Rattle.tc_config.specs.Configurations.{Configuration};
 ghost use Rattle.tc_config.specs.Good.{IsGood};
@@ -10,7 +12,7 @@ ghost use Rattle.tc_desk.specs.Logs.{rows_of};
 ghost use Rattle.tc_runner.specs.Cores.{Goes, histories};
 ghost use Rattle.tucson.specs.Answer.{IsDueForInput, IsOutcome};
 ghost use Rattle.tucson.specs.Commands.{run_words};
-ghost use Rattle.tucson.specs.Ending.{Ends, IsEndOfRun, IsUnlessStopped, WritesDue, sink_of, source_of};
+ghost use Rattle.tucson.specs.Ending.{Ends, IsEndOfRun, IsUnlessStopped, WritesDue};
 
 use crate::refusing::refused;
 use crate::status::Status;

@@ -1,11 +1,13 @@
 //! The top call.
 ghost use Rattle.std.specs.Prelude.{◌≡◌, ℕ, IfSome, map};
 ghost use Rattle.tc_io.specs.Faults.{Counts};
+ghost use Rattle.tc_io.specs.Sinks.{sink_of};
+ghost use Rattle.tc_io.specs.Sources.{source_of};
 ghost use Rattle.tc_config.specs.Configurations.{Configuration};
 ghost use Rattle.tc_config.specs.Texts.{IsRefused, Spells};
 ghost use Rattle.tc_config.specs.declared.faults.ConfigCause.{ConfigCause};
 ghost use Rattle.tucson.specs.Commands.{AsksToRun};
-ghost use Rattle.tucson.specs.Ending.{Ends, IsEndOfRun, IsUnlessStopped, sink_of, source_of};
+ghost use Rattle.tucson.specs.Ending.{Ends, IsEndOfRun, IsUnlessStopped};
 
 use crate::command::{Command, command_of};
 use crate::running::run_main;

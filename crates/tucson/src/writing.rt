@@ -2,6 +2,7 @@
 ghost use Rattle.std.specs.Prelude.{◌≡◌, ◌<◌, [], All, OnOk, Some, length, slice_get};
 ghost use Rattle.tc_model.specs.Calls.{id_of};
 ghost use Rattle.tc_io.specs.Faults.{Counts};
+ghost use Rattle.tc_io.specs.Sinks.{sink_of};
 ghost use Rattle.tc_model.specs.Choices.{TheFirst};
 ghost use Rattle.tc_config.specs.Configurations.{agent_names, centre_names};
 ghost use Rattle.tc_config.specs.Good.{IsGood};
@@ -10,7 +11,7 @@ ghost use Rattle.tc_desk.specs.Text.{One, histories_text, logs_text, run_text};
 ghost use Rattle.tc_runner.specs.Cores.{AreCores, Goes, histories};
 ghost use Rattle.tc_writing.specs.Flow.{HandsOn, flow};
 ghost use Rattle.tucson.specs.Answer.{IsOutcome};
-ghost use Rattle.tucson.specs.Ending.{IsEndOfRun, IsStopped, IsUnlessStopped, WritesDue, Writes, sink_of};
+ghost use Rattle.tucson.specs.Ending.{IsEndOfRun, IsStopped, IsUnlessStopped, WritesDue, Writes};
 ghost use Rattle.tucson.specs.Status.{status_of_run};
 
 use crate::status::Status;

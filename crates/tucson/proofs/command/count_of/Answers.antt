@@ -1,4 +1,4 @@
-use Rattle.std.proofs.Common.{◌≡◌, ◌∙◌, ◌==◌, ℕ, IfNone, length, sym, ap, subst, true≢false, arith}
+use Rattle.std.proofs.Common.{◌∙◌, ◌==◌, ℕ, IfNone, length, sym, ap, subst, true≢false, arith}
 use Rattle.tucson.specs.Commands.{IsCount}
 use Rattle.tucson.proofs.Words.{count_none, count_whole}
 use Rattle.tucson.proofs.command.count_of.Goals as goal

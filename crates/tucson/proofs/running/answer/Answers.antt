@@ -1,6 +1,6 @@
 use Rattle.std.proofs.Common.{subst}
 use Rattle.tc_config.specs.Answers.{IsWant}
-use Rattle.tucson.specs.Ending.{sink_of}
+use Rattle.tc_io.specs.Sinks.{sink_of}
 use Rattle.tucson.proofs.Told.{tells_of}
 use Rattle.tucson.proofs.running.answer.Goals as goal
 

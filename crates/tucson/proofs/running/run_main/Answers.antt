@@ -1,10 +1,11 @@
-use Rattle.std.proofs.Common.{ℕ, List, Err, refl, ap, subst, rules}
+use Rattle.std.proofs.Common.{ℕ, List, Err, refl, ap, subst}
 use Rattle.tc_config.specs.Configurations.{Configuration}
 use Rattle.tc_config.specs.Texts.{IsRefused, Spells}
 use Rattle.tc_config.specs.declared.faults.ConfigCause.{ConfigCause}
 use Rattle.tc_config.specs.declared.faults.ConfigCause.TheVariants.{Length}
 use Rattle.tucson.specs.Answer.{IsDueForInput, TooLong, refused_text}
-use Rattle.tucson.specs.Ending.{IsEndOfRun, IsUnlessStopped, WritesDue, sink_of}
+use Rattle.tc_io.specs.Sinks.{sink_of}
+use Rattle.tucson.specs.Ending.{IsEndOfRun, IsUnlessStopped, WritesDue}
 use Rattle.tucson.specs.declared.status.Status.TheVariants.{Refused}
 use Rattle.tucson.proofs.Endings.{Ends-told, Ends-written, of_left, of_too_long}
 use Rattle.tucson.proofs.Words.{words_run}

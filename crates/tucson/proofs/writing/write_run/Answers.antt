@@ -2,7 +2,7 @@ use Rattle.std.proofs.Common.{◌≡◌, ◌∙◌, Err, ap}
 use Rattle.tc_desk.specs.Logs.{is_blocked, rows_of}
 use Rattle.tc_runner.specs.Cores.{histories}
 use Rattle.tucson.proofs.Told.{told_failed, told_memory, told_whole}
-use Rattle.tucson.specs.Ending.{sink_of}
+use Rattle.tc_io.specs.Sinks.{sink_of}
 use Rattle.tucson.specs.Status.{status_of_run}
 use Rattle.tucson.proofs.writing.write_run.Goals as goal
 
