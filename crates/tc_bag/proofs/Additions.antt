@@ -2,7 +2,7 @@
 use Rattle.std.proofs.Common.{◌≡◌, ◌≤◌, ◌++◌, ◌==◌, ℕ, Bool, true, false, cond, zero, suc, List, [], ◌∷◌, Contains, ap, subst, ⊎_elim, arith}
 use Rattle.std.proofs.lemmas.List.Elements.{Contains-push_cases}
 use Rattle.tc_term.specs.Tree.{Tree}
-use Rattle.tc_bag.specs.Stock.{AddsNone, Row, row, without_age}
+use Rattle.tc_bag.specs.Stock.{AddsNone, AddsYounger, Row, Stock, row, without_age}
 
 without-case : (same : Bool) (s : Row) (rows rest : List Row) (r : Row) → (Contains rest r → Contains rows r)
     → Contains (cond same rows (s ∷ rest)) r → Contains (s ∷ rows) r
@@ -29,3 +29,9 @@ pub adds-none-again : (from next : ℕ) (old mid new : List Row) → from ≤ ne
     → AddsNone next mid new → AddsNone from old new
 adds-none-again from next old mid new rises first second r there younger =
     first r (second r there (omega (arith, rises, younger))) younger
+
+pub adds-younger-again : (old mid new : Stock) → AddsYounger old mid → AddsYounger mid new → AddsYounger old new
+adds-younger-again old mid new first second = record {
+  rises = omega (arith, first.rises, second.rises);
+  added = adds-none-again old.next mid.next old.now mid.now new.now first.rises first.added second.added;
+}

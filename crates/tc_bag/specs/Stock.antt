@@ -40,6 +40,11 @@ AgesRiseBelow (r ∷ rs) next = (r.age < next) × All (λ s. r.age < s.age) rs �
 abbrev pub AddsNone : ℕ → List Row → List Row → Type 0
 AddsNone age old new = (row : Row) → Contains new row → row.age < age → Contains old row
 
+-- each row that is new is younger than all of before, and the next age has not fallen
+pub record AddsYounger (old new : Stock) : Type 0 where
+  pub rises : old.next ≤ new.next
+  pub added : AddsNone old.next old.now new.now
+
 -- the row's age is at least this number, and its tuple agrees with the key
 abbrev pub IsCandidate : Key → ℕ → Row → Type 0
 IsCandidate key from row = (from ≤ row.age) × IsOfKey key row.tuple

@@ -44,7 +44,7 @@ impl Model for Rows {
 }
 
 impl Rows {
-    ghost use Rattle.std.specs.Prelude.{◌≡◌, ◌≢◌, ◌<◌, ◌≤◌, ◌^◌, IsTrue, List, [], ◌∷◌, ◌++◌};
+    ghost use Rattle.std.specs.Prelude.{◌≡◌, ◌<◌, ◌≤◌, ◌^◌, IsTrue, List, [], ◌∷◌, ◌++◌};
     ghost use Rattle.std.specs.Prelude.{length, map, filter, slice_get, is_some, All, OnOk};
     ghost use Rattle.std.specs.Prelude.{OnErr, IfErr, IfSome, IfNone, Option, Some};
     ghost use Rattle.std.specs.Option.{option_copied, option_map};

@@ -6,7 +6,7 @@ ghost use Rattle.tc_model.specs.Tuples.{after_effects};
 ghost use Rattle.tc_model.specs.Cascades.{pick_of, clause_of};
 ghost use Rattle.tc_model.specs.Triggers.{raises};
 ghost use Rattle.tc_model.specs.declared.limits.TheConstants.{MOST_GOALS};
-ghost use Rattle.tc_bag.specs.Stock.{tuples_of, AddsNone};
+ghost use Rattle.tc_bag.specs.Stock.{tuples_of, AddsYounger};
 ghost use Rattle.tc_body.specs.Left.{IsLeft};
 
 use crate::events::events_of;
@@ -38,9 +38,8 @@ pub fn execute(
     ensures tuples { IfOk result (λ x. IsLeft x.0 bag.old bag.new) }
     ensures same { OnErr result (bag.new ≡ bag.old) }
     ensures saved { bag.new.saved ≡ bag.old.saved }
+    ensures adds { AddsYounger bag.old bag.new }
     ensures next { bag.new.next ≤ bag.old.next + MOST_GOALS }
-    ensures rises { bag.old.next ≤ bag.new.next }
-    ensures old { AddsNone bag.old.next bag.old.now bag.new.now }
 {
     let mut store = Store::new(alloc, 0)?;
     let done = execute_in(alloc, &mut store, r, pick, clause, e, context, bag)?;
@@ -67,9 +66,8 @@ pub fn execute_in(
     ensures tuples { IfOk result (λ x. IsLeft x.0 bag.old bag.new) }
     ensures same { OnErr result (bag.new ≡ bag.old) }
     ensures saved { bag.new.saved ≡ bag.old.saved }
+    ensures adds { AddsYounger bag.old bag.new }
     ensures next { bag.new.next ≤ bag.old.next + MOST_GOALS }
-    ensures rises { bag.old.next ≤ bag.new.next }
-    ensures old { AddsNone bag.old.next bag.old.now bag.new.now }
 {
     bag.mark()?;
     match run_goals(alloc, store, r, e, context, bag) {
@@ -132,9 +130,8 @@ pub fn run_goals(
     ensures tuples { IfOk result (λ x. IfNone x.0
         (tuples_of bag.new.now ≡ after_effects x.1.items (tuples_of bag.old.now))) }
     ensures saved { bag.new.saved ≡ bag.old.saved }
+    ensures adds { AddsYounger bag.old bag.new }
     ensures next { bag.new.next ≤ bag.old.next + MOST_GOALS }
-    ensures rises { bag.old.next ≤ bag.new.next }
-    ensures old { AddsNone bag.old.next bag.old.now bag.new.now }
 {
     let mut effects = Vec::new(alloc);
     let goals = r.goals();

@@ -8,7 +8,7 @@ ghost use Rattle.tc_term.specs.Equations.{Solvable, with_pair};
 ghost use Rattle.tc_model.specs.Goals.{IsStuck};
 ghost use Rattle.tc_model.specs.Events.{op_name};
 ghost use Rattle.tc_model.specs.Within.{terms_of, HasVarsBelow};
-ghost use Rattle.tc_bag.specs.Stock.{AddsNone};
+ghost use Rattle.tc_bag.specs.Stock.{AddsYounger};
 ghost use Rattle.tc_body.specs.Moments.{scene, moment_of, IsDone, CannotEqual};
 ghost use Rattle.tc_body.specs.Moments.{HasPut, HasNoValue, HasTaken, HasRead, HasNoMatch};
 ghost use Rattle.tc_body.specs.Moments.{EvaluatesIn, IsNumberOf};
@@ -54,9 +54,8 @@ pub fn step(
     ensures vars { store.new.vars ≡ store.old.vars }
     ensures solvable { Solvable store.new.vars store.new.pairs }
     ensures saved { bag.new.saved ≡ bag.old.saved }
+    ensures adds { AddsYounger bag.old bag.new }
     ensures next { bag.new.next ≤ bag.old.next + 1 }
-    ensures rises { bag.old.next ≤ bag.new.next }
-    ensures old { AddsNone bag.old.next bag.old.now bag.new.now }
 {
     match goal {
         Goal::OutR(t) => put(alloc, t, store, bag, effects),
@@ -94,9 +93,8 @@ fn put(
     ensures none { IfOk result (λ y. y ≡ false → HasNoValue store.now (tree_of t.now)) }
     ensures effects { IfOk result (λ y. y ≡ false → effects.new.items ≡ effects.old.items) }
     ensures saved { bag.new.saved ≡ bag.old.saved }
+    ensures adds { AddsYounger bag.old bag.new }
     ensures next { bag.new.next ≤ bag.old.next + 1 }
-    ensures rises { bag.old.next ≤ bag.new.next }
-    ensures old { AddsNone bag.old.next bag.old.now bag.new.now }
 {
     let part = Part { term: t, shift: 0 };
     let Some(value) = store.value(part)? else {
@@ -126,8 +124,8 @@ fn take_oldest(
     ensures vars { store.new.vars ≡ store.old.vars }
     ensures solvable { Solvable store.new.vars store.new.pairs }
     ensures saved { bag.new.saved ≡ bag.old.saved }
+    ensures adds { AddsYounger bag.old bag.new }
     ensures next { bag.new.next ≡ bag.old.next }
-    ensures old { AddsNone bag.old.next bag.old.now bag.new.now }
 {
     let key = Key::of(alloc, t)?;
     let Some((age, tuple)) = oldest_match(store, t, &key, bag)? else {

@@ -2,7 +2,7 @@
 ghost use Rattle.std.specs.Prelude.{◌≡◌, ◌≤◌, ◌+◌, ◌*◌, ◌∷◌, [], length, IfOk, OnOk, OnErr};
 ghost use Rattle.tc_model.specs.Triggers.{IsClause};
 ghost use Rattle.tc_model.specs.declared.limits.TheConstants.{MOST_BUDGET, MOST_GOALS};
-ghost use Rattle.tc_bag.specs.Stock.{AddsNone, Stock, marked};
+ghost use Rattle.tc_bag.specs.Stock.{AddsYounger, Stock, marked};
 ghost use Rattle.tc_cascade.specs.Ages.{most_ages};
 ghost use Rattle.tc_cascade.specs.Ends.{IsEnd, IsUndone, items_of, kept_or_undone};
 ghost use Rattle.tc_cascade.specs.Adding.{Adds, Stands};
@@ -45,9 +45,8 @@ pub fn run(
     ensures same { OnErr result (bag.new ≡ bag.old) }
     ensures per_item { IfOk result (λ c. bag.new.next ≤ bag.old.next + MOST_GOALS * length (items_of c)) }
     ensures saved { bag.new.saved ≡ bag.old.saved }
+    ensures adds { AddsYounger bag.old bag.new }
     ensures next { bag.new.next ≤ bag.old.next + most_ages }
-    ensures rises { bag.old.next ≤ bag.new.next }
-    ensures old { AddsNone bag.old.next bag.old.now bag.new.now }
 {
     let mut store = Store::new(alloc, 0)?;
     bag.mark()?;
@@ -59,8 +58,9 @@ pub fn run(
 /// Keeps what a cascade has left, where it is whole, and else goes back to the bag of before it. The
 /// mark that was set then is removed.
 pub fn keep_or_undo(end: &Result<Cascade, NoMemory>, bag: &mut Bag)
-    ensures { (before : Stock) → bag.old.saved ≡ (marked before).saved
+    ensures marked { (before : Stock) → bag.old.saved ≡ (marked before).saved
         → bag.new ≡ kept_or_undone end.now before bag.old }
+    ensures unmarked { bag.old.saved ≡ [] → bag.new ≡ bag.old }
 {
     match end {
         Ok(Cascade::Whole(_)) => bag.keep(),
@@ -87,9 +87,8 @@ pub fn run_in(
     ensures ends { IfOk result (IsEnd spec.now context.now budget e.now bag.old bag.new) }
     ensures per_item { IfOk result (λ c. bag.new.next ≤ bag.old.next + MOST_GOALS * length (items_of c)) }
     ensures saved { bag.new.saved ≡ bag.old.saved }
+    ensures adds { AddsYounger bag.old bag.new }
     ensures next { bag.new.next ≤ bag.old.next + most_ages }
-    ensures rises { bag.old.next ≤ bag.new.next }
-    ensures old { AddsNone bag.old.next bag.old.now bag.new.now }
 {
     let mut triggered = Queue::new(alloc);
     add(

@@ -3,7 +3,7 @@ use Rattle.std.proofs.Common.{◌≡◌, ◌+◌, ◌*◌, ◌≤◌, ℕ, List,
 use Rattle.std.proofs.lemmas.Option.{same_Some, get_or_from_slice_get}
 use Rattle.tc_lists.specs.Firsts.{IsFirst}
 use Rattle.tc_term.specs.Tree.{Tree}
-use Rattle.tc_bag.specs.Stock.{Stock, tuples_of, tuple_at}
+use Rattle.tc_bag.specs.Stock.{AddsYounger, Stock, tuples_of, tuple_at}
 use Rattle.tc_pending.specs.Answers.{IsNextAnswer}
 use Rattle.tc_model.specs.Cascades.{IsWhole, IsOver}
 use Rattle.tc_model.specs.Choices.{TheFirst}
@@ -24,7 +24,7 @@ use Rattle.tc_cascade.specs.declared.cascade.Cascade.{Cascade}
 use Rattle.tc_cascade.specs.declared.cascade.Cascade.TheVariants.{Whole, Over}
 use Rattle.tc_phases.specs.Phases.{setting_in, Reacts, Overruns, IsPhase, asking_op}
 use Rattle.tc_phases.specs.declared.regime.Regime.{Regime}
-use Rattle.tc_centre.specs.Held.{origin_of, held, KeepsRows}
+use Rattle.tc_centre.specs.Held.{origin_of, held}
 use Rattle.tc_centre.specs.Operations.{IsRegimeOf, after_giving, Gives}
 use Rattle.tc_centre.specs.declared.founding.Founding.{Founding}
 use Rattle.tc_centre.specs.declared.holdings.Holdings.{Holdings}
@@ -78,7 +78,7 @@ module _ (old : Holdings) (place age : ℕ) (next : IsNextAnswer old.bag.now old
   pub gives : (new : Holdings) (regime : Regime) (t : Tree) (c k : Cascade) → IsRegimeOf old.founding old.spec r.id regime
       → tuple_at age old.bag.now ≡ Some t
       → IsPhase regime (success_event (asking_op r.takes) t) (after_taking r.takes t (tuples_of old.bag.now)) old.bag new.bag c
-      → new.bag.next ≤ old.bag.next + 1 + MOST_GOALS * length (items_of c) → KeepsRows old.bag new.bag
+      → new.bag.next ≤ old.bag.next + 1 + MOST_GOALS * length (items_of c) → AddsYounger old.bag new.bag
       → c ≡ k → Gives place old new r.id (given_outcome t k) (items_of k)
   gives new regime t c k of there phase ages kept is =
       let tuples : List Tree = tuples_of old.bag.now in

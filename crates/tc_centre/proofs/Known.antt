@@ -1,11 +1,11 @@
 -- What is known of requests and tuples, in the steps of a turn.
 use Rattle.std.proofs.Common.{◌≡◌, ◌++◌, ℕ, List, [], ◌∷◌, Contains, length, take, refl, sym, ap, subst, ◌∙◌, arith}
 use Rattle.std.proofs.lemmas.List.{get_or-map, length-map, length-take, take_at}
-use Rattle.tc_bag.specs.Stock.{Row, tuples_of}
+use Rattle.tc_bag.specs.Stock.{AddsYounger, Row, tuples_of}
 use Rattle.tc_pending.specs.Answers.{IsKnown}
 use Rattle.tc_model.specs.State.{IsQuiescent}
 use Rattle.tc_model.specs.declared.calls.Request.{Request}
-use Rattle.tc_centre.specs.Held.{KeepsRows, KeepsOld, Knows, known_of, state_held}
+use Rattle.tc_centre.specs.Held.{KeepsOld, Knows, known_of, state_held}
 use Rattle.tc_centre.specs.declared.holdings.Holdings.{Holdings}
 use Rattle.tc_pending.specs.declared.answering.Known.{Known}
 
@@ -23,18 +23,18 @@ known-still old new quiet kept = record {
   none = λ q r stands there older match.
       quiet q (subst (λ rs. Contains rs q) kept.requests stands) (record {
         tuple = r.tuple;
-        stands = contains-tuple old.bag.now r (kept.rows.rows r there older);
+        stands = contains-tuple old.bag.now r (kept.rows.added r there older);
         matches = match;
       });
   count = omega (arith, ap length kept.requests, length-take (length old.pending.now) new.pending.now);
-  age = kept.rows.next;
+  age = kept.rows.rises;
 }
 
 -- what was known is known behind an answer, of the requests that there were
-pub known-more : (known : Known) (old new : Holdings) → KeepsRows old.bag new.bag → Knows known old
+pub known-more : (known : Known) (old new : Holdings) → AddsYounger old.bag new.bag → Knows known old
     → IsKnown known new.bag.now old.pending.now
 known-more known old new kept knows q r stands there younger match =
-    knows.none q r stands (kept.rows r there (omega (arith, younger, knows.age))) younger match
+    knows.none q r stands (kept.added r there (omega (arith, younger, knows.age))) younger match
 
 pub take-pushed : (requests new : List Request) (r : Request) → new ≡ requests ++ r ∷ []
     → take (length requests) new ≡ requests

@@ -1,6 +1,6 @@
 -- What a centre holds between two entries of its history.
 use Rattle.std.specs.Prelude.{◌≡◌, ℕ, ◌+◌, ◌*◌, ◌≤◌, List, [], ◌∷◌, ◌++◌, All, length, take}
-use Rattle.tc_bag.specs.Stock.{Row, Stock, AddsNone, tuples_of}
+use Rattle.tc_bag.specs.Stock.{Row, AddsYounger, tuples_of}
 use Rattle.tc_model.specs.Entries.{weight}
 use Rattle.tc_model.specs.Reactions.{Rule}
 use Rattle.tc_model.specs.Typed.{IsTypedCall}
@@ -106,14 +106,9 @@ pub record KeepsAround (old new : Holdings) : Type 0 where
   pub pending : new.pending.saved ≡ old.pending.saved
   pub history : new.history.items ≡ old.history.items
 
--- what is new are younger rows, and the next age has not fallen
-pub record KeepsRows (old new : Stock) : Type 0 where
-  pub rows : AddsNone old.next old.now new.now
-  pub next : old.next ≤ new.next
-
 -- what is new are younger rows, and requests behind the others
 pub record KeepsOld (old new : Holdings) : Type 0 where
-  pub rows : KeepsRows old.bag new.bag
+  pub rows : AddsYounger old.bag new.bag
   pub requests : take (length old.pending.now) new.pending.now ≡ old.pending.now
 
 -- what is known where no request can be answered

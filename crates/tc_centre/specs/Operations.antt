@@ -16,8 +16,9 @@ use Rattle.tc_model.specs.declared.items.Item.{Item}
 use Rattle.tc_model.specs.declared.limits.TheConstants.{MOST_GOALS}
 use Rattle.tc_model.specs.declared.outcomes.Outcome.{Outcome}
 use Rattle.tc_model.specs.declared.outcomes.Outcome.TheVariants.{Took, NoTuple}
+use Rattle.tc_bag.specs.Stock.{AddsYounger}
 use Rattle.tc_centre.specs.Held.{origin_of, held, state_held, Grows, IsAtRest}
-use Rattle.tc_centre.specs.Held.{KeepsHeld, KeepsRows, KeepsOld, KeepsTyped}
+use Rattle.tc_centre.specs.Held.{KeepsHeld, KeepsOld, KeepsTyped}
 use Rattle.tc_centre.specs.Turns.{IsAnswer}
 use Rattle.tc_centre.specs.declared.answers.Answer.{Answer}
 use Rattle.tc_centre.specs.declared.founding.Founding.{Founding}
@@ -73,7 +74,7 @@ pub record Gives (place : ℕ) (old new : Holdings) (id : CallId) (outcome : Out
   pub state : held old.spec new.bag.now old.pending.now
       ≡ after_giving request.takes outcome items (state_held old)
   pub next : RisesBy items old new
-  pub keeps : KeepsRows old.bag new.bag
+  pub keeps : AddsYounger old.bag new.bag
 
 -- a call was served: its entry was appended, and then answers, until no request can be answered; and
 -- the caller is told what the history then tells

@@ -1,5 +1,5 @@
 //! What a centre begins with.
-ghost use Rattle.std.specs.Prelude.{◌≡◌, ◌≤◌, ◌^◌, [], length, IfOk};
+ghost use Rattle.std.specs.Prelude.{◌≡◌, ◌≤◌, [], length, IfOk};
 ghost use Rattle.tc_bag.specs.Stock.{tuples_of};
 ghost use Rattle.tc_model.specs.declared.limits.TheConstants.{MOST_TUPLES};
 

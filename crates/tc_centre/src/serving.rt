@@ -1,5 +1,6 @@
 //! Serving a call: its entry, and then the answers to requests that can be given.
 ghost use Rattle.std.specs.Prelude.{◌≡◌, ◌<◌, length, remove, IfOk, OnOk, OnErr};
+ghost use Rattle.tc_bag.specs.Stock.{AddsYounger};
 ghost use Rattle.tc_pending.specs.Answers.{IsNextAnswer};
 ghost use Rattle.tc_model.specs.Reactions.{clauses_text};
 ghost use Rattle.tc_model.specs.Replies.{reply_in};
@@ -7,7 +8,7 @@ ghost use Rattle.tc_model.specs.Run.{IsNext};
 ghost use Rattle.tc_model.specs.Typed.{IsTypedId};
 ghost use Rattle.tc_model.specs.declared.calls.Op.{Op};
 ghost use Rattle.tc_centre.specs.Held.{origin_of, HoldsRun, IsAtRest, HasRoom, Knows, known_of};
-ghost use Rattle.tc_centre.specs.Held.{IsSame, KeepsHeld, KeepsAround, KeepsRows, KeepsTyped};
+ghost use Rattle.tc_centre.specs.Held.{IsSame, KeepsHeld, KeepsAround, KeepsTyped};
 ghost use Rattle.tc_centre.specs.Held.{Answers, Calls, Grows};
 ghost use Rattle.tc_centre.specs.Operations.{Performs, HasServed};
 ghost use Rattle.tc_centre.specs.Turns.{IsOnTuples, IsAnswer};
@@ -175,7 +176,7 @@ fn answer(alloc: Global, held: &mut Holdings, place: usize, age: u64) -> Result<
     ensures run { OnOk result (HoldsRun held.new) }
     ensures answers { OnOk result (Answers held.old.history.items held.new.history.items) }
     ensures requests { OnOk result (held.new.pending.now ≡ remove held.old.pending.now place) }
-    ensures rows { OnOk result (KeepsRows held.old.bag held.new.bag) }
+    ensures rows { OnOk result (AddsYounger held.old.bag held.new.bag) }
     ensures fewer { OnOk result (length held.new.pending.now < length held.old.pending.now) }
     ensures keeps { KeepsHeld held.old held.new }
     ensures spec { held.new.spec ≡ held.old.spec }

@@ -1,6 +1,6 @@
 //! The phases of the operations on tuples.
-ghost use Rattle.std.specs.Prelude.{◌≡◌, ◌≤◌, ◌+◌, ◌*◌, ◌++◌, ◌∷◌, [], Some, length, IfOk, OnOk, OnErr};
-ghost use Rattle.tc_bag.specs.Stock.{tuples_of, tuple_at, AddsNone};
+ghost use Rattle.std.specs.Prelude.{◌≡◌, ◌≤◌, ◌+◌, ◌*◌, ◌++◌, ◌∷◌, [], Some, length, IfOk, OnErr};
+ghost use Rattle.tc_bag.specs.Stock.{tuples_of, tuple_at, AddsYounger};
 ghost use Rattle.tc_model.specs.Events.{MayOccur, success_event, request_event};
 ghost use Rattle.tc_model.specs.State.{after_taking};
 ghost use Rattle.tc_model.specs.declared.events.EventOp.TheVariants.{Out};
@@ -39,12 +39,11 @@ pub fn put(
     ensures phase { IfOk result (IsPhase regime.now (success_event Out tuple.now)
         (tuples_of bag.old.now ++ tuple.now ∷ []) bag.old bag.new) }
     ensures same { OnErr result (bag.new ≡ bag.old) }
-    ensures old { OnOk result (AddsNone bag.old.next bag.old.now bag.new.now) }
     ensures next { IfOk result (λ c. bag.new.next ≤ bag.old.next + 1 + MOST_GOALS * length (items_of c)) }
 
     // After each answer:
     ensures saved { bag.new.saved ≡ bag.old.saved }
-    ensures rises { bag.old.next ≤ bag.new.next }
+    ensures adds { AddsYounger bag.old bag.new }
 {
     let trigger = Trigger::Success(EventOp::Out, tuple);
     let change = Change::Put(tuple);
@@ -66,12 +65,11 @@ pub fn request(
     ensures phase { IfOk result (IsPhase regime.now (request_event (asking_op takes) template.now)
         (tuples_of bag.old.now) bag.old bag.new) }
     ensures same { OnErr result (bag.new ≡ bag.old) }
-    ensures old { OnOk result (AddsNone bag.old.next bag.old.now bag.new.now) }
     ensures next { IfOk result (λ c. bag.new.next ≤ bag.old.next + 1 + MOST_GOALS * length (items_of c)) }
 
     // After each answer:
     ensures saved { bag.new.saved ≡ bag.old.saved }
-    ensures rises { bag.old.next ≤ bag.new.next }
+    ensures adds { AddsYounger bag.old bag.new }
 {
     let trigger = Trigger::Request(asking_op(takes), template);
     let end = run_phase(alloc, store, regime, &trigger, &Change::Nothing, bag)?;
@@ -95,13 +93,12 @@ pub fn search(
     ensures search { IfOk result
         (λ x. IsSearch regime.now takes template.now bag.old bag.new x.0 x.1) }
     ensures same { OnErr result (bag.new ≡ bag.old) }
-    ensures old { OnOk result (AddsNone bag.old.next bag.old.now bag.new.now) }
     ensures next { IfOk result
         (λ x. bag.new.next ≤ bag.old.next + 1 + MOST_GOALS * length (items_of x.1)) }
 
     // After each answer:
     ensures saved { bag.new.saved ≡ bag.old.saved }
-    ensures rises { bag.old.next ≤ bag.new.next }
+    ensures adds { AddsYounger bag.old bag.new }
 {
     let op = search_op(takes);
     let Some((age, tuple)) = oldest_match_of(alloc, template, bag)? else {
@@ -131,13 +128,12 @@ pub fn answer(
     ensures phase { IfOk result (λ x. IsPhase regime.now (success_event (asking_op takes) x.0)
         (after_taking takes x.0 (tuples_of bag.old.now)) bag.old bag.new x.1) }
     ensures same { OnErr result (bag.new ≡ bag.old) }
-    ensures old { OnOk result (AddsNone bag.old.next bag.old.now bag.new.now) }
     ensures next { IfOk result
         (λ x. bag.new.next ≤ bag.old.next + 1 + MOST_GOALS * length (items_of x.1)) }
 
     // After each answer:
     ensures saved { bag.new.saved ≡ bag.old.saved }
-    ensures rises { bag.old.next ≤ bag.new.next }
+    ensures adds { AddsYounger bag.old bag.new }
 {
     let Some(tuple) = bag.get(age) else {
         unreachable!();
@@ -175,10 +171,9 @@ fn run_found(
     ensures phase { IfOk result (IsPhase regime.now (success_event op tuple.now)
         (after_taking takes tuple.now (tuples_of bag.old.now)) bag.old bag.new) }
     ensures same { OnErr result (bag.new ≡ bag.old) }
-    ensures old { OnOk result (AddsNone bag.old.next bag.old.now bag.new.now) }
     ensures next { IfOk result (λ c. bag.new.next ≤ bag.old.next + 1 + MOST_GOALS * length (items_of c)) }
     ensures saved { bag.new.saved ≡ bag.old.saved }
-    ensures rises { bag.old.next ≤ bag.new.next }
+    ensures adds { AddsYounger bag.old bag.new }
 {
     let trigger = Trigger::Success(op, tuple);
     let end = run_phase(alloc, store, regime, &trigger, &taking(takes, age), bag)?;

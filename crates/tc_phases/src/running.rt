@@ -1,6 +1,6 @@
 //! A change of the tuples, and then the reactions to its event.
 ghost use Rattle.std.specs.Prelude.{◌≡◌, ◌≤◌, ◌<◌, ◌+◌, ◌*◌, length, if◌then◌else◌, IfOk, OnOk, OnErr};
-ghost use Rattle.tc_bag.specs.Stock.{AddsNone, tuples_of};
+ghost use Rattle.tc_bag.specs.Stock.{AddsYounger, tuples_of};
 ghost use Rattle.tc_model.specs.Events.{MayOccur, success_event};
 ghost use Rattle.tc_model.specs.declared.events.Phase.TheVariants.{Post};
 ghost use Rattle.tc_model.specs.declared.events.Sign.TheVariants.{Success};
@@ -66,10 +66,9 @@ pub fn run_phase(
     ensures phase { IfOk result (IsPhase regime.now (event_in trigger.now)
         (tuples_of (changed change.now bag.old).now) bag.old bag.new) }
     ensures same { OnErr result (bag.new ≡ bag.old) }
-    ensures old { OnOk result (AddsNone bag.old.next bag.old.now bag.new.now) }
     ensures next { IfOk result (λ c. bag.new.next ≤ bag.old.next + 1 + MOST_GOALS * length (items_of c)) }
     ensures saved { bag.new.saved ≡ bag.old.saved }
-    ensures rises { bag.old.next ≤ bag.new.next }
+    ensures adds { AddsYounger bag.old bag.new }
 {
     if !regime.spec.has_op(trigger.op()) {
         make(alloc, change, bag)?;
@@ -96,10 +95,9 @@ fn make_and_run(
     requires next { bag.old.next + most_ages + 1 ≤ u64.MAX }
     ensures ends { IfOk result (IsEnd regime.now.spec.now (setting_in regime.now) regime.now.budget
         (event_in trigger.now) (changed change.now bag.old) bag.new) }
-    ensures old { OnOk result (AddsNone bag.old.next bag.old.now bag.new.now) }
     ensures next { IfOk result (λ c. bag.new.next ≤ bag.old.next + 1 + MOST_GOALS * length (items_of c)) }
     ensures saved { bag.new.saved ≡ bag.old.saved }
-    ensures rises { bag.old.next ≤ bag.new.next }
+    ensures adds { AddsYounger bag.old bag.new }
 {
     let event = trigger.event(alloc)?;
     let context = context_of(alloc, regime)?;
@@ -121,10 +119,9 @@ fn make(alloc: Global, change: &Change, bag: &mut Bag) -> Result<(), NoMemory>
     requires { bag.old.next < u64.MAX }
     ensures changed { OnOk result (bag.new ≡ changed change.now bag.old) }
     ensures same { OnErr result (bag.new ≡ bag.old) }
-    ensures old { OnOk result (AddsNone bag.old.next bag.old.now bag.new.now) }
     ensures saved { bag.new.saved ≡ bag.old.saved }
+    ensures adds { AddsYounger bag.old bag.new }
     ensures next { bag.new.next ≤ bag.old.next + 1 }
-    ensures rises { bag.old.next ≤ bag.new.next }
 {
     match change {
         Change::Put(tuple) => {

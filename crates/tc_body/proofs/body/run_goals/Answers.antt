@@ -13,7 +13,7 @@ use Rattle.tc_model.specs.Bodies.{scene_of, beginning}
 use Rattle.tc_model.specs.declared.goals.Goal.{Goal}
 use Rattle.tc_model.proofs.Following.{body-tuples}
 use Rattle.tc_bag.specs.Stock.{tuples_of}
-use Rattle.tc_bag.proofs.Additions.{adds-none-again}
+use Rattle.tc_bag.proofs.Additions.{adds-younger-again}
 use Rattle.tc_model.specs.Within.{HasVarsBelow, terms_of}
 use Rattle.tc_body.specs.Moments.{moment_of, IsDone}
 use Rattle.tc_body.proofs.Leading.{begun_moment, failed_first, more_done}
@@ -52,8 +52,7 @@ loop-i-init c =
       solvable = c.in_ok-meet.ensures.solvable;
       saved = refl;
       next = omega arith;
-      rises = omega arith;
-      old = λ r there older. there;
+      adds = record { rises = omega arith; added = λ r there older. there };
     }
 
 -- the goal of this place
@@ -111,9 +110,7 @@ loop-i-preserved c =
       solvable = c.step.ensures.solvable;
       saved = c.step.ensures.saved ∙ c.loop-i.invariant.saved;
       next = omega (arith, c.step.ensures.next, c.loop-i.invariant.next);
-      rises = omega (arith, c.step.ensures.rises, c.loop-i.invariant.rises);
-      old = adds-none-again c.args.bag.now.next c.loop-i.bag.next c.args.bag.now.now c.loop-i.bag.now c.step.new.bag.now
-          c.loop-i.invariant.rises c.loop-i.invariant.old c.step.ensures.old;
+      adds = adds-younger-again c.args.bag.now c.loop-i.bag c.step.new.bag c.loop-i.invariant.adds c.step.ensures.adds;
     }
 
 pub returns-clause-tuples : goal.returns-clause-tuples
@@ -122,12 +119,10 @@ returns-clause-tuples c =
     (beginning c.args.r.now c.args.e.now (tuples_of c.args.bag.now.now))
     (moment_of c.loop-i.store c.loop-i.bag c.loop-i.effects.items) refl c.loop-i.invariant.leads
 
-pub returns-in_err-step-clause-old : goal.returns-in_err-step-clause-old
-returns-in_err-step-clause-old c =
-    adds-none-again c.args.bag.now.next c.loop-i.bag.next c.args.bag.now.now c.loop-i.bag.now c.step.new.bag.now
-    c.loop-i.invariant.rises c.loop-i.invariant.old c.step.ensures.old
+pub returns-in_err-step-clause-adds : goal.returns-in_err-step-clause-adds
+returns-in_err-step-clause-adds c =
+    adds-younger-again c.args.bag.now c.loop-i.bag c.step.new.bag c.loop-i.invariant.adds c.step.ensures.adds
 
-pub returns-then-not-branch-2-clause-old : goal.returns-then-not-branch-2-clause-old
-returns-then-not-branch-2-clause-old c =
-    adds-none-again c.args.bag.now.next c.loop-i.bag.next c.args.bag.now.now c.loop-i.bag.now c.step.new.bag.now
-    c.loop-i.invariant.rises c.loop-i.invariant.old c.step.ensures.old
+pub returns-then-not-branch-2-clause-adds : goal.returns-then-not-branch-2-clause-adds
+returns-then-not-branch-2-clause-adds c =
+    adds-younger-again c.args.bag.now c.loop-i.bag c.step.new.bag c.loop-i.invariant.adds c.step.ensures.adds

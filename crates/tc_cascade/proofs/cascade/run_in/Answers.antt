@@ -2,7 +2,7 @@ use Rattle.std.proofs.Common.{◌+◌, ◌-◌, [], ◌∷◌, List, length, dro
 use Rattle.std.proofs.lemmas.List.{nil_from_length}
 use Rattle.tc_lists.proofs.Bools.{none_from_test}
 use Rattle.tc_model.specs.Reactions.{Rule}
-use Rattle.tc_bag.proofs.Additions.{adds-none-again}
+use Rattle.tc_bag.proofs.Additions.{adds-younger-again}
 use Rattle.tc_model.specs.Triggers.{IsClause}
 use Rattle.tc_cascade.specs.Adding.{Adds, Stands}
 use Rattle.tc_cascade.proofs.Waves.{at_first, at_stands, at_next, at_whole}
@@ -17,8 +17,7 @@ loop-k-init c =
       count = ap length c.new-items.ensures.items;
       saved = refl;
       next = omega arith;
-      rises = omega arith;
-      old = λ r there older. there;
+      adds = record { rises = omega arith; added = λ r there older. there };
     }
 
 pub returns-in_default-clause-ends : goal.returns-in_default-clause-ends
@@ -57,9 +56,7 @@ loop-k-preserved c =
       count = ap length c.in_ok-push.ensures.items ∙ (length-append items (item ∷ []) ∙ ap (λ n. n + 1) c.loop-k.invariant.count);
       saved = c.in_ok-item.ensures.saved ∙ c.loop-k.invariant.saved;
       next = omega (arith, c.in_ok-item.ensures.next, c.loop-k.invariant.next);
-      rises = omega (arith, c.execute_in.ensures.rises, c.loop-k.invariant.rises);
-      old = adds-none-again c.args.bag.now.next c.loop-k.bag.next c.args.bag.now.now c.loop-k.bag.now c.execute_in.new.bag.now
-          c.loop-k.invariant.rises c.loop-k.invariant.old c.execute_in.ensures.old;
+      adds = adds-younger-again c.args.bag.now c.loop-k.bag c.execute_in.new.bag c.loop-k.invariant.adds c.execute_in.ensures.adds;
     }
 
 pub returns-then-is_empty-clause-ends : goal.returns-then-is_empty-clause-ends
@@ -70,17 +67,14 @@ returns-then-is_empty-clause-ends c =
     (c.args.budget + 1 - c.loop-k.k) c.args.budget c.loop-k.invariant.at (nil_from_length c.loop-k.triggered (none_from_test (length c.loop-k.triggered) c.is_empty.result c.is_empty.ensures c.if-is_empty.true))
     (omega (arith, end)) (omega (arith, end, count)) c.new-then-is_empty.ensures
 
-pub returns-in_err-item-clause-old : goal.returns-in_err-item-clause-old
-returns-in_err-item-clause-old c =
-    adds-none-again c.args.bag.now.next c.loop-k.bag.next c.args.bag.now.now c.loop-k.bag.now c.execute_in.new.bag.now
-    c.loop-k.invariant.rises c.loop-k.invariant.old c.execute_in.ensures.old
+pub returns-in_err-item-clause-adds : goal.returns-in_err-item-clause-adds
+returns-in_err-item-clause-adds c =
+    adds-younger-again c.args.bag.now c.loop-k.bag c.execute_in.new.bag c.loop-k.invariant.adds c.execute_in.ensures.adds
 
-pub returns-in_err-push-clause-old : goal.returns-in_err-push-clause-old
-returns-in_err-push-clause-old c =
-    adds-none-again c.args.bag.now.next c.loop-k.bag.next c.args.bag.now.now c.loop-k.bag.now c.execute_in.new.bag.now
-    c.loop-k.invariant.rises c.loop-k.invariant.old c.execute_in.ensures.old
+pub returns-in_err-push-clause-adds : goal.returns-in_err-push-clause-adds
+returns-in_err-push-clause-adds c =
+    adds-younger-again c.args.bag.now c.loop-k.bag c.execute_in.new.bag c.loop-k.invariant.adds c.execute_in.ensures.adds
 
-pub returns-in_err-add_all-clause-old : goal.returns-in_err-add_all-clause-old
-returns-in_err-add_all-clause-old c =
-    adds-none-again c.args.bag.now.next c.loop-k.bag.next c.args.bag.now.now c.loop-k.bag.now c.execute_in.new.bag.now
-    c.loop-k.invariant.rises c.loop-k.invariant.old c.execute_in.ensures.old
+pub returns-in_err-add_all-clause-adds : goal.returns-in_err-add_all-clause-adds
+returns-in_err-add_all-clause-adds c =
+    adds-younger-again c.args.bag.now c.loop-k.bag c.execute_in.new.bag c.loop-k.invariant.adds c.execute_in.ensures.adds

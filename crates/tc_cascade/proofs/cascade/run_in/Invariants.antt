@@ -1,6 +1,6 @@
 use Rattle.std.proofs.Common.{◌≡◌, ◌≤◌, ◌+◌, ◌-◌, ◌*◌, length}
 use Rattle.tc_model.specs.declared.limits.TheConstants.{MOST_GOALS}
-use Rattle.tc_bag.specs.Stock.{AddsNone}
+use Rattle.tc_bag.specs.Stock.{AddsYounger}
 use Rattle.tc_cascade.specs.Reached.{IsAt}
 use Rattle.tc_cascade.proofs.cascade.run_in.Given as goal
 
@@ -10,6 +10,5 @@ invariant-loop-k l = record {
   count : length l.items.items ≡ l.k;
   saved : l.bag.saved ≡ l.initial.bag.saved;
   next : l.bag.next ≤ l.initial.bag.next + MOST_GOALS * l.k;
-  rises : l.initial.bag.next ≤ l.bag.next;
-  old : AddsNone l.initial.bag.next l.initial.bag.now l.bag.now;
+  adds : AddsYounger l.initial.bag l.bag;
 }

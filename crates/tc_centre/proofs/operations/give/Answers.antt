@@ -17,13 +17,13 @@ returns-in-Whole-clause-gives c =
     let told = c.in_ok-tuple.ensures in
     gives c.args.held.now c.args.place c.args.age c.requires.next c.list.result.now c.index-list-place.result
     c.index-list-place.is c.list.ensures _ c.regime-regime.result c.in_ok-tuple.tuple c.in_ok-tuple.cascade
-    (Whole c.in-Whole.items) c.regime-regime.ensures told.tuple told.phase told.next
-    (record { rows = told.old; next = told.rises }) c.in-Whole.is
+    (Whole c.in-Whole.items) c.regime-regime.ensures told.tuple told.phase told.next told.adds
+    c.in-Whole.is
 
 pub returns-in-Over-clause-gives : goal.returns-in-Over-clause-gives
 returns-in-Over-clause-gives c =
     let told = c.in_ok-tuple.ensures in
     gives c.args.held.now c.args.place c.args.age c.requires.next c.list.result.now c.index-list-place.result
     c.index-list-place.is c.list.ensures _ c.regime-regime.result c.in_ok-tuple.tuple c.in_ok-tuple.cascade
-    (Over c.in-Over.items) c.regime-regime.ensures told.tuple told.phase told.next
-    (record { rows = told.old; next = told.rises }) c.in-Over.is
+    (Over c.in-Over.items) c.regime-regime.ensures told.tuple told.phase told.next told.adds
+    c.in-Over.is

@@ -22,7 +22,7 @@ loop-place-preserved c =
             (known-more c.loop-place.known old new told.rows knows));
         count = subst (λ rs. c.without-known.result.requests ≤ length rs) (sym told.requests)
             (c.without-known.ensures.inside old.pending.now inside knows.count);
-        age = omega (arith, c.without-known.ensures.age, knows.age, told.rows.next);
+        age = omega (arith, c.without-known.ensures.age, knows.age, told.rows.rises);
       };
       answers = answers-more c.args.held.now.history.items old.history.items new.history.items
           c.loop-place.invariant.answers told.answers;

@@ -1,5 +1,4 @@
-use Rattle.std.proofs.lemmas.Result.{on_ok_weaker}
-use Rattle.tc_cascade.proofs.Keeping.{AddsNone-kept_or_undone}
+use Rattle.tc_cascade.proofs.Keeping.{AddsYounger-kept_or_undone}
 use Rattle.tc_phases.specs.Running.{changed, event_in}
 use Rattle.tc_phases.proofs.Unused.{phase-unused}
 use Rattle.tc_phases.proofs.running.run_phase.Goals as goal
@@ -10,10 +9,8 @@ returns-then-not-has_op-clause-phase c =
     c.make.new.bag c.empty.result c.op.result c.has_op.result c.op.ensures c.has_op.ensures c.if-not-has_op.true
     c.empty.ensures c.in_ok-make.ensures.changed
 
-pub returns-clause-old : goal.returns-clause-old
-returns-clause-old c =
+pub returns-clause-adds : goal.returns-clause-adds
+returns-clause-adds c =
     let end = c.make_and_run-end in
-    on_ok_weaker end.result
-    (AddsNone-kept_or_undone end.result c.args.bag.now c.mark.new.self end.new.bag c.keep_or_undo.new.bag
-    c.in_ok-mark.ensures.marked end.ensures.saved c.keep_or_undo.ensures)
-    end.ensures.old
+    AddsYounger-kept_or_undone end.result c.args.bag.now c.mark.new.self end.new.bag c.keep_or_undo.new.bag
+    c.in_ok-mark.ensures.marked end.ensures.saved c.keep_or_undo.ensures.marked end.ensures.adds
