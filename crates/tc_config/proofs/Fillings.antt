@@ -3,14 +3,13 @@ use Rattle.std.proofs.Common.{◌≡◌, ◌<◌, ◌≤◌, ◌+◌, ℕ, zero,
 use Rattle.std.proofs.lemmas.List.{length-map}
 use Rattle.std.proofs.lemmas.List.Elements.{All-weaker}
 use Rattle.std.proofs.lemmas.Option.{get_or_from_slice_get, same_Some}
-use Rattle.tc_term.specs.Tree.{Tree}
 use Rattle.tc_term.specs.TreeView.{tree_of}
 use Rattle.tc_term.specs.declared.terms.Term.{Term}
 use Rattle.tc_model.specs.Reactions.{Rule}
 use Rattle.tc_model.specs.declared.limits.TheConstants.{MOST_CLAUSES}
 use Rattle.tc_model.specs.declared.scripts.ScriptItem.{ScriptItem}
 use Rattle.tc_spec.specs.Written.{IsWrittenAs}
-use Rattle.tc_config.specs.Causes.{IsFaulty, IsFaultless, IsFirstFault, IsProgrammed, rank}
+use Rattle.tc_config.specs.Causes.{IsFaulty, IsFaultless, IsFirstFault, rank}
 use Rattle.tc_config.specs.Configurations.{Configuration, IsConfig, agent_names, centre_names, configuration, items_in}
 use Rattle.tc_config.specs.Drafts.{IsDraft, config_of}
 use Rattle.tc_config.specs.Meanings.{AreItems, changed, with_script}
@@ -23,7 +22,7 @@ use Rattle.tc_config.specs.declared.faults.ConfigCause.TheVariants as cause
 use Rattle.tc_config.specs.declared.forms.Form.TheVariants.{Spec, Script}
 use Rattle.tc_config.specs.declared.forms.Line.{Line}
 use Rattle.tc_config.specs.declared.limits.TheConstants.{MOST_ITEMS}
-use Rattle.tc_config.proofs.Changed.{length-changed, map-changed}
+use Rattle.tc_config.proofs.Changed.{map-changed}
 use Rattle.tc_config.proofs.Growth.{items-scripts}
 use Rattle.tc_config.proofs.Items.{centres-within}
 

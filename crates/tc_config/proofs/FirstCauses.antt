@@ -1,8 +1,8 @@
 -- The first cause of a clause, by its form.
-use Rattle.std.proofs.Common.{◌≡◌, ◌<◌, ℕ, IfErr, Result, Ok, Err, sym, subst, arith}
+use Rattle.std.proofs.Common.{IfErr, Result, Ok, Err, subst}
 use Rattle.tc_term.specs.Tree.{Tree}
 use Rattle.tc_config.specs.Answers.{IsClauseFault, IsTermFault}
-use Rattle.tc_config.specs.Causes.{HasCause, IsFaulty, IsFaultless, IsFirstCause, IsFirstFault, rank}
+use Rattle.tc_config.specs.Causes.{HasCause, IsFaulty, IsFirstCause, IsFirstFault}
 use Rattle.tc_config.specs.Configurations.{Configuration}
 use Rattle.tc_config.specs.Forms.{IsFormOf}
 use Rattle.tc_config.specs.declared.faults.ClauseFault.{ClauseFault}

@@ -1,5 +1,5 @@
 -- Good runs of first choices.
-use Rattle.std.proofs.Common.{ℕ, List}
+use Rattle.std.proofs.Common.{List}
 use Rattle.tc_model.specs.Choices.{AnyOne, TheFirst}
 use Rattle.tc_model.specs.State.{Origin}
 use Rattle.tc_model.specs.declared.entries.Entry.{Entry}

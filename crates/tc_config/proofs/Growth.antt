@@ -1,11 +1,11 @@
 -- Configurations that grow.
-use Rattle.std.proofs.Common.{◌≡◌, ◌≢◌, ◌<◌, ◌≤◌, ◌+◌, ℕ, None, Some, List, [], ◌∷◌, ◌++◌, All, AllPairs, length, sum_by, slice_get, refl, sym, subst, ap, ◌∙◌, arith}
-use Rattle.std.proofs.lemmas.List.{length-map, map_push, length_push}
+use Rattle.std.proofs.Common.{◌≡◌, ◌≢◌, ◌<◌, ◌≤◌, ◌+◌, ℕ, None, Some, List, [], ◌∷◌, ◌++◌, All, AllPairs, length, sum_by, slice_get, refl, sym, subst, arith}
+use Rattle.std.proofs.lemmas.List.{map_push, length_push}
 use Rattle.std.proofs.lemmas.List.Elements.{All-nil, All-push, All-weaker}
 use Rattle.std.proofs.lemmas.List.Sums.{sum_by-append}
 use Rattle.tc_lists.proofs.Elements.{All-slice_get}
 use Rattle.tc_term.specs.Tree.{Tree, IsTuple}
-use Rattle.tc_model.specs.Reactions.{AreClauses, IsRule, Rule}
+use Rattle.tc_model.specs.Reactions.{IsRule, Rule}
 use Rattle.tc_model.specs.Scripts.{Lines}
 use Rattle.tc_model.specs.State.{IsName}
 use Rattle.tc_model.specs.declared.limits.TheConstants.{MOST_CLAUSES, MOST_TUPLES}

@@ -1,5 +1,5 @@
 -- Items of a script and the lines that they stand for.
-use Rattle.std.proofs.Common.{◌≡◌, ◌<◌, ℕ, Some, IfSome, List, [], ◌∷◌, ◌++◌, All, length, refl, sym, ap, ◌∙◌, subst, arith}
+use Rattle.std.proofs.Common.{◌≡◌, ◌<◌, ℕ, Some, IfSome, List, [], ◌∷◌, ◌++◌, All, length, refl, sym, ap, subst, arith}
 use Rattle.std.proofs.lemmas.List.Elements.{All-cons, All-head, All-nil, All-same, All-tail}
 use Rattle.tc_model.specs.Asks.{operand_of}
 use Rattle.tc_model.specs.Within.{HasVarsBelow}

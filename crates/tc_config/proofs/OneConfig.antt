@@ -1,5 +1,5 @@
 -- A text spells one configuration or has one first fault, and not both.
-use Rattle.std.proofs.Common.{◌≡◌, ◌<◌, ◌≤◌, ◌+◌, ◌⊎◌, ℕ, List, [], ◌∷◌, ◌++◌, Option, Some, Result, Ok, Err, IfOk, IfErr, length, slice_get, inl, inr, refl, ap, ap₂, sym, subst, ◌∙◌, arith}
+use Rattle.std.proofs.Common.{◌≡◌, ◌<◌, ◌+◌, ◌⊎◌, ℕ, List, [], ◌∷◌, ◌++◌, Some, Result, Ok, Err, IfOk, IfErr, length, slice_get, inl, inr, refl, ap, ap₂, sym, subst, ◌∙◌, arith}
 use Rattle.std.proofs.lemmas.Option.{same_Some}
 use Rattle.tc_term.specs.Faults.{Answer, Found, Nothing, TooBig, TooMany, WideInt}
 use Rattle.tc_term.specs.Faults as answer
@@ -15,9 +15,8 @@ use Rattle.tc_spec.specs.Texts.{AnswersAt}
 use Rattle.tc_spec.proofs.OneText.{one_answer, found_ends, same_place, same_term}
 use Rattle.tc_config.specs.Answers.{IsConfigFault, IsThisFault, IsWant}
 use Rattle.tc_config.specs.Causes.{HasCause, IsFirstCause, rank}
-use Rattle.tc_config.specs.Configurations.{Configuration, agent_names, centre_names, nothing}
+use Rattle.tc_config.specs.Configurations.{Configuration, centre_names, nothing}
 use Rattle.tc_config.specs.Meanings.{AreItems, ClauseMakes, Means, agent, changed, with_clause, with_script, with_tuple}
-use Rattle.tc_config.specs.Names.{place_of}
 use Rattle.tc_config.specs.Texts.{AreSpelt, HasFault, IsFaultyAt, IsRefused, IsUnread, Spells}
 use Rattle.tc_config.specs.declared.faults.ConfigCause.{ConfigCause}
 use Rattle.tc_config.specs.declared.faults.ConfigCause.TheVariants as cause

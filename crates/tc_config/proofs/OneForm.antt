@@ -1,5 +1,5 @@
 -- A term is written as one form at most.
-use Rattle.std.proofs.Common.{◌≡◌, ℕ, pos, List, [], ◌∷◌, Option, Some, None, if◌then◌else◌, codes, refl, ap, ap₂, sym, ◌∙◌}
+use Rattle.std.proofs.Common.{◌≡◌, ℕ, pos, List, [], ◌∷◌, Some, None, if◌then◌else◌, codes, refl, ap, sym, ◌∙◌}
 use Rattle.std.specs.Str.{bytes_eq}
 use Rattle.tc_term.specs.Tree.{Tree, Atomic, Number, Compound, Last, More}
 use Rattle.tc_term.specs.declared.terms.Term.{Term}

@@ -1,5 +1,5 @@
 -- Clauses that are read one behind another, and what they set up.
-use Rattle.std.proofs.Common.{◌≡◌, ◌<◌, ◌≤◌, ◌+◌, ℕ, None, IfErr, IsErrAnd, Result, Ok, Err, inl, inr, List, [], ◌∷◌, ◌++◌, All, length, length-append, refl, sym, subst, ap, ◌∙◌, arith}
+use Rattle.std.proofs.Common.{◌≡◌, ◌<◌, ◌≤◌, ◌+◌, ℕ, IfErr, IsErrAnd, Result, Ok, Err, inl, inr, List, [], ◌∷◌, ◌++◌, All, length, length-append, refl, sym, subst, arith}
 use Rattle.std.proofs.lemmas.List.Elements.{All-nil, All-push, All-weaker}
 use Rattle.tc_lists.proofs.Elements.{All-slice_get}
 use Rattle.tc_term.specs.Faults.{Found, Nothing}
@@ -9,11 +9,11 @@ use Rattle.tc_model.specs.declared.limits.TheConstants.{MOST_TUPLES}
 use Rattle.tc_policy.specs.Places.{grant}
 use Rattle.tc_spec.specs.Texts.{AnswersAt}
 use Rattle.tc_config.specs.Answers.{IsConfigFault, IsFaultAt}
-use Rattle.tc_config.specs.Causes.{IsFaulty, IsFirstCause}
+use Rattle.tc_config.specs.Causes.{IsFaulty}
 use Rattle.tc_config.specs.Configurations.{Configuration, nothing}
 use Rattle.tc_config.specs.Drafts.{HasRoom, IsOfClauses}
-use Rattle.tc_config.specs.Meanings.{ClauseMakes, Means, agent, centre, changed, with_clause, with_script, with_tuple}
-use Rattle.tc_config.specs.Texts.{AreSpelt, HasFault, IsFaultyAt, IsRefused, IsUnread, Spells}
+use Rattle.tc_config.specs.Meanings.{ClauseMakes, Means, centre, changed, with_clause, with_tuple}
+use Rattle.tc_config.specs.Texts.{AreSpelt, HasFault, IsFaultyAt, IsRefused, Spells}
 use Rattle.tc_config.specs.declared.configs.CentreConf.{CentreConf}
 use Rattle.tc_config.specs.declared.faults.ConfigCause.{ConfigCause}
 use Rattle.tc_config.specs.declared.faults.ConfigCause.TheVariants as cause

@@ -1,9 +1,8 @@
 -- What stands in a clause is within its limits.
-use Rattle.std.proofs.Common.{◌≡◌, ◌≤◌, ◌+◌, ℕ, max, IfSome, List, [], ◌∷◌, All, Option, Some, None, codes}
+use Rattle.std.proofs.Common.{ℕ, IfSome, List, [], ◌∷◌, All, codes}
 use Rattle.std.proofs.lemmas.List.Elements.{All-cons, All-nil}
-use Rattle.tc_term.specs.Tree.{Fits, Compound, Last, More, Atomic}
+use Rattle.tc_term.specs.Tree.{Atomic}
 use Rattle.tc_term.specs.TreeView.{tree_of}
-use Rattle.tc_term.specs.Variables.{var_bound}
 use Rattle.tc_model.specs.Asks.{operand_of}
 use Rattle.tc_model.specs.Within.{HasVarsBelow}
 use Rattle.tc_model.specs.declared.asks.Ask.{Ask}

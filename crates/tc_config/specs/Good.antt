@@ -9,11 +9,10 @@ use Rattle.tc_model.specs.Run.{IsRunBy}
 use Rattle.tc_model.specs.State.{Origin, IsQuiescent, origin_from, opening, after_history}
 use Rattle.tc_model.specs.declared.asks.Ask.{Ask}
 use Rattle.tc_model.specs.declared.asks.Primitive.{Primitive}
-use Rattle.tc_model.specs.declared.calls.CallId.{CallId}
 use Rattle.tc_model.specs.declared.entries.Entry.{Entry}
 use Rattle.tc_model.specs.declared.entries.Entry.TheVariants.{Called, Gave, Looked}
 use Rattle.tc_desk.specs.Asks.{ScriptStep, steps_of, IsAsk}
-use Rattle.tc_desk.specs.Logs.{any_pending, is_served, results_of}
+use Rattle.tc_desk.specs.Logs.{any_pending, is_served, results_of, PendsLast}
 use Rattle.tc_desk.specs.Served.{IsResult}
 use Rattle.tc_desk.specs.declared.rows.LogRow.{LogRow}
 use Rattle.tc_desk.specs.declared.rows.LogResult.TheVariants.{Pending}
@@ -83,7 +82,7 @@ pub record IsServedNumber (a : AgentConf) (log : List LogRow) (place number : �
 pub record Follows (c : Configuration) (histories : List (List Entry)) (agent : ℕ) (a : AgentConf)
     (log : List LogRow) : Type 0 where
   pub rows : (k : ℕ) (row : LogRow) → slice_get log k ≡ Some row → IsRow c histories agent a log k row
-  pub last : (k : ℕ) (row : LogRow) → slice_get log k ≡ Some row → row.result ≡ Pending → k + 1 ≡ length log
+  pub last : PendsLast log
   pub calls : (place : ℕ) (history : List Entry) → slice_get histories place ≡ Some history
       → All (λ e. IsServedNumber a log place (id_of e).number) (calls_of agent history)
 
@@ -98,9 +97,11 @@ pub record AllFollow (c : Configuration) (histories : List (List Entry)) (logs :
 -- and where none is pending each item has its row
 pub record IsEnded (histories : List (List Entry)) (agent : ℕ) (a : AgentConf) (log : List LogRow)
     : Type 0 where
-  pub waits : (k : ℕ) (row : LogRow) (step : ScriptStep) (history : List Entry) → slice_get log k ≡ Some row
-      → row.result ≡ Pending → slice_get (steps_of a.scripts) k ≡ Some step
-      → slice_get histories step.item.centre ≡ Some history → reply_in history (call_of agent (k + 1)) ≡ None
+  pub waits : (k : ℕ) (row : LogRow) (step : ScriptStep) (history : List Entry)
+      → slice_get log k ≡ Some row → row.result ≡ Pending
+      → slice_get (steps_of a.scripts) k ≡ Some step
+      → slice_get histories step.item.centre ≡ Some history
+      → reply_in history (call_of agent (k + 1)) ≡ None
   pub complete : any_pending log ≡ false → length log ≡ length (steps_of a.scripts)
 
 -- histories and logs of a run of the configuration that may go on

@@ -4,7 +4,6 @@ use Rattle.tc_term.specs.Tree.{Tree}
 use Rattle.tc_term.specs.TreeView.{tree_of}
 use Rattle.tc_term.specs.Variables.{var_bound}
 use Rattle.tc_model.specs.Reactions.{Rule}
-use Rattle.tc_model.specs.Scripts.{Lines}
 use Rattle.tc_model.specs.declared.scripts.ScriptItem.{ScriptItem}
 use Rattle.tc_policy.specs.Places.{grant}
 use Rattle.tc_spec.specs.Written.{IsWrittenAs}

@@ -1,5 +1,5 @@
 //! Clauses that declare: centres, roles and agents.
-ghost use Rattle.std.specs.Prelude.{◌≡◌, ◌≤◌, IfErr, IfSome, OnOk, length};
+ghost use Rattle.std.specs.Prelude.{◌≤◌, IfErr, IfSome, OnOk, length};
 ghost use Rattle.tc_model.specs.State.{IsName};
 ghost use Rattle.tc_model.specs.declared.limits.TheConstants.{MOST_BUDGET, MOST_NAME_BYTES};
 ghost use Rattle.tc_config.specs.Answers.{IsClauseFault};

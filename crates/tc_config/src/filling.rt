@@ -1,6 +1,6 @@
 //! Clauses that add to what is declared: tuples and reactions of centres, grants, scripts of agents.
 ghost use Rattle.std.specs.Prelude.{◌≡◌, ◌<◌, ◌≤◌, All, Any, IfErr, IfNone, IfOk, IfSome};
-ghost use Rattle.std.specs.Prelude.{IsTrue, List, OnOk, Some, length, slice_get};
+ghost use Rattle.std.specs.Prelude.{IsTrue, OnOk, Some, length, slice_get};
 ghost use Rattle.tc_term.specs.NameBytes.{has_read_names};
 ghost use Rattle.tc_term.specs.Tree.{Fits, IsTuple};
 ghost use Rattle.tc_term.specs.TreeView.{tree_of};

@@ -1,15 +1,13 @@
 -- In a run each call has a reply that its operation may have.
-use Rattle.std.proofs.Common.{◌≡◌, ℕ, ◌+◌, ◌<◌, ◌≤◌, ◌⊎◌, inl, inr, Bool, true, false, if◌then◌else◌, List, [], ◌∷◌, ◌++◌, Option, Some, None, All, Contains, length, get_or, take, drop, refl, sym, ap, ◌∙◌, subst, arith, ⊎_elim}
+use Rattle.std.proofs.Common.{◌≡◌, ℕ, ◌+◌, ◌<◌, ◌≤◌, ◌⊎◌, inl, inr, Bool, true, false, if◌then◌else◌, List, [], ◌∷◌, ◌++◌, Option, Some, None, All, Contains, take, drop, refl, sym, ap, ◌∙◌, subst, arith, ⊎_elim}
 use Rattle.std.specs.List.{slice_get}
-use mathlib.Core.List.{IsPrefix}
-use Rattle.std.proofs.lemmas.Bool.{cases_Bool, cases_eq, cases_lt, true≢false}
+use Rattle.std.proofs.lemmas.Bool.{cases_eq, cases_lt, true≢false}
 use Rattle.std.proofs.lemmas.List.{take-append-drop, take_more}
 use Rattle.std.proofs.lemmas.List.Elements.{All-nil, All-cons, All-tail, All-push, All-weaker, All-contains, Contains-append_left, Contains-append_right, Contains-push}
 use Rattle.std.proofs.lemmas.Option.{none-some, same_Some}
 use Rattle.tc_lists.proofs.Places.{slice_get-take, Contains-slice_get, slice_get-Contains}
 use Rattle.tc_term.specs.Tree.{Tree}
-use Rattle.tc_term.specs.TreeView.{tree_of}
-use Rattle.tc_model.specs.Calls.{id_of, calls_of, same_id}
+use Rattle.tc_model.specs.Calls.{same_id}
 use Rattle.tc_model.specs.Choices.{AnyOne}
 use Rattle.tc_model.specs.Replies.{reply_of, reply_in, outcome_in, outcome_given, or_given}
 use Rattle.tc_model.specs.Run.{HasCall, IsAnswered, IsFirstRun, IsLegal, IsRun}

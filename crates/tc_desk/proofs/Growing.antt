@@ -1,8 +1,8 @@
 -- Logs that agree, as histories go on, rows are put behind them, and pending rows get their replies.
-use Rattle.std.proofs.Common.{◌≡◌, ℕ, zero, suc, ◌+◌, ◌<◌, ◌≤◌, true, false, List, [], ◌∷◌, ◌++◌, Option, Some, None, All, Contains, length, refl, sym, ap, ◌∙◌, subst, arith, ⊎_elim}
+use Rattle.std.proofs.Common.{◌≡◌, ℕ, zero, suc, ◌+◌, ◌<◌, ◌≤◌, true, false, List, [], ◌∷◌, ◌++◌, Option, Some, All, Contains, length, refl, sym, ap, ◌∙◌, subst, arith, ⊎_elim}
 use Rattle.std.specs.List.{slice_get}
 use Rattle.std.proofs.lemmas.Bool.{cases_eq, true≢false}
-use Rattle.std.proofs.lemmas.List.{append-nil, length-append}
+use Rattle.std.proofs.lemmas.List.{append-nil}
 use Rattle.std.proofs.lemmas.List.Elements.{All-nil, All-weaker, Contains-append_left}
 use Rattle.std.proofs.lemmas.Option.{none-some, same_Some, slice_get_within}
 use Rattle.tc_desk.specs.Agreeing.{Agrees, AgreesRefused, AgreesRow, AreLonger, HasComeTo, HasPolled, HasReply, HasRow, HasWaited, HaveRows, IsLastServed, IsLonger, IsMadeBy, IsNextRow, NamesCentre}
@@ -14,9 +14,8 @@ use Rattle.tc_desk.specs.declared.rows.LogRow.{LogRow}
 use Rattle.tc_desk.specs.declared.rows.Refusal.{Refusal}
 use Rattle.tc_desk.specs.declared.rows.Refusal.TheVariants as refusal
 use Rattle.tc_desk.proofs.Histories.{IsServedAs-append, WasFull-append}
-use Rattle.tc_lists.proofs.Places.{slice_get_longer, slice_get_push, slice_get_pushed, slice_get_shorter, slice_get_seam, slice_get_beside}
+use Rattle.tc_lists.proofs.Places.{slice_get_longer, slice_get_push, slice_get_shorter, slice_get_seam, slice_get_beside}
 use Rattle.tc_model.specs.Calls.{id_of, calls_of, call_of}
-use Rattle.tc_model.specs.Replies.{reply_in}
 use Rattle.tc_model.specs.State.{Origin}
 use Rattle.tc_model.specs.declared.calls.CallId.{CallId}
 use Rattle.tc_model.specs.declared.entries.Entry.{Entry}

@@ -13,7 +13,6 @@ use Rattle.tc_model.specs.declared.items.Item.{Item}
 use Rattle.tc_model.specs.declared.outcomes.Outcome.TheVariants as outcome
 use Rattle.tc_model.specs.declared.outcomes.Reply.{Reply}
 use Rattle.tc_desk.specs.Logs.{is_served}
-use Rattle.tc_desk.specs.Operands.{OpOf, Sound}
 use Rattle.tc_desk.specs.Served.{IsServedAs, WasFull}
 use Rattle.tc_desk.specs.declared.rows.LogRow.{LogRow}
 use Rattle.tc_desk.specs.declared.rows.LogResult.{LogResult}
@@ -64,7 +63,8 @@ AgreesRefused origin history id refusal.TurnsSpent = Unit {0}
 AgreesRefused origin history id refusal.NoMemory = ⊥
 
 -- the row at place k of the log agrees with the history of its centre
-abbrev pub AgreesRow : Origin → List Entry → CallId → List LogRow → ℕ → LogRow → LogResult → Type 0
+abbrev pub AgreesRow :
+    Origin → List Entry → CallId → List LogRow → ℕ → LogRow → LogResult → Type 0
 AgreesRow origin history id log k row (Replied reply) = HasComeTo origin history id row (Replied reply)
 AgreesRow origin history id log k row Pending =
     HasComeTo origin history id row Pending × HasWaited history id
@@ -104,16 +104,18 @@ NamesCentre names centre (Polled told) = Contains names centre
 
 -- an agent's log agrees with the histories of the centres of these names: the rows are numbered from 1
 -- on and name these centres, what each says is so, and whatever the agent has made there has its row
-pub record Agrees (origins : List Origin) (names : List (List ℕ)) (histories : List (List Entry)) (agent : ℕ)
-    (log : List LogRow) : Type 0 where
+pub record Agrees (origins : List Origin) (names : List (List ℕ)) (histories : List (List Entry))
+    (agent : ℕ) (log : List LogRow) : Type 0 where
   pub numbers : (k : ℕ) (row : LogRow) → slice_get log k ≡ Some row → row.number ≡ k + 1
-  pub known : (k : ℕ) (row : LogRow) → slice_get log k ≡ Some row → NamesCentre names row.centre row.result
+  pub known : (k : ℕ) (row : LogRow) → slice_get log k ≡ Some row
+      → NamesCentre names row.centre row.result
   pub rows : (k place : ℕ) (row : LogRow) (origin : Origin) (history : List Entry)
       → slice_get log k ≡ Some row → slice_get names place ≡ Some row.centre
       → slice_get origins place ≡ Some origin → slice_get histories place ≡ Some history
       → AgreesRow origin history (call_of agent (k + 1)) log k row row.result
-  pub calls : (place : ℕ) (centre : List ℕ) (history : List Entry) → slice_get names place ≡ Some centre
-      → slice_get histories place ≡ Some history → All (HasRow log centre) (calls_of agent history)
+  pub calls : (place : ℕ) (centre : List ℕ) (history : List Entry)
+      → slice_get names place ≡ Some centre → slice_get histories place ≡ Some history
+      → All (HasRow log centre) (calls_of agent history)
 
 -- the history has gone on, and whatever the agent has made since has a number above this one
 pub record IsLonger (agent top : ℕ) (old new : List Entry) : Type 0 where
@@ -138,13 +140,15 @@ pub record IsNextRow (origins : List Origin) (names : List (List ℕ)) (historie
     (agent : ℕ) (log : List LogRow) (row : LogRow) : Type 0 where
   pub counted : row.number ≡ length log + 1
   pub known : NamesCentre names row.centre row.result
-  pub agrees : (place : ℕ) (origin : Origin) (history : List Entry) → slice_get names place ≡ Some row.centre
-      → slice_get origins place ≡ Some origin → slice_get histories place ≡ Some history
+  pub agrees : (place : ℕ) (origin : Origin) (history : List Entry)
+      → slice_get names place ≡ Some row.centre → slice_get origins place ≡ Some origin
+      → slice_get histories place ≡ Some history
       → AgreesRow origin history (call_of agent (length log + 1)) log (length log) row row.result
 
 -- the pending row has this reply in the history of its centre
-pub record HasReply (names : List (List ℕ)) (histories : List (List Entry)) (agent place : ℕ) (row : LogRow)
-    (reply : Reply) : Type 0 where
+pub record HasReply (names : List (List ℕ)) (histories : List (List Entry)) (agent place : ℕ)
+    (row : LogRow) (reply : Reply) : Type 0 where
   pub pending : row.result ≡ Pending
   pub told : (k : ℕ) (history : List Entry) → slice_get names k ≡ Some row.centre
-      → slice_get histories k ≡ Some history → reply_in history (call_of agent (place + 1)) ≡ Some reply
+      → slice_get histories k ≡ Some history
+      → reply_in history (call_of agent (place + 1)) ≡ Some reply

@@ -70,7 +70,8 @@ equations place (s ∷ ss) (r ∷ rs) =
 pub record AreValues (vars : ℕ) (es : List Equation) (values : List (Option Tree)) : Type 0 where
   pub whole : length values ≡ vars
   pub some : (n : ℕ) (v : Tree) → slice_get values n ≡ Some (Some v) → HasValue vars es (Variable n) v
-  pub none : (n : ℕ) → slice_get values n ≡ Some None → (v : Tree) → HasValue vars es (Variable n) v → ⊥
+  pub none : (n : ℕ) → slice_get values n ≡ Some None → (v : Tree)
+      → HasValue vars es (Variable n) v → ⊥
 
 -- a variable's value; where it has none, the variable
 abbrev pub value_or_variable : ℕ → Option Tree → Tree

@@ -1,5 +1,5 @@
 -- Which rows are refused for their operand, and which for want of a grant.
-use Rattle.std.specs.Prelude.{◌≡◌, ℕ, List, Option, Some, slice_get}
+use Rattle.std.specs.Prelude.{◌≡◌, ℕ, List, Some, slice_get}
 use Rattle.tc_model.specs.Asks.{primitive_of}
 use Rattle.tc_model.specs.declared.asks.Ask.{Ask}
 use Rattle.tc_model.specs.declared.asks.Primitive.{Primitive}

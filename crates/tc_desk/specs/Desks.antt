@@ -1,5 +1,5 @@
 -- What contracts see of a desk, and what its calls do to it.
-use Rattle.std.specs.Prelude.{◌≡◌, ◌≢◌, ℕ, ◌+◌, ◌<◌, ◌≤◌, List, [], ◌∷◌}
+use Rattle.std.specs.Prelude.{◌≡◌, ◌≢◌, ℕ, ◌+◌, ◌≤◌, List, [], ◌∷◌}
 use Rattle.std.specs.Prelude.{◌++◌, Bool, true, false, Option, Some, None}
 use Rattle.std.specs.Prelude.{◌⊎◌, length, slice_index, slice_get, Contains, Ok, Err}
 use Rattle.std.specs.declared.result.Result.{Result}
@@ -189,7 +189,7 @@ Looks d seen.Answered e = Gets d e × TakesTurnAtPending d e
 Looks d seen.StillPending e = (e.log ≡ d.log) × (e.waits ≡ true) × TakesTurnAtPending d e
 
 -- no turn is left at the centre of the pending row
-pub record IsSpent (d : DeskState) : Type 0 where
+pub record HasNoTurnLeft (d : DeskState) : Type 0 where
   pub row : LogRow
   pub is : IsPendingRow d.log row
   pub none : HasNoTurn d row.centre
@@ -198,7 +198,7 @@ pub record IsSpent (d : DeskState) : Type 0 where
 -- or where none was taken
 abbrev pub CanStay : DeskState → DeskFault → DeskState → Type 0
 CanStay d fault.Idle e = (any_pending d.log ≡ false) × (e ≡ d)
-CanStay d fault.TurnsSpent e = IsSpent d × (e ≡ d)
+CanStay d fault.TurnsSpent e = HasNoTurnLeft d × (e ≡ d)
 CanStay d (fault.Full weight pending) e = ⊥
 CanStay d fault.NoMemory e = (any_pending d.log ≡ true) × (StandsStill d e ⊎ TakesTurnAtPending d e)
 
@@ -211,7 +211,7 @@ pub record Stays (d : DeskState) (why : DeskFault) (e : DeskState) : Type 0 wher
 -- has no reply in what is seen; or memory ran out
 abbrev pub CanLeave : DeskState → DeskFault → DeskState → Type 0
 CanLeave d fault.Idle e = (any_pending d.log ≡ false) × (e ≡ d)
-CanLeave d fault.TurnsSpent e = IsSpent e × ((e.waits ≡ true) ⊎ (IsSpent d × (e ≡ d)))
+CanLeave d fault.TurnsSpent e = HasNoTurnLeft e × ((e.waits ≡ true) ⊎ (HasNoTurnLeft d × (e ≡ d)))
 CanLeave d (fault.Full weight pending) e = ⊥
 CanLeave d fault.NoMemory e = any_pending d.log ≡ true
 

@@ -1,5 +1,4 @@
 -- Which results fit an ask.
-use Rattle.std.specs.Prelude.{List, ℕ}
 use Rattle.tc_term.specs.Tree.{Tree}
 use Rattle.tc_term.specs.TreeView.{tree_of}
 use Rattle.tc_term.specs.Variables.{renumbered}

@@ -5,5 +5,6 @@ pub mod Served
 pub mod Text
 pub mod Decided
 pub mod Fits
+pub mod Typed
 pub mod Desks
 pub mod Agreeing

@@ -1,5 +1,5 @@
 -- What a log says.
-use Rattle.std.specs.Prelude.{Bool, true, false, List, Vec, map}
+use Rattle.std.specs.Prelude.{◌≡◌, ℕ, ◌+◌, Bool, true, false, List, Vec, map, length, Some, slice_get}
 use Rattle.std.specs.Global.{Global}
 use Rattle.std.specs.List.{list_any}
 use Rattle.tc_desk.specs.declared.rows.LogRow.{LogRow}
@@ -31,6 +31,11 @@ rows_of logs = map (λ (log : Vec LogRow Global). log.items) logs
 -- whether some row of the log is pending
 abbrev pub any_pending : List LogRow → Bool
 any_pending log = list_any (λ row. is_pending row.result) log
+
+-- only the last row of the log may be pending
+abbrev pub PendsLast : List LogRow → Type 0
+PendsLast log = (k : ℕ) (row : LogRow) → slice_get log k ≡ Some row → row.result ≡ Pending
+    → k + 1 ≡ length log
 
 -- whether some agent's ask is pending
 abbrev pub is_blocked : List (List LogRow) → Bool

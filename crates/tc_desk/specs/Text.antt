@@ -94,7 +94,8 @@ effects_text effects = flat_map effect_text effects
 abbrev pub item_text : Item → List ℕ
 item_text (Fired pick clause effects) =
     joined (
-    codes "  " ∷ decimal pick ∷ codes " fired " ∷ decimal clause ∷ effects_text effects ∷ codes "\n" ∷ [])
+    codes "  " ∷ decimal pick ∷ codes " fired " ∷ decimal clause ∷ effects_text effects ∷
+    codes "\n" ∷ [])
 item_text (Failed pick clause goal effects) =
     joined (
     codes "  " ∷ decimal pick ∷ codes " failed " ∷ decimal clause ∷ codes " at " ∷ decimal goal ∷
@@ -105,22 +106,23 @@ items_text items = flat_map item_text items
 
 -- the agent's name, of these, and the number of a call
 abbrev pub call_text : List (List ℕ) → CallId → List ℕ
-call_text agents id = joined (atom_text (get_or agents id.agent []) ∷ codes " " ∷ decimal id.number ∷ [])
+call_text agents id =
+    joined (atom_text (get_or agents id.agent []) ∷ codes " " ∷ decimal id.number ∷ [])
 
 -- the line of an entry, and those of its reactions
 abbrev pub entry_text : List (List ℕ) → Entry → List ℕ
 entry_text agents (Called id op result items) =
     joined (
-    codes "call " ∷ call_text agents id ∷ codes " " ∷ op_text op ∷ codes " = " ∷ outcome_text result ∷
-    codes "\n" ∷ items_text items ∷ [])
+    codes "call " ∷ call_text agents id ∷ codes " " ∷ op_text op ∷ codes " = " ∷
+    outcome_text result ∷ codes "\n" ∷ items_text items ∷ [])
 entry_text agents (Gave id result items) =
     joined (
     codes "give " ∷ call_text agents id ∷ codes " = " ∷ outcome_text result ∷
     codes "\n" ∷ items_text items ∷ [])
 entry_text agents (Looked id asked told) =
     joined (
-    codes "look " ∷ call_text agents id ∷ codes " " ∷ decimal asked ∷ codes " = " ∷ told_text told ∷
-    codes "\n" ∷ [])
+    codes "look " ∷ call_text agents id ∷ codes " " ∷ decimal asked ∷ codes " = " ∷
+    told_text told ∷ codes "\n" ∷ [])
 
 -- what is wrong with a clause
 abbrev pub cause_text : SpecCause → List ℕ
@@ -134,7 +136,8 @@ cause_text Count = codes "count"
 -- that a centre was full; since version 2, what it weighed and how many requests were pending
 abbrev pub full_text : Version → ℕ → ℕ → List ℕ
 full_text One weight pending = codes "full"
-full_text Two weight pending = joined (codes "full " ∷ decimal weight ∷ codes " " ∷ decimal pending ∷ [])
+full_text Two weight pending =
+    joined (codes "full " ∷ decimal weight ∷ codes " " ∷ decimal pending ∷ [])
 
 -- why an ask was not served
 abbrev pub refusal_text : Version → Refusal → List ℕ

@@ -73,7 +73,8 @@ pub fn logs_go_on_agreeing()
     ensures row { (origins : List Origin) (names : List (List ℕ)) (olds news : List (List Entry))
         (agent : ℕ) (log : List LogRow) (row : LogRow) → Agrees origins names olds agent log
         → AreLonger agent (length log) olds news → IsNextRow origins names news agent log row
-        → HaveRows names news agent (log ++ row ∷ []) → Agrees origins names news agent (log ++ row ∷ []) }
+        → HaveRows names news agent (log ++ row ∷ [])
+        → Agrees origins names news agent (log ++ row ∷ []) }
     ensures answered { (origins : List Origin) (names : List (List ℕ)) (histories : List (List Entry))
         (agent : ℕ) (front : List LogRow) (row : LogRow) (back : List LogRow) (reply : Reply)
         → Agrees origins names histories agent (front ++ row ∷ back)

@@ -15,6 +15,7 @@ mod desks;
 mod gates;
 mod laws;
 mod rows;
+mod typed;
 mod wardens;
 
 pub use desks::{Desk, DeskFault, Seen, Served};
@@ -24,4 +25,5 @@ pub use laws::{
     scripts_ask_one_thing, scripts_fix_what_they_need, text_grows_by_parts,
 };
 pub use rows::{LogResult, LogRow, Refusal, has_pending};
+pub use typed::rows_are_typed;
 pub use wardens::Warden;

@@ -1,5 +1,5 @@
 -- A run of first choices whose calls are typed is typed.
-use Rattle.std.proofs.Common.{◌≡◌, ℕ, Some, None, IfSome, if◌then◌else◌, true, false, List, [], ◌∷◌, ◌++◌, All, slice_get, take}
+use Rattle.std.proofs.Common.{◌≡◌, ℕ, Some, None, IfSome, if◌then◌else◌, true, false, List, [], ◌∷◌, ◌++◌, All, take}
 use Rattle.std.proofs.Common.{sym, subst, arith}
 use Rattle.std.proofs.lemmas.List.Elements.{All-nil, All-cons, All-head, All-tail, All-push, All-take, All-contains}
 use Rattle.std.proofs.lemmas.Option.{slice_get_within}

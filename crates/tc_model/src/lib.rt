@@ -46,7 +46,7 @@ pub use limits::{
     MOST_BUDGET, MOST_CLAUSES, MOST_GOALS, MOST_NAME_BYTES, MOST_TUPLES, MOST_WEIGHT,
 };
 pub use origins::{OriginFault, check_origin};
-pub use outcomes::{Outcome, Reply};
+pub use outcomes::{Outcome, Reply, bytes_fit};
 pub use reactions::{Clauses, Reaction};
 pub use scripts::{Script, ScriptItem};
 pub use tc_lists::NoMemory;

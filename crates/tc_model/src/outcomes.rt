@@ -40,6 +40,21 @@ pub enum Outcome {
 }
 
 impl Reply {
+    ghost use Rattle.tc_model.specs.Typed.{IsTypedReply};
+
+    /// Tells contracts what the reply's type promises, and does nothing.
+    pub fn typed(&self)
+        ensures { IsTypedReply self.now }
+    {
+        match self {
+            Reply::Tuple(tuple) => {
+                let _term = tuple.term();
+            }
+            Reply::Spec(text) => bytes_fit(text.items()),
+            Reply::Done | Reply::NoTuple | Reply::OverBudget(_) => {}
+        }
+    }
+
     /// An equal reply.
     pub fn copy(&self, alloc: Global) -> Result<Reply, NoMemory>
         ensures { IfOk result (λ reply. reply ≡ self.now) }
@@ -88,8 +103,8 @@ impl Outcome {
     }
 }
 
-// Each byte is one.
-fn bytes_fit(bytes: &[u8])
+/// Tells contracts that each byte is one, and does nothing.
+pub fn bytes_fit(bytes: &[u8])
     ensures { AreBytes bytes.now }
 {
     let _length = bytes.len();

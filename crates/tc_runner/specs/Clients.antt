@@ -4,7 +4,7 @@ use Rattle.std.specs.Prelude.{Option, Some, None, slice_get}
 use Rattle.tc_asks.specs.Progress.{HasTakenIn}
 use Rattle.tc_config.specs.declared.configs.AgentConf.{AgentConf}
 use Rattle.tc_desk.specs.Asks.{ScriptStep, steps_of}
-use Rattle.tc_desk.specs.Logs.{any_pending}
+use Rattle.tc_desk.specs.Logs.{any_pending, PendsLast}
 use Rattle.tc_desk.specs.declared.rows.LogRow.{LogRow}
 use Rattle.tc_desk.specs.declared.rows.LogResult.{LogResult}
 use Rattle.tc_desk.specs.declared.rows.LogResult.TheVariants.{Replied, Pending, Refused, Polled}
@@ -24,7 +24,7 @@ pub record IsWaiting (scripts : List Lines) (log : List LogRow) (place : ℕ) : 
 
 -- only the last row may be pending, and each row is one of an item
 pub record IsLog (scripts : List Lines) (log : List LogRow) : Type 0 where
-  pub last : (k : ℕ) (row : LogRow) → slice_get log k ≡ Some row → row.result ≡ Pending → k + 1 ≡ length log
+  pub last : PendsLast log
   pub within : length log ≤ length (steps_of scripts)
 
 -- where the agent waits, if it does

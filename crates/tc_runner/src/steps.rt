@@ -1,6 +1,6 @@
 //! One step of an agent.
 ghost use Rattle.std.specs.Prelude.{◌≡◌, ◌<◌, ◌++◌, ◌∷◌, [], false, length};
-ghost use Rattle.std.specs.Prelude.{IfOk, OnErr, OnOk, vec_len, vec_capacity};
+ghost use Rattle.std.specs.Prelude.{IfOk, OnErr, vec_len, vec_capacity};
 ghost use Rattle.tc_asks.specs.Nexts.{IsNextAsk};
 ghost use Rattle.tc_desk.specs.Logs.{any_pending};
 ghost use Rattle.tc_model.specs.Replies.{reply_in};

@@ -1,11 +1,11 @@
 -- Agents at their desks, and the rows of their scripts.
-use Rattle.std.specs.Prelude.{◌≡◌, ℕ, ◌+◌, List, length, take, slice_get, Option, Some, IfSome}
+use Rattle.std.specs.Prelude.{◌≡◌, ℕ, ◌+◌, List, take, slice_get, Option, Some, IfSome}
 use Rattle.tc_model.specs.Scripts.{Lines}
 use Rattle.tc_model.specs.declared.asks.Ask.{Ask}
 use Rattle.tc_asks.specs.Progress.{Progress, HasTakenIn}
 use Rattle.tc_desk.specs.Asks.{ScriptStep, IsAsk}
 use Rattle.tc_desk.specs.Desks.{DeskState}
-use Rattle.tc_desk.specs.Logs.{results_of}
+use Rattle.tc_desk.specs.Logs.{results_of, PendsLast}
 use Rattle.tc_desk.specs.declared.rows.LogRow.{LogRow}
 use Rattle.tc_desk.specs.declared.rows.LogResult.{LogResult}
 use Rattle.tc_desk.specs.declared.rows.LogResult.TheVariants.{Replied, Pending, Refused, Polled}
@@ -35,8 +35,8 @@ IsItemResult (Polled told) = ⊥
 
 -- the row at place k is that of the item at this place: it has the item's number and centre, what the
 -- item asks after the rows before, and what that may have come to
-pub record IsItemRow (names : List (List ℕ)) (scripts : List Lines) (log : List LogRow) (k : ℕ) (row : LogRow)
-    : Type 0 where
+pub record IsItemRow (names : List (List ℕ)) (scripts : List Lines) (log : List LogRow) (k : ℕ)
+    (row : LogRow) : Type 0 where
   pub number : row.number ≡ k + 1
   pub step : ScriptStep
   pub asked : Ask
@@ -48,7 +48,7 @@ pub record IsItemRow (names : List (List ℕ)) (scripts : List Lines) (log : Lis
 -- the rows are those of the scripts' first items, and only the last may be pending
 pub record IsOfScripts (names : List (List ℕ)) (scripts : List Lines) (log : List LogRow) : Type 0 where
   pub rows : (k : ℕ) (row : LogRow) → slice_get log k ≡ Some row → IsItemRow names scripts log k row
-  pub last : (k : ℕ) (row : LogRow) → slice_get log k ≡ Some row → row.result ≡ Pending → k + 1 ≡ length log
+  pub last : PendsLast log
 
 -- the desk's rows are those of the scripts, and the asker, if there is one, fits them
 pub record IsActor (desk : DeskState) (scripts : List Lines) (asker : Option Progress) : Type 0 where

@@ -1,7 +1,6 @@
-use Rattle.std.proofs.Common.{codes, ap, subst, ◌∙◌, arith}
+use Rattle.std.proofs.Common.{codes, ap, subst, arith}
 use Rattle.tc_term.specs.Tree.{Atomic, Fits}
 use Rattle.tc_term.specs.Variables.{var_bound}
-use Rattle.tc_model.specs.Within.{HasVarsBelow}
 use Rattle.tc_model.proofs.Rules.{HasVarsBelow-second}
 use Rattle.tc_config.specs.Forms.{form_term, lines_term}
 use Rattle.tc_config.specs.declared.forms.Form.{Form}

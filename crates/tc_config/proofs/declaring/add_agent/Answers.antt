@@ -1,4 +1,4 @@
-use Rattle.std.proofs.Common.{◌++◌, ◌∷◌, [], Some, ap, subst, sym, ◌∙◌, rules, arith}
+use Rattle.std.proofs.Common.{◌++◌, ◌∷◌, [], ap, subst, sym, ◌∙◌, rules, arith}
 use Rattle.tc_lists.proofs.Options.{none_from_is_some}
 use Rattle.tc_model.specs.State.{IsName}
 use Rattle.tc_config.specs.Configurations.{configuration}

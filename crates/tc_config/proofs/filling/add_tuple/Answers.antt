@@ -1,7 +1,7 @@
 use Rattle.std.proofs.Common.{ap, refl, sym, ◌∙◌, rules}
 use Rattle.std.specs.Vec.{with_items}
 use Rattle.tc_term.specs.TreeView.{tree_of}
-use Rattle.tc_config.specs.Configurations.{IsConfig, centre_names, configuration}
+use Rattle.tc_config.specs.Configurations.{centre_names, configuration}
 use Rattle.tc_config.specs.Drafts.{config_of}
 use Rattle.tc_config.specs.Meanings.{changed, with_tuple}
 use Rattle.tc_config.proofs.Changed.{refilled-changed}

@@ -1,4 +1,4 @@
-use Rattle.std.proofs.Common.{◌≡◌, IsTrue, refl, sym, subst, ◌∙◌}
+use Rattle.std.proofs.Common.{IsTrue, refl, sym, subst, ◌∙◌}
 use Rattle.tc_term.proofs.Numbered.{renumbered-pattern}
 use Rattle.tc_term.specs.NameBytes.{has_read_names}
 use Rattle.tc_term.specs.TreeView.{tree_of}

@@ -1,4 +1,4 @@
-use Rattle.std.proofs.Common.{ap, sym, ◌∙◌}
+use Rattle.std.proofs.Common.{sym, ◌∙◌}
 use Rattle.tc_term.specs.TreeView.{tree_of}
 use Rattle.tc_config.proofs.Spelling.{not_a_primitive}
 use Rattle.tc_config.proofs.lines.ask_on.Goals as goal

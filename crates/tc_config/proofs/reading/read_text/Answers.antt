@@ -1,4 +1,4 @@
-use Rattle.std.proofs.Common.{◌≤◌, ◌<◌, Some, ℕ, length, arith}
+use Rattle.std.proofs.Common.{◌≤◌, ◌<◌, ℕ, length, arith}
 use Rattle.tc_lists.proofs.Options.{IfSome-at}
 use Rattle.tc_term.specs.Faults.{Found}
 use Rattle.tc_term.specs.Tree.{Tree}
