@@ -16,7 +16,7 @@ use Rattle.tc_model.specs.declared.entries.Entry.{Entry}
 use Rattle.tc_shared.specs.Passes.{IsAtRest}
 use Rattle.tc_turn.specs.Passes.{TurnstileState, PassState}
 use Rattle.tc_site.specs.Columns.{AreClosedFrom, AreColumns, IsClosedAt, IsSeenBy}
-use Rattle.tc_site.specs.Sites.{SiteState, EndedState, AllAgree, AreClosed, AreOfSite, ArePasses, AgreesSeen, HasPasses, IsEndedDesk, IsSite, histories_of, origins_of}
+use Rattle.tc_site.specs.Sites.{SiteState, EndedDeskState, AllAgree, AreClosed, AreOfSite, ArePasses, AgreesSeen, HasPasses, IsEndedDesk, IsSite, histories_of, origins_of}
 use Rattle.tc_lists.proofs.Sets.{slice_get-as_long, slice_get-map_at, slice_get-map_from}
 use Rattle.tc_lists.proofs.Zips.{AllZip-slice_get}
 use Rattle.tc_site.proofs.Taken.{closed-at, closed-origins}
@@ -75,17 +75,17 @@ module _ (origins : List Origin) (names : List (List ℕ)) (columns : List (List
       subst (All (HasRow log centre)) (sym got.2.mine)
       (agrees.calls place centre got.0.seen named (slice_get-map_at (λ (p : PassState Entry Origin). p.seen) column place got.0 got.1)))
 
-module _ {W : Type 0} (s : SiteState W) (es : List (EndedState W)) (columns : List (List (PassState Entry Origin)))
-    (every : AreOfSite (λ (e : EndedState W). e.site) (λ (e : EndedState W). e.agent) s es)
-    (zip : AllZip (λ (e : EndedState W) (passes : List (PassState Entry Origin)). IsEndedDesk e passes) es columns) where
+module _ {W : Type 0} (s : SiteState W) (es : List (EndedDeskState W)) (columns : List (List (PassState Entry Origin)))
+    (every : AreOfSite (λ (e : EndedDeskState W). e.site) (λ (e : EndedDeskState W). e.agent) s es)
+    (zip : AllZip (λ (e : EndedDeskState W) (passes : List (PassState Entry Origin)). IsEndedDesk e passes) es columns) where
   pub columns-count : length columns ≡ length s.roles
-  columns-count = AllZip-long (λ (e : EndedState W) (passes : List (PassState Entry Origin)). IsEndedDesk e passes) es columns zip ∙ every.whole
+  columns-count = AllZip-long (λ (e : EndedDeskState W) (passes : List (PassState Entry Origin)). IsEndedDesk e passes) es columns zip ∙ every.whole
 
   -- the passes of an agent, which its desk has left
   passes-at : (agent : ℕ) (column : List (PassState Entry Origin)) → slice_get columns agent ≡ Some column
       → ArePasses agent s.centres column × All (λ (p : PassState Entry Origin). p.holds ≡ false) column
   passes-at agent column at =
-      let e = AllZip-slice_get (λ (d : EndedState W) (passes : List (PassState Entry Origin)). IsEndedDesk d passes) es columns agent column zip at in
+      let e = AllZip-slice_get (λ (d : EndedDeskState W) (passes : List (PassState Entry Origin)). IsEndedDesk d passes) es columns agent column zip at in
       let is = every.each agent e.0 e.1 in (
         subst (λ n. ArePasses n s.centres column) is.1 (subst (λ (t : SiteState W). ArePasses e.0.agent t.centres column) is.0 e.2.are),
         e.2.free,
@@ -97,14 +97,14 @@ module _ {W : Type 0} (s : SiteState W) (es : List (EndedState W)) (columns : Li
   pub all-have : IsSite s.names s.centres s.roles → All (HasPasses (length columns)) s.centres
   all-have site = subst (λ n. All (HasPasses n) s.centres) (sym columns-count) site.passes
 
-  pub all-agree : (cores : List Centre) (logs : List (List LogRow)) → AreClosedFrom columns 0 s.centres cores → logs ≡ map (λ (e : EndedState W). e.log) es
+  pub all-agree : (cores : List Centre) (logs : List (List LogRow)) → AreClosedFrom columns 0 s.centres cores → logs ≡ map (λ (e : EndedDeskState W). e.log) es
       → AllAgree s cores logs
   all-agree cores logs closed are agent log at =
-      let e = slice_get-map_from (λ (d : EndedState W). d.log) es agent log (subst (λ ls. slice_get ls agent ≡ Some log) are at) in
+      let e = slice_get-map_from (λ (d : EndedDeskState W). d.log) es agent log (subst (λ ls. slice_get ls agent ≡ Some log) are at) in
       let column = slice_get-as_long es columns agent e.0 (columns-count ∙ sym every.whole) e.1 in
-      let d = AllZip-slice_get (λ (d : EndedState W) (passes : List (PassState Entry Origin)). IsEndedDesk d passes) es columns agent column.0 zip column.1 in
+      let d = AllZip-slice_get (λ (d : EndedDeskState W) (passes : List (PassState Entry Origin)). IsEndedDesk d passes) es columns agent column.0 zip column.1 in
       let is = every.each agent d.0 d.1 in
-      let log_is : d.0.log ≡ log = ap (λ (f : EndedState W). f.log) (same_Some d.0 e.0 (sym d.1 ∙ e.1)) ∙ e.2 in
+      let log_is : d.0.log ≡ log = ap (λ (f : EndedDeskState W). f.log) (same_Some d.0 e.0 (sym d.1 ∙ e.1)) ∙ e.2 in
       let agrees : AgreesSeen s.centres s.names column.0 agent log =
       subst (λ l. AgreesSeen s.centres s.names column.0 agent l) log_is
       (subst (λ n. AgreesSeen s.centres s.names column.0 n d.0.log) is.1

@@ -12,7 +12,6 @@ use Rattle.tc_turn.specs.Passes.{TurnstileState, PassState}
 use Rattle.tc_site.specs.Desks.{AgentState, IsDesk, IsDecidedLog, desk_of}
 use Rattle.tc_site.specs.Looking.{IsLook, IsWait, left_of, still_of}
 use Rattle.tc_site.specs.Polling.{IsPolled}
-use Rattle.tc_site.specs.Sites.{IsSite}
 use Rattle.tc_site.specs.declared.waiting.WaitingAt.{WaitingAt}
 use Rattle.tc_site.proofs.Polled.{polled-became, polled-desk, polled-keeps, polled-sound, polled-spends}
 use Rattle.tc_site.proofs.Seeing.{HasPass, look-became, look-desk, look-keeps, look-sound, look-spends}
@@ -57,7 +56,7 @@ becomes-equal permits Turns Came {d = d} place q log {now = now} same still beco
     subst (λ x. Becomes permits Turns Came x (after d place q log now)) same
     (subst (λ o. Becomes permits Turns Came d (after d place q log o)) (sym still) becomes)
 
-module _ {W : Type 0} {d : AgentState W} (is : IsDesk d) (site : IsSite d.site.names d.site.centres d.site.roles) {w : WaitingAt}
+module _ {W : Type 0} {d : AgentState W} (is : IsDesk d) {w : WaitingAt}
     {t : TurnstileState Origin} {p q : PassState Entry Origin} (has : HasPass d w t p) (kept : passes.KeepsPass t p q) (log : List LogRow)
     {pending : Option WaitingAt} where
   -- after a look
@@ -65,7 +64,7 @@ module _ {W : Type 0} {d : AgentState W} (is : IsDesk d) (site : IsSite d.site.n
     pub looked-desk : IsDesk (after d w.centre q log pending)
     looked-desk =
         subst (λ o. IsDesk (after d w.centre q log o)) (sym still)
-        (look-desk d is site w has.waiting t p q has.at_centre has.at_pass kept has.may.free log r look)
+        (look-desk d is w has.waiting t p q has.at_centre has.at_pass kept has.may.free log r look)
 
     pub looked-becomes : (permits : W → ℕ → ℕ → Primitive → Option ℕ) {s : AgentState W} → d ≡ s → d.pending ≡ Some w
         → Becomes permits (Spends 1) (LookCame r) s (after d w.centre q log pending)
@@ -73,10 +72,10 @@ module _ {W : Type 0} {d : AgentState W} (is : IsDesk d) (site : IsSite d.site.n
         becomes-equal permits (Spends 1) (LookCame r) w.centre q log same still (record {
           site = refl;
           agent = refl;
-          kept = look-keeps d is site w has.waiting t p q has.at_centre has.at_pass kept has.may.free log r has.free look;
-          turns = look-spends d is site w has.waiting t p q has.at_centre has.at_pass kept has.may.free log r look;
-          sound = look-sound d is site w has.waiting t p q has.at_centre has.at_pass kept has.may.free permits log r look;
-          came = look-became d is site w has.waiting t p q has.at_centre has.at_pass kept has.may.free log r at look;
+          kept = look-keeps d is w has.waiting t p q has.at_centre has.at_pass kept has.may.free log r has.free look;
+          turns = look-spends d is w has.waiting t p q has.at_centre has.at_pass kept has.may.free log r look;
+          sound = look-sound d is w has.waiting t p q has.at_centre has.at_pass kept has.may.free permits log r look;
+          came = look-became d is w has.waiting t p q has.at_centre has.at_pass kept has.may.free log r at look;
         })
 
   -- after a wait
@@ -84,7 +83,7 @@ module _ {W : Type 0} {d : AgentState W} (is : IsDesk d) (site : IsSite d.site.n
     pub waited-desk : IsDesk (after d w.centre q log pending)
     waited-desk =
         subst (λ o. IsDesk (after d w.centre q log o)) (sym left)
-        (wait-desk d is site w has.waiting t p q has.at_centre has.at_pass kept has.may.free waits log r wait)
+        (wait-desk d is w has.waiting t p q has.at_centre has.at_pass kept has.may.free waits log r wait)
 
     pub waited-becomes : (permits : W → ℕ → ℕ → Primitive → Option ℕ) {s : AgentState W} → d ≡ s → d.pending ≡ Some w
         → Becomes permits Waits (WaitCame r) s (after d w.centre q log pending)
@@ -92,10 +91,10 @@ module _ {W : Type 0} {d : AgentState W} (is : IsDesk d) (site : IsSite d.site.n
         becomes-equal permits Waits (WaitCame r) w.centre q log same left (record {
           site = refl;
           agent = refl;
-          kept = wait-keeps d is site w has.waiting t p q has.at_centre has.at_pass kept has.may.free waits log r has.free wait (left_of w r);
-          turns = wait-turns d is site w has.waiting t p q has.at_centre has.at_pass kept has.may.free waits log (left_of w r);
-          sound = wait-sound d is site w has.waiting t p q has.at_centre has.at_pass kept has.may.free waits permits log r wait;
-          came = wait-became d is site w has.waiting t p q has.at_centre has.at_pass kept has.may.free waits log r at wait;
+          kept = wait-keeps d is w has.waiting t p q has.at_centre has.at_pass kept has.may.free waits log r has.free wait (left_of w r);
+          turns = wait-turns d is w has.waiting t p q has.at_centre has.at_pass kept has.may.free waits log (left_of w r);
+          sound = wait-sound d is w has.waiting t p q has.at_centre has.at_pass kept has.may.free waits permits log r wait;
+          came = wait-became d is w has.waiting t p q has.at_centre has.at_pass kept has.may.free waits log r at wait;
         })
 
   -- after a poll
@@ -103,7 +102,7 @@ module _ {W : Type 0} {d : AgentState W} (is : IsDesk d) (site : IsSite d.site.n
     pub polled-desk_now : IsDesk (after d w.centre q log pending)
     polled-desk_now =
         subst (λ o. IsDesk (after d w.centre q log o)) (sym still)
-        (polled-desk d is site has.free w has.waiting t p has.at_centre has.at_pass q kept log r poll)
+        (polled-desk d is has.free w has.waiting t p has.at_centre has.at_pass q kept log r poll)
 
     pub polled-becomes : (permits : W → ℕ → ℕ → Primitive → Option ℕ) {s : AgentState W} → d ≡ s → d.pending ≡ Some w
         → Becomes permits (Spends 1) (PollCame r) s (after d w.centre q log pending)
@@ -111,8 +110,8 @@ module _ {W : Type 0} {d : AgentState W} (is : IsDesk d) (site : IsSite d.site.n
         becomes-equal permits (Spends 1) (PollCame r) w.centre q log same still (record {
           site = refl;
           agent = refl;
-          kept = polled-keeps d is site has.free w has.waiting t p has.at_centre has.at_pass q kept log r has.free poll;
-          turns = polled-spends d is site has.free w has.waiting t p has.at_centre has.at_pass q kept log r poll;
-          sound = polled-sound d is site has.free w has.waiting t p has.at_centre has.at_pass q kept permits log r poll;
-          came = polled-became d is site has.free w has.waiting t p has.at_centre has.at_pass q kept log r at poll;
+          kept = polled-keeps d is has.free w has.waiting t p has.at_centre has.at_pass q kept log r has.free poll;
+          turns = polled-spends d is has.free w has.waiting t p has.at_centre has.at_pass q kept log r poll;
+          sound = polled-sound d is has.free w has.waiting t p has.at_centre has.at_pass q kept permits log r poll;
+          came = polled-became d is has.free w has.waiting t p has.at_centre has.at_pass q kept log r at poll;
         })

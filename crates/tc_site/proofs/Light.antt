@@ -11,7 +11,6 @@ use Rattle.tc_model.specs.declared.entries.Entry.TheVariants.{Called, Gave, Look
 use Rattle.tc_model.specs.declared.limits.TheConstants.{MOST_WEIGHT}
 use Rattle.tc_turn.specs.Passes.{PassState}
 use Rattle.tc_site.specs.Desks.{AgentState, IsDesk, desk_of}
-use Rattle.tc_site.specs.Sites.{IsSite}
 
 -- each entry weighs something
 weighs : (e : Entry) → 1 ≤ weight_of e
@@ -23,10 +22,9 @@ pub length-weight : (history : List Entry) → length history ≤ weight history
 length-weight [] = omega arith
 length-weight (e ∷ history) = omega (arith, weighs e, length-weight history, sum_by-cons weight_of e history)
 
-module _ {W : Type 0} (d : AgentState W) (is : IsDesk d) (site : IsSite d.site.names d.site.centres d.site.roles) (place : ℕ)
-    (inside : place < length d.site.names) where
+module _ {W : Type 0} (d : AgentState W) (is : IsDesk d) (place : ℕ) (inside : place < length d.site.names) where
   pub seen-inside : place < length d.passes
-  seen-inside = let whole = site.whole in let wide = is.are.wide in omega (arith, inside, whole, wide)
+  seen-inside = let whole = is.site.whole in let wide = is.are.wide in omega (arith, inside, whole, wide)
 
   module _ (p : PassState Entry Origin) (value : p ≡ get_or d.passes place p) where
     at : slice_get d.passes place ≡ Some p
@@ -39,7 +37,7 @@ module _ {W : Type 0} (d : AgentState W) (is : IsDesk d) (site : IsSite d.site.n
 
     pub seen-few : length p.seen ≤ MOST_WEIGHT
     seen-few =
-        let whole = site.whole in
+        let whole = is.site.whole in
         let t = slice_get_inside d.site.centres place (omega (arith, inside, whole)) in
         let light = (is.are.each place t.0 p t.1 at).own.rest.light in
         omega (arith, length-weight p.seen, light)

@@ -13,7 +13,8 @@ use Rattle.tc_site.specs.Sites.{SiteState, AreFresh, IsSite}
 use Rattle.tc_site.specs.Desks.{AgentState, IsDesk, IsNewDesk, desk_of, turns_of}
 use Rattle.tc_lists.proofs.Sets.{slice_get-as_long, slice_get_inside, slice_get-map_at, slice_get-map_from}
 
-module _ {W : Type 0} (s : SiteState W) (agent : ℕ) (passes : List (PassState Entry Origin)) (fresh : AreFresh agent s.centres passes) where
+module _ {W : Type 0} (s : SiteState W) (agent : ℕ) (passes : List (PassState Entry Origin)) (fresh : AreFresh agent s.centres passes)
+    (site : IsSite s.names s.centres s.roles) where
   abbrev new : AgentState W
   new = record { site = s; agent = agent; passes = passes; log = []; pending = None; held = None }
 
@@ -24,6 +25,7 @@ module _ {W : Type 0} (s : SiteState W) (agent : ℕ) (passes : List (PassState 
 
   pub new-desk : agent < length s.roles → IsDesk (record { site = s; agent = agent; passes = passes; log = []; pending = None; held = None })
   new-desk is = record {
+    site = site;
     agent_is = is;
     are = fresh.are;
     holds = λ k p at.
@@ -41,8 +43,8 @@ module _ {W : Type 0} (s : SiteState W) (agent : ℕ) (passes : List (PassState 
     waits = refl;
   }
 
-  pub new-state : IsSite s.names s.centres s.roles → IsNewDesk s.names (desk_of (record { site = s; agent = agent; passes = passes; log = []; pending = None; held = None }))
-  new-state site = record {
+  pub new-state : IsNewDesk s.names (desk_of (record { site = s; agent = agent; passes = passes; log = []; pending = None; held = None }))
+  new-state = record {
     log_is = refl;
     names_are = refl;
     wide = length-map passes (λ (p : PassState Entry Origin). p.turns) ∙ fresh.are.wide ∙ sym site.whole;

@@ -16,7 +16,7 @@ use Rattle.tc_shared.specs.Passes.{IsPassOf, IsPaused, IsSpent, KeepsPass}
 use Rattle.tc_turn.specs.Passes.{TurnstileState, PassState}
 use Rattle.tc_site.specs.Desks.{AgentState, IsDesk, counts_of, desk_of, is_held, turns_of, waits_in}
 use Rattle.tc_site.specs.Pausing.{HasNoneLeft, HoldsTurn, Pauses, Resumes}
-use Rattle.tc_site.specs.Sites.{IsSite, histories_of, origins_of}
+use Rattle.tc_site.specs.Sites.{histories_of, origins_of}
 use Rattle.tc_site.specs.Turns.{HasGrown}
 use Rattle.tc_site.proofs.Calling.{are-set}
 use Rattle.tc_lists.proofs.Sets.{get_or-map_at, get_or-map_set_other, map-set_both, map-set_like, slice_get-set_other, slice_get-set_same, slice_get_inside, set-slice_get}
@@ -36,18 +36,18 @@ pub record MayPause {W : Type 0} (d : AgentState W) (place : ℕ) (t : Turnstile
   pub own : IsPassOf t p
   pub idle : p.holds ≡ false
 
-pub may-pause : {W : Type 0} (d : AgentState W) → IsDesk d → IsSite d.site.names d.site.centres d.site.roles → (place : ℕ) (t : TurnstileState Origin)
-    (p : PassState Entry Origin) → place < length d.site.names → slice_get d.site.centres place ≡ Some t → p ≡ get_or d.passes place p → is_none d.held ≡ true
+pub may-pause : {W : Type 0} (d : AgentState W) → IsDesk d → (place : ℕ) (t : TurnstileState Origin) (p : PassState Entry Origin)
+    → place < length d.site.names → slice_get d.site.centres place ≡ Some t → p ≡ get_or d.passes place p → is_none d.held ≡ true
     → MayPause d place t p
-may-pause d is site place t p inside at-t value free =
+may-pause d is place t p inside at-t value free =
     let name = slice_get_inside d.site.names place inside in
-    let at-p : slice_get d.passes place ≡ Some p = at-pass is site place name.1 value in
+    let at-p : slice_get d.passes place ≡ Some p = at-pass is place name.1 value in
     record {
       centre = name.0;
       named = name.1;
       at_pass = at-p;
       own = (is.are.each place t p at-t at-p).own;
-      idle = pass-free d is site free place name.0 name.1 t p at-t at-p;
+      idle = pass-free d is free place name.0 name.1 t p at-t at-p;
     }
 
 -- a desk whose pass had no turn left
@@ -69,7 +69,7 @@ module _ {W : Type 0} (d : AgentState W) (place : ℕ) (p q : PassState Entry Or
         same = ap with_passes spent-passes;
       })
 
-module _ {W : Type 0} (d : AgentState W) (is : IsDesk d) (site : IsSite d.site.names d.site.centres d.site.roles) (free : is_none d.held ≡ true)
+module _ {W : Type 0} (d : AgentState W) (is : IsDesk d) (free : is_none d.held ≡ true)
     (place : ℕ) (centre : List ℕ) (named : slice_get d.site.names place ≡ Some centre)
     (t : TurnstileState Origin) (p : PassState Entry Origin) (at-t : slice_get d.site.centres place ≡ Some t) (at-p : slice_get d.passes place ≡ Some p)
     (core : Centre) (q : PassState Entry Origin) (took : IsPaused t p core q) where
@@ -105,7 +105,7 @@ module _ {W : Type 0} (d : AgentState W) (is : IsDesk d) (site : IsSite d.site.n
 
   idle-desk : IsDesk (record d { passes = set d.passes place idle })
   idle-desk =
-      desk-longer d is site free place centre named t p at-t at-p idle idle-keeps idle-grown (ap (λ (x : PassState Entry Origin). x.mine) took.after)
+      desk-longer d is free place centre named t p at-t at-p idle idle-keeps idle-grown (ap (λ (x : PassState Entry Origin). x.mine) took.after)
 
   same-seen : histories_of (set d.passes place idle) ≡ histories_of (set d.passes place q)
   same-seen = map-set_both (λ (x : PassState Entry Origin). x.seen) d.passes place idle q refl
@@ -122,6 +122,7 @@ module _ {W : Type 0} (d : AgentState W) (is : IsDesk d) (site : IsSite d.site.n
 
   pub pause-desk : IsDesk (record { site = d.site; agent = d.agent; passes = set d.passes place q; log = d.log; pending = d.pending; held = Some place })
   pause-desk = record {
+    site = is.site;
     agent_is = is.agent_is;
     are = are-set d.agent (length d.log) place d.site.centres d.passes is.are t p q at-t at-p own number;
     holds = holder-holds;
@@ -191,6 +192,7 @@ module _ {W : Type 0} (d : AgentState W) (is : IsDesk d) (place : ℕ) (core : C
 
   resume-desk : IsDesk (record { site = d.site; agent = d.agent; passes = set d.passes place (record holds.p { holds = false }); log = d.log; pending = d.pending; held = None })
   resume-desk = record {
+    site = is.site;
     agent_is = is.agent_is;
     are = are-set d.agent (length d.log) place d.site.centres d.passes is.are t p back holds.at_centre holds.at_pass back-own refl;
     holds = freed-holds;

@@ -38,7 +38,7 @@ use Rattle.tc_turn.specs.Passes.{TurnstileState, PassState}
 use Rattle.tc_site.specs.Desks.{AgentState, IsDesk, IsDecidedLog, IsWaitingAt, WardenPermits, counts_of, desk_of, turns_of}
 use Rattle.tc_site.specs.Looking.{HasRowReply, still_of}
 use Rattle.tc_site.specs.Polling.{HasToldReply, IsPolled}
-use Rattle.tc_site.specs.Sites.{IsOwnPass, IsSite, histories_of}
+use Rattle.tc_site.specs.Sites.{IsOwnPass, histories_of}
 use Rattle.tc_site.specs.Turns.{HasGrown}
 use Rattle.tc_site.specs.declared.waiting.WaitingAt.{WaitingAt}
 use Rattle.tc_site.proofs.Calling.{grown-same, grown-sees}
@@ -106,7 +106,7 @@ last-served names log w waiting here = record {
       none-served waiting.back after.0 other waiting.unserved_behind after.1 served;
 }
 
-module _ {W : Type 0} (d : AgentState W) (is : IsDesk d) (site : IsSite d.site.names d.site.centres d.site.roles) (free : is_none d.held ≡ true)
+module _ {W : Type 0} (d : AgentState W) (is : IsDesk d) (free : is_none d.held ≡ true)
     (w : WaitingAt) (waiting : IsWaitingAt d.site.names d.log w) (t : TurnstileState Origin) (p : PassState Entry Origin)
     (at-t : slice_get d.site.centres w.centre ≡ Some t) (at-p : slice_get d.passes w.centre ≡ Some p) where
   abbrev centre : List ℕ
@@ -123,16 +123,16 @@ module _ {W : Type 0} (d : AgentState W) (is : IsDesk d) (site : IsSite d.site.n
   row-of result = record { number = length d.log + 1; centre = waiting.row_is.centre; ask = None; result = result }
 
   pub polled-next : All (λ e. (id_of e).number < length d.log + 1) p.mine
-  polled-next = pass-next d is site free w.centre waiting.row_is.centre waiting.named t p at-t at-p (length d.log + 1) refl
+  polled-next = pass-next d is free w.centre waiting.row_is.centre waiting.named t p at-t at-p (length d.log + 1) refl
 
   own : IsOwnPass d.agent t p
-  own = own-pass d is site free w.centre centre waiting.named t p at-t at-p
+  own = own-pass d is free w.centre centre waiting.named t p at-t at-p
 
   held : p.holds ≡ false
-  held = pass-free d is site free w.centre centre waiting.named t p at-t at-p
+  held = pass-free d is free w.centre centre waiting.named t p at-t at-p
 
   here : slice_get d.log w.row ≡ Some waiting.row_is
-  here = stands d is site w waiting
+  here = stands d is w waiting
 
   module _ (q : PassState Entry Origin) (keeps : passes.KeepsPass t p q) where
     -- the desk with this log
@@ -195,9 +195,9 @@ module _ {W : Type 0} (d : AgentState W) (is : IsDesk d) (site : IsSite d.site.n
 
       told-desk : IsDesk (now (with_row d.log centre None (Polled m.reply)) (Some w))
       told-desk =
-          desk-pushed d is site free w.centre centre waiting.named t p at-t at-p q keeps row (Some w) refl refl told-grown told-agrees
+          desk-pushed d is free w.centre centre waiting.named t p at-t at-p q keeps row (Some w) refl refl told-grown told-agrees
           (Contains-slice_get d.site.names w.centre centre waiting.named)
-          (rows-made d is site free w.centre centre waiting.named t p at-t at-p q keeps row entry mine-is entry-row)
+          (rows-made d is free w.centre centre waiting.named t p at-t at-p q keeps row entry mine-is entry-row)
           (waits-behind d.site.names d.log w row waiting refl)
 
       -- the reply that was told is the one that is known
@@ -231,7 +231,7 @@ module _ {W : Type 0} (d : AgentState W) (is : IsDesk d) (site : IsSite d.site.n
       waiting-tells : desks.HasRowOfPoll (desk_of d) None (desk_of (now log (Some w)))
       waiting-tells = record {
         row = waiting.row_is;
-        is = pending-row d is site w waiting;
+        is = pending-row d is w waiting;
         turn = told-takes poll.NotYet m log (Some w);
         middle = d.log;
         answered = refl;
@@ -276,16 +276,16 @@ module _ {W : Type 0} (d : AgentState W) (is : IsDesk d) (site : IsSite d.site.n
       found-desk =
           subst (λ xs. IsDesk (record { site = d.site; agent = d.agent; passes = xs; log = log; pending = None; held = d.held }))
           (set-slice_get (set d.passes w.centre q) w.centre q at-q)
-          (answered-desk d1 is1 site w waiting1 t q at-t at-q q kept1 keeps.free (seen-same q q refl) log has)
+          (answered-desk d1 is1 w waiting1 t q at-t at-q q kept1 keeps.free (seen-same q q refl) log has)
 
       found-read : IsRead d.log → IsRead log
       found-read read =
-          answered-read d1 is1 site w waiting1 t q at-t at-q q kept1 keeps.free (seen-same q q refl) log has
+          answered-read d1 is1 w waiting1 t q at-t at-q q kept1 keeps.free (seen-same q q refl) log has
           (read-polled d.log centre (Polled (Some m.again)) read)
 
       found-sound : (permits : W → ℕ → ℕ → Primitive → Option ℕ) → IsDecidedLog permits d.site d.agent d.log → IsDecidedLog permits d.site d.agent log
       found-sound permits sound =
-          answered-sound d1 is1 site w waiting1 t q at-t at-q q kept1 keeps.free (seen-same q q refl) log has permits
+          answered-sound d1 is1 w waiting1 t q at-t at-q q kept1 keeps.free (seen-same q q refl) log has permits
           (λ role at. decided-polled d.log centre (Polled (Some m.again)) (WardenPermits permits d.site.warden role) d.site.names (sound role at))
 
       abbrev middle : List LogRow
@@ -305,7 +305,7 @@ module _ {W : Type 0} (d : AgentState W) (is : IsDesk d) (site : IsSite d.site.n
 
       found-answered : IsRowAnswered d.log m.reply middle
       found-answered =
-          let row = row-at d1 is1 site w waiting1 t q at-t at-q (histories_of (set d.passes w.centre q)) q.seen is1.agrees seen-at in
+          let row = row-at d1 is1 w waiting1 t q at-t at-q (histories_of (set d.passes w.centre q)) q.seen is1.agrees seen-at in
           record {
             front = waiting.front;
             row = waiting.row_is;
@@ -323,7 +323,7 @@ module _ {W : Type 0} (d : AgentState W) (is : IsDesk d) (site : IsSite d.site.n
       found-tells : desks.HasRowOfPoll (desk_of d) (Some m.reply) (desk_of (now log None))
       found-tells = record {
         row = waiting.row_is;
-        is = pending-row d is site w waiting;
+        is = pending-row d is w waiting;
         turn = told-takes found m.tells log None;
         middle = middle;
         answered = found-answered;
@@ -339,18 +339,18 @@ module _ {W : Type 0} (d : AgentState W) (is : IsDesk d) (site : IsSite d.site.n
       full-desk : IsDesk (now log (Some w))
       full-desk =
           subst (λ l. IsDesk (now l (Some w))) (sym log-is)
-          (desk-pushed d is site free w.centre centre waiting.named t p at-t at-p q keeps (row-of full) (Some w) refl refl
+          (desk-pushed d is free w.centre centre waiting.named t p at-t at-p q keeps (row-of full) (Some w) refl refl
           (grown-sees t p q (length d.log) h.sees)
-          (was-full d is site free w.centre centre waiting.named t p at-t at-p q keeps weight many h)
+          (was-full d is free w.centre centre waiting.named t p at-t at-p q keeps weight many h)
           (Contains-slice_get d.site.names w.centre centre waiting.named)
-          (rows-same d is site free w.centre centre waiting.named t p at-t at-p q keeps (row-of full)
+          (rows-same d is free w.centre centre waiting.named t p at-t at-p q keeps (row-of full)
           (ap (λ (x : PassState Entry Origin). x.mine) h.sees.after))
           (waits-behind d.site.names d.log w (row-of full) waiting refl))
 
       full-tells : TellsFull (desk_of d) weight many (desk_of (now log (Some w)))
       full-tells = record {
         row = waiting.row_is;
-        is = pending-row d is site w waiting;
+        is = pending-row d is w waiting;
         turn = takes-gone d w.centre p q at-p log (Some w) centre waiting.named h.sees.finds.left (ap (λ (x : PassState Entry Origin). x.turns) h.sees.after);
         log = log-is;
       }
@@ -358,7 +358,7 @@ module _ {W : Type 0} (d : AgentState W) (is : IsDesk d) (site : IsSite d.site.n
     -- a poll that left the log as it was
     kept-desk : (log : List LogRow) → log ≡ d.log → HasSeen p q → IsDesk (now log (Some w))
     kept-desk log same more =
-        subst (λ l. IsDesk (now l (Some w))) (sym same) (later-desk d is site w waiting t p at-t at-p q keeps held more)
+        subst (λ l. IsDesk (now l (Some w))) (sym same) (later-desk d is w waiting t p at-t at-p q keeps held more)
 
     lost-seen : SeesRoom t p q ⊎ (q ≡ p) → HasSeen p q
     lost-seen lost = ⊎_elim (λ (room : SeesRoom t p q). seen-sees t p q room.sees) (λ same. seen-same p q same) lost
@@ -379,7 +379,7 @@ module _ {W : Type 0} (d : AgentState W) (is : IsDesk d) (site : IsSite d.site.n
         (λ (room : SeesRoom t p q).
         inr (record {
           row = waiting.row_is;
-          is = pending-row d is site w waiting;
+          is = pending-row d is w waiting;
           turn = takes-gone d w.centre p q at-p log (Some w) centre waiting.named room.sees.finds.left
               (ap (λ (x : PassState Entry Origin). x.turns) room.sees.after);
         }))
@@ -457,13 +457,13 @@ module _ {W : Type 0} (d : AgentState W) (is : IsDesk d) (site : IsSite d.site.n
     polled-became log (Err (fault.Full weight many)) at came = full-tells weight many came.0 log came.1
     polled-became log (Err fault.TurnsSpent) at came = record {
       can = (
-        none-left d is site w waiting t p q at-t at-p keeps held came.0.0,
-        same-desk d is site w waiting t p q at-t at-p keeps held came.0.1 at log came.1,
+        none-left d is w waiting t p q at-t at-p keeps held came.0.0,
+        same-desk d is w waiting t p q at-t at-p keeps held came.0.1 at log came.1,
       );
       log = came.1;
     }
     polled-became log (Err fault.NoMemory) at came = record {
-      can = (pending-some d is site w waiting, lost-turn log came.0);
+      can = (pending-some d is w waiting, lost-turn log came.0);
       log = came.1;
     }
     polled-became log (Err fault.Idle) at came = absurd came

@@ -13,7 +13,7 @@ use Rattle.tc_desk.proofs.Fitting.{reply-fits_ask}
 use Rattle.tc_desk.proofs.Growing.{Agrees-answered, Agrees-longer}
 use Rattle.tc_desk.specs.Agreeing.{Agrees, AgreesRow, HasReply, HasRow, HaveRows}
 use Rattle.tc_desk.specs.Decided.{IsDecided, IsRead}
-use Rattle.tc_desk.specs.Desks.{DeskState, Gets, HasNoTurn, IsPendingRow, Keeps, Leaves, Looks, Spends, Stays, TakesTurn, TakesTurnAtPending, replied}
+use Rattle.tc_desk.specs.Desks.{Gets, IsPendingRow, Keeps, Leaves, Looks, Spends, Stays, TakesTurn, TakesTurnAtPending, replied}
 use Rattle.tc_desk.specs.Desks as desks
 use Rattle.tc_desk.specs.declared.desks.DeskFault.{DeskFault}
 use Rattle.tc_desk.specs.declared.desks.DeskFault.TheVariants as fault
@@ -32,11 +32,11 @@ use Rattle.tc_model.specs.declared.entries.Entry.TheVariants.{Called}
 use Rattle.tc_model.specs.declared.outcomes.Outcome.TheVariants as outcome
 use Rattle.tc_model.specs.declared.outcomes.Reply.TheVariants as reply
 use Rattle.tc_shared.specs.Passes as passes
-use Rattle.tc_shared.specs.Passes.{IsSpent, Sees}
+use Rattle.tc_shared.specs.Passes.{Sees}
 use Rattle.tc_turn.specs.Passes.{TurnstileState, PassState}
 use Rattle.tc_site.specs.Desks.{AgentState, IsDesk, IsDecidedLog, IsWaitingAt, WardenPermits, WaitsAt, desk_of, is_held}
 use Rattle.tc_site.specs.Looking.{HasRowReply, HasWaitedInVain, IsLook, IsWait, MayLook, left_of, still_of}
-use Rattle.tc_site.specs.Sites.{AgreesSeen, ArePasses, IsOwnPass, IsSite, histories_of, origins_of}
+use Rattle.tc_site.specs.Sites.{AgreesSeen, ArePasses, IsOwnPass, histories_of, origins_of}
 use Rattle.tc_site.specs.Turns.{HasGrown}
 use Rattle.tc_site.specs.declared.waiting.WaitingAt.{WaitingAt}
 use Rattle.tc_site.proofs.Calling.{are-set, longer-set}
@@ -98,12 +98,12 @@ any-middle front row back pending =
     list_any-append (λ (r : LogRow). is_pending r.result) front (row ∷ back)
     ∙ ap (λ b. any_pending front || (b || any_pending back)) (ap is_pending pending) ∙ or-true (any_pending front)
 
-module _ {W : Type 0} (d : AgentState W) (is : IsDesk d) (site : IsSite d.site.names d.site.centres d.site.roles) (w : WaitingAt)
+module _ {W : Type 0} (d : AgentState W) (is : IsDesk d) (w : WaitingAt)
     (waiting : IsWaitingAt d.site.names d.log w) where
   pub waits-centre : w.centre < length d.site.centres
   waits-centre =
       let within = slice_get_within d.site.names w.centre waiting.row_is.centre waiting.named in
-      let whole = site.whole in
+      let whole = is.site.whole in
       omega (arith, within, whole)
 
   pub waits-pass : w.centre < length d.passes
@@ -217,6 +217,7 @@ module _ {W : Type 0} (d : AgentState W) (is : IsDesk d) (site : IsSite d.site.n
       -- the desk has seen more
       pub later-desk : IsDesk (with_log d.log (Some w))
       later-desk = record {
+        site = is.site;
         agent_is = is.agent_is;
         are = are-later;
         holds = holds-later;
@@ -285,7 +286,7 @@ module _ {W : Type 0} (d : AgentState W) (is : IsDesk d) (site : IsSite d.site.n
         has-reply = record {
           pending = waiting.pending;
           told = λ k history named there.
-              let place = AllPairs-one_place d.site.names k w.centre waiting.row_is.centre site.differ named waiting.named in
+              let place = AllPairs-one_place d.site.names k w.centre waiting.row_is.centre is.site.differ named waiting.named in
               let e : history ≡ q.seen = same_Some history q.seen (sym there ∙ ap (slice_get (histories_of later)) place ∙ seen-at) in
               ap (λ h. reply_in h (call_of d.agent (length waiting.front + 1))) e
               ∙ ap (λ n. reply_in q.seen (call_of d.agent (n + 1))) (sym waiting.place) ∙ told-at;
@@ -298,6 +299,7 @@ module _ {W : Type 0} (d : AgentState W) (is : IsDesk d) (site : IsSite d.site.n
 
         pub answered-desk : IsDesk (with_log log None)
         answered-desk = record {
+          site = is.site;
           agent_is = is.agent_is;
           are = are-later;
           holds = holds-later;
@@ -426,7 +428,7 @@ module _ {W : Type 0} (d : AgentState W) (is : IsDesk d) (site : IsSite d.site.n
         ∙ ap (λ l. desk_of (record { site = d.site; agent = d.agent; passes = d.passes; log = l; pending = Some w; held = d.held })) same-log
         ∙ ap (λ o. desk_of (record { site = d.site; agent = d.agent; passes = d.passes; log = d.log; pending = o; held = d.held })) (sym at)
 
-    pub none-left : p.turns ≡ 0 → desks.IsSpent (desk_of d)
+    pub none-left : p.turns ≡ 0 → desks.HasNoTurnLeft (desk_of d)
     none-left none = record {
       row = waiting.row_is;
       is = pending-row;
@@ -518,7 +520,7 @@ module _ {W : Type 0} (d : AgentState W) (is : IsDesk d) (site : IsSite d.site.n
           }
 
       spent-later : q.turns ≡ 0 → (log : List LogRow) → log ≡ d.log
-          → desks.IsSpent (desk_of (record { site = d.site; agent = d.agent; passes = set d.passes w.centre q; log = log; pending = Some w; held = d.held }))
+          → desks.HasNoTurnLeft (desk_of (record { site = d.site; agent = d.agent; passes = set d.passes w.centre q; log = log; pending = Some w; held = d.held }))
       spent-later none log same = record {
         row = waiting.row_is;
         is = subst (λ l. IsPendingRow l waiting.row_is) (sym same) pending-row;
@@ -531,7 +533,7 @@ module _ {W : Type 0} (d : AgentState W) (is : IsDesk d) (site : IsSite d.site.n
 
       waits-or-same : (log : List LogRow) → d.pending ≡ Some w → HasWaitedInVain w.row p d.log q log
           → ((desk_of (record { site = d.site; agent = d.agent; passes = set d.passes w.centre q; log = log; pending = Some w; held = d.held })).waits ≡ true)
-          ⊎ (desks.IsSpent (desk_of d) × (desk_of (record { site = d.site; agent = d.agent; passes = set d.passes w.centre q; log = log; pending = Some w; held = d.held }) ≡ desk_of d))
+          ⊎ (desks.HasNoTurnLeft (desk_of d) × (desk_of (record { site = d.site; agent = d.agent; passes = set d.passes w.centre q; log = log; pending = Some w; held = d.held }) ≡ desk_of d))
       waits-or-same log at wait =
           ⊎_elim
           (λ (none : p.turns ≡ 0). inr (none-left none, same-desk (wait.same none) at log wait.log_same))
@@ -566,23 +568,23 @@ pub record HasPass {W : Type 0} (d : AgentState W) (w : WaitingAt) (t : Turnstil
   pub may : MayLook t p d.log w.row
 
 pub has-pass : {W : Type 0} {d s : AgentState W} {w : WaitingAt} {t : TurnstileState Origin} {p : PassState Entry Origin} → IsDesk d → d ≡ s
-    → is_none s.held ≡ true → IsSite d.site.names d.site.centres d.site.roles → d.pending ≡ Some w → slice_get d.site.centres w.centre ≡ Some t
+    → is_none s.held ≡ true → d.pending ≡ Some w → slice_get d.site.centres w.centre ≡ Some t
     → p ≡ get_or d.passes w.centre p → HasPass d w t p
-has-pass {W = W} {d = d} {w = w} {t = t} {p = p} is same free site at at-t value =
+has-pass {W = W} {d = d} {w = w} {t = t} {p = p} is same free at at-t value =
     let none : is_none d.held ≡ true = ap (λ (x : AgentState W). is_none x.held) same ∙ free in
     let waiting : IsWaitingAt d.site.names d.log w = subst (WaitsAt d.site.names d.log) at is.waits in
     let at-p : slice_get d.passes w.centre ≡ Some p =
-    slice_get_read d.passes (length d.passes) w.centre p refl (waits-pass d is site w waiting) value in
+    slice_get_read d.passes (length d.passes) w.centre p refl (waits-pass d is w waiting) value in
     record {
       waiting = waiting;
       at_centre = at-t;
       at_pass = at-p;
-      at_row = stands d is site w waiting;
+      at_row = stands d is w waiting;
       free = none;
       may = record {
-        own = (own-pass d is site w waiting t p at-t at-p).own;
+        own = (own-pass d is w waiting t p at-t at-p).own;
         free = is.holds w.centre p at-p ∙ none-held d.held w.centre none;
-        inside = waits-row d is site w waiting;
-        called = waits-called d is site w waiting t p at-t at-p;
+        inside = waits-row d is w waiting;
+        called = waits-called d is w waiting t p at-t at-p;
       };
     }

@@ -35,11 +35,12 @@ module _ {W : Type 0} (d : AgentState W) (centre : List ℕ) (place : ℕ) (name
   goes-to = record { named = named; t = t; p = p; q = q; at_centre = at-t; at_pass = at-p; after = refl }
 
   -- memory ran out in the turn
-  pub room-there : (ask : Ask) (s : AgentState W) → d ≡ s → SeesRoom t p q
-      → IsCallThere s centre ask (Err refusal.NoMemory) (after d place q log pending)
-  room-there ask s same room =
-      subst (λ x. IsCallThere x centre ask (Err refusal.NoMemory) (after d place q log pending)) same
-      (inr (record { place = place; there = goes-to; room = room }))
+  pub room-there : (ask : Ask) (told : Result Served Refusal) (s : AgentState W) → told ≡ Err refusal.NoMemory → d ≡ s → SeesRoom t p q
+      → IsCallThere s centre ask told (after d place q log pending)
+  room-there ask told s is same room =
+      subst (λ r. IsCallThere s centre ask r (after d place q log pending)) (sym is)
+      (subst (λ x. IsCallThere x centre ask (Err refusal.NoMemory) (after d place q log pending)) same
+      (inr (record { place = place; there = goes-to; room = room })))
 
   module _ (ask : Ask) (op : Op) (sound : OpOf ask (Sound op)) where
     calls : (became : LogResult) → log ≡ with_row d.log centre (Some ask) became → IsTurn t p (length d.log + 1) op became q
@@ -88,24 +89,24 @@ module _ {W : Type 0} (d : AgentState W) (centre : List ℕ) (ask : Ask) (log : 
   nowhere : still.passes ≡ s.passes
   nowhere = ap (λ (x : AgentState W). x.passes) same
 
-  pub refused-there : (permits : W → ℕ → ℕ → Primitive → Option ℕ) (waits : Bool) (why : Refusal) → (why ≡ refusal.NoMemory → ⊥)
+  pub refused-there : (permits : W → ℕ → ℕ → Primitive → Option ℕ) (waits : Bool) (why : Refusal)
       → IsRefusedFor permits d.site d.agent waits centre ask why → IsCallThere s centre ask (Err why)
       (record { site = d.site; agent = d.agent; passes = d.passes; log = log; pending = d.pending; held = d.held })
-  refused-there permits waits refusal.UnknownCentre other refused = nowhere
-  refused-there permits waits refusal.Waiting other refused = nowhere
-  refused-there permits waits refusal.Denied other refused = nowhere
-  refused-there permits waits refusal.TooBig other refused = nowhere
-  refused-there permits waits refusal.NotGround other refused = nowhere
-  refused-there permits waits (refusal.BadSpec bad) other refused = nowhere
-  refused-there permits waits refusal.TurnsSpent other refused = absurd refused
-  refused-there permits waits (refusal.Full weight many) other refused = absurd refused
-  refused-there permits waits refusal.NoMemory other refused = absurd (other refl)
+  refused-there permits waits refusal.UnknownCentre refused = nowhere
+  refused-there permits waits refusal.Waiting refused = nowhere
+  refused-there permits waits refusal.Denied refused = nowhere
+  refused-there permits waits refusal.TooBig refused = nowhere
+  refused-there permits waits refusal.NotGround refused = nowhere
+  refused-there permits waits (refusal.BadSpec bad) refused = nowhere
+  refused-there permits waits refusal.TurnsSpent refused = absurd refused
+  refused-there permits waits (refusal.Full weight many) refused = absurd refused
+  refused-there permits waits refusal.NoMemory refused = inl nowhere
 
   -- memory ran out before a turn
-  pub none-there : (why : Refusal) → why ≡ refusal.NoMemory
-      → IsCallThere s centre ask (Err why)
+  pub none-there : (told : Result Served Refusal) → told ≡ Err refusal.NoMemory
+      → IsCallThere s centre ask told
       (record { site = d.site; agent = d.agent; passes = d.passes; log = log; pending = d.pending; held = d.held })
-  none-there why is = subst (λ y. IsCallThere s centre ask (Err y) still) (sym is) (inl nowhere)
+  none-there told is = subst (λ r. IsCallThere s centre ask r still) (sym is) (inl nowhere)
 
 -- a poll for the reply to the pending row
 module _ {W : Type 0} {d : AgentState W} {w : WaitingAt} {t : TurnstileState Origin} {p : PassState Entry Origin} (has : HasPass d w t p)

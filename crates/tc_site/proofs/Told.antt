@@ -1,5 +1,5 @@
 -- What a call leaves of an agent's desk, and what is told of it.
-use Rattle.std.proofs.Common.{◌≡◌, ◌≢◌, ℕ, ◌+◌, ◌-◌, ◌<◌, ◌≤◌, ◌||◌, Bool, true, false, List, [], ◌∷◌, ◌++◌, Option, Some, None, AllPairs, Contains, length, get_or, refl, sym, ap, ◌∙◌, subst, arith, inl, inr, ⊎_elim}
+use Rattle.std.proofs.Common.{◌≡◌, ℕ, ◌+◌, ◌-◌, ◌<◌, ◌≤◌, ◌||◌, Bool, true, false, List, [], ◌∷◌, ◌++◌, Option, Some, None, Err, Contains, length, get_or, refl, sym, ap, ◌∙◌, subst, arith, inl, inr, ⊎_elim}
 use Rattle.std.specs.List.{slice_get, slice_index}
 use Rattle.std.specs.Option.{is_none, is_some}
 use Rattle.std.specs.Prelude.{MatchResult}
@@ -16,7 +16,7 @@ use Rattle.tc_centre.specs.declared.answers.Answer.TheVariants as answer
 use Rattle.tc_model.specs.Calls.{call_of}
 use Rattle.tc_desk.specs.Decided.{IsRead, IsReadAs, IsDecided, IsDecidedAs}
 use Rattle.tc_desk.specs.Fits.{FitsAsk}
-use Rattle.tc_desk.specs.Desks.{HasNoTurn, IsReady, IsServedBy, Keeps, Makes, MayRefuse, Refuses, Spends, StandsStill, TakesTurn, refused_log, with_row}
+use Rattle.tc_desk.specs.Desks.{DeskState, HasNoTurn, IsReady, IsServedBy, Keeps, Makes, MayRefuse, Refuses, Spends, StandsStill, TakesTurn, refused_log, with_row}
 use Rattle.tc_desk.specs.Logs.{any_pending, is_pending}
 use Rattle.tc_desk.specs.Operands.{OpOf, Sound}
 use Rattle.tc_desk.specs.Served.{IsCalled}
@@ -42,12 +42,12 @@ use Rattle.tc_turn.specs.Passes.{TurnstileState, PassState}
 use Rattle.tc_site.specs.Desks as site
 use Rattle.tc_site.specs.Desks.{AgentState, IsDesk, WardenPermits, WaitsAt, counts_of, desk_of, turns_of, waits_in}
 use Rattle.tc_site.specs.Judging.{IsAllowed, IsRefusedFor}
-use Rattle.tc_site.specs.Sites.{IsSite, histories_of}
+use Rattle.tc_site.specs.Sites.{histories_of}
 use Rattle.tc_site.specs.Turns.{HasGrown, IsTurn, IsTurnRefused, told_of, waiting_of}
 use Rattle.tc_site.specs.declared.waiting.WaitingAt.{WaitingAt}
 use Rattle.tc_lists.proofs.Sets.{get_or-map_at, get_or-map_set, get_or-map_set_other, slice_get-map_at, slice_get-set_same, set-slice_get}
 use Rattle.tc_lists.proofs.Pairs.{AllPairs-one_place}
-use Rattle.tc_site.proofs.Turned.{idle-log}
+use Rattle.tc_site.proofs.Turned.{after-refusal, idle-log}
 
 -- whether a row is pending, where the desk knows of one
 any_pending-at : (front : List LogRow) (row : LogRow) (back : List LogRow) → is_pending row.result ≡ true → any_pending (front ++ row ∷ back) ≡ true
@@ -173,13 +173,19 @@ pushed result log before after centre name ask asked same named copied is =
     is ∙ ap (λ l. with_row l name (Some asked) result) same ∙ ap (λ n. with_row log n (Some asked) result) named
     ∙ ap (λ a. with_row log centre (Some a) result) copied
 
+-- a log after a refusal, of what equals these
+pub refused-is : (why : Refusal) (log before after : List LogRow) (centre name : List ℕ) (ask asked : Ask)
+    → before ≡ log → name ≡ centre → asked ≡ ask → after ≡ refused_log before name asked why → after ≡ refused_log log centre ask why
+refused-is why log before after centre name ask asked same named copied is =
+    is ∙ ap (λ l. refused_log l name asked why) same ∙ ap (λ n. refused_log log n asked why) named
+    ∙ ap (λ a. refused_log log centre a why) copied
+
 -- an agent has a pass of the centre of each name
-pub at-pass : {W : Type 0} {d : AgentState W} {name : List ℕ} {p : PassState Entry Origin} → IsDesk d
-    → IsSite d.site.names d.site.centres d.site.roles → (place : ℕ) → slice_get d.site.names place ≡ Some name
-    → p ≡ get_or d.passes place p → slice_get d.passes place ≡ Some p
-at-pass {d = d} {name = name} {p = p} is whole place named value =
+pub at-pass : {W : Type 0} {d : AgentState W} {name : List ℕ} {p : PassState Entry Origin} → IsDesk d → (place : ℕ)
+    → slice_get d.site.names place ≡ Some name → p ≡ get_or d.passes place p → slice_get d.passes place ≡ Some p
+at-pass {d = d} {name = name} {p = p} is place named value =
     let inside = slice_get_within d.site.names place name named in
-    let many = whole.whole in
+    let many = is.site.whole in
     let wide = is.are.wide in
     slice_get_read d.passes (length d.passes) place p refl (omega (arith, inside, many, wide)) value
 
@@ -191,17 +197,20 @@ keeps-same d s log same log-is free =
     (λ (none : is_none d.held ≡ true). record { names = refl; free = none; seen = λ k. omega arith; read = subst IsRead (sym log-is) })
     free
 
--- a call that ran out of memory before its turn
-pub lost-before : {W : Type 0} (d s : AgentState W) (log : List LogRow) (centre : List ℕ) (ask : Ask) (why : Refusal) → why ≡ refusal.NoMemory → d ≡ s
-    → log ≡ d.log
-    → Refuses (desk_of s) centre ask why
+-- a call that ran out of memory, and was told so
+pub lost-told : (d e : DeskState) (centre : List ℕ) (ask : Ask) (told : Result Served Refusal) → told ≡ Err refusal.NoMemory
+    → Refuses d centre ask refusal.NoMemory e → MatchResult told (λ how. Makes d centre ask how e) (λ why. Refuses d centre ask why e)
+lost-told d e centre ask told is lost =
+    subst (λ r. MatchResult r (λ how. Makes d centre ask how e) (λ why. Refuses d centre ask why e)) (sym is) lost
+
+-- it ran out of memory before its turn
+pub lost-before : {W : Type 0} (d s : AgentState W) (log : List LogRow) (centre : List ℕ) (ask : Ask) → d ≡ s → log ≡ d.log
+    → Refuses (desk_of s) centre ask refusal.NoMemory
     (desk_of (record { site = d.site; agent = d.agent; passes = d.passes; log = log; pending = d.pending; held = d.held }))
-lost-before {W = W} d s log centre ask why is same log-is =
+lost-before {W = W} d s log centre ask same log-is =
     let now : AgentState W = record { site = d.site; agent = d.agent; passes = d.passes; log = log; pending = d.pending; held = d.held } in
-    let lost : Refuses (desk_of d) centre ask refusal.NoMemory (desk_of now) =
-    record { may = inl (record { turns = refl; seen = refl }); log = log-is; waits = refl } in
-    subst (λ w. Refuses (desk_of s) centre ask w (desk_of now)) (sym is)
-    (subst (λ x. Refuses (desk_of x) centre ask refusal.NoMemory (desk_of now)) same lost)
+    subst (λ x. Refuses (desk_of x) centre ask refusal.NoMemory (desk_of now)) same
+    (record { may = inl (record { turns = refl; seen = refl }); log = log-is; waits = refl })
 
 -- a desk whose pass of one centre has gone on
 module _ {W : Type 0} (d : AgentState W) (place : ℕ) (p q : PassState Entry Origin) (at-p : slice_get d.passes place ≡ Some p) (log : List LogRow) (pending : Option WaitingAt) where
@@ -397,10 +406,10 @@ module _ {W : Type 0} (permits : W → ℕ → ℕ → Primitive → Option ℕ)
       (subst (λ r. Tells d (with_row d.log centre (Some ask) became) (waiting_of became (length d.log) place) r) (sym told-is) (tells-turn became turn'))))
 
   -- the log stays decided
-  pub decides : (became : LogResult) (row : ℕ) (log : List LogRow) → AllPairs ◌≢◌ d.site.names → row ≡ length d.log
+  pub decides : (became : LogResult) (row : ℕ) (log : List LogRow) → row ≡ length d.log
       → log ≡ with_row d.log centre (Some ask) became → IsTurn t p (row + 1) op became q
       → site.IsDecidedLog permits d.site d.agent d.log → site.IsDecidedLog permits d.site d.agent log
-  decides became row log differ row-is log-is turn decided role has =
+  decides became row log row-is log-is turn decided role has =
       let role-is : allowed.role ≡ role = same_Some allowed.role role (sym allowed.has ∙ has) in
       let may : WardenPermits permits d.site.warden role place (primitive_of ask) =
       subst (λ r. WardenPermits permits d.site.warden r place (primitive_of ask)) role-is allowed.may in
@@ -408,7 +417,7 @@ module _ {W : Type 0} (permits : W → ℕ → ℕ → Primitive → Option ℕ)
       (decided-row d.log centre ask became (WardenPermits permits d.site.warden role) d.site.names (read-turn t p q (row + 1) ask op became sound turn)
       (λ place' named.
       subst (λ n. IsDecidedAs (WardenPermits permits d.site.warden role n (primitive_of ask)) became)
-      (AllPairs-one_place d.site.names place place' centre differ allowed.named named)
+      (AllPairs-one_place d.site.names place place' centre is.site.differ allowed.named named)
       (decided-turn t p q (WardenPermits permits d.site.warden role place (primitive_of ask)) (row + 1) op became may turn))
       (decided role has))
 
@@ -420,7 +429,7 @@ module _ {W : Type 0} (permits : W → ℕ → ℕ → Primitive → Option ℕ)
     site = d.site;
     agent = d.agent;
     passes = d.passes;
-    log = with_row d.log centre (Some ask) (Refused why);
+    log = refused_log d.log centre ask why;
     pending = d.pending;
     held = d.held;
   }
@@ -448,44 +457,33 @@ module _ {W : Type 0} (permits : W → ℕ → ℕ → Primitive → Option ℕ)
     idle = idle-log d.site.names d.log d.pending is.waits (sym waits-is ∙ idle);
   }
 
-  may-refuse : (why : Refusal) → (why ≡ refusal.NoMemory → ⊥) → IsRefused why → MayRefuse (desk_of d) centre ask why (desk_of (after why))
-  may-refuse refusal.UnknownCentre other refused = (refused, still refusal.UnknownCentre)
-  may-refuse refusal.Waiting other refused =
+  may-refuse : (why : Refusal) → IsRefused why → MayRefuse (desk_of d) centre ask why (desk_of (after why))
+  may-refuse refusal.UnknownCentre refused = (refused, still refusal.UnknownCentre)
+  may-refuse refusal.Waiting refused =
       (refused.0, busy-some d.site.names d.log d.pending is.waits (sym waits-is ∙ refused.1), still refusal.Waiting)
-  may-refuse refusal.Denied other refused = (ready-at refused.place refused.named refused.idle, still refusal.Denied)
-  may-refuse refusal.TooBig other refused =
+  may-refuse refusal.Denied refused = (ready-at refused.place refused.named refused.idle, still refusal.Denied)
+  may-refuse refusal.TooBig refused =
       (ready-at refused.place refused.allowed.named refused.allowed.idle, refused.is, still refusal.TooBig)
-  may-refuse refusal.NotGround other refused =
+  may-refuse refusal.NotGround refused =
       (ready-at refused.place refused.allowed.named refused.allowed.idle, refused.is, still refusal.NotGround)
-  may-refuse (refusal.BadSpec bad) other refused =
+  may-refuse (refusal.BadSpec bad) refused =
       (ready-at refused.place refused.allowed.named refused.allowed.idle, refused.is, still (refusal.BadSpec bad))
-  may-refuse refusal.TurnsSpent other refused = absurd refused
-  may-refuse (refusal.Full weight many) other refused = absurd refused
-  may-refuse refusal.NoMemory other refused = absurd (other refl)
+  may-refuse refusal.TurnsSpent refused = absurd refused
+  may-refuse (refusal.Full weight many) refused = absurd refused
+  may-refuse refusal.NoMemory refused = inl (still refusal.NoMemory)
 
-  same-log : (why : Refusal) → (why ≡ refusal.NoMemory → ⊥) → with_row d.log centre (Some ask) (Refused why) ≡ refused_log d.log centre ask why
-  same-log refusal.UnknownCentre other = refl
-  same-log refusal.Waiting other = refl
-  same-log refusal.Denied other = refl
-  same-log refusal.TooBig other = refl
-  same-log refusal.NotGround other = refl
-  same-log (refusal.BadSpec bad) other = refl
-  same-log refusal.TurnsSpent other = refl
-  same-log (refusal.Full weight many) other = refl
-  same-log refusal.NoMemory other = absurd (other refl)
-
-  module _ (differ : AllPairs ◌≢◌ d.site.names) (role place : ℕ) (has : slice_get d.site.roles d.agent ≡ Some role) (named : slice_get d.site.names place ≡ Some centre) where
+  module _ (role place : ℕ) (has : slice_get d.site.roles d.agent ≡ Some role) (named : slice_get d.site.names place ≡ Some centre) where
     abbrev May : ℕ → ℕ → Type 0
     May r n = WardenPermits permits d.site.warden r n (primitive_of ask)
 
     moved : (r n : ℕ) → slice_get d.site.roles d.agent ≡ Some r → slice_get d.site.names n ≡ Some centre → May r n → May role place
     moved r n has' named' may =
-        subst (May role) (AllPairs-one_place d.site.names n place centre differ named' named)
+        subst (May role) (AllPairs-one_place d.site.names n place centre is.site.differ named' named)
         (subst (λ r'. May r' n) (same_Some r role (sym has' ∙ has)) may)
 
     moved-back : (r n : ℕ) → slice_get d.site.roles d.agent ≡ Some r → slice_get d.site.names n ≡ Some centre → May role place → May r n
     moved-back r n has' named' may =
-        subst (May r) (AllPairs-one_place d.site.names place n centre differ named named')
+        subst (May r) (AllPairs-one_place d.site.names place n centre is.site.differ named named')
         (subst (λ r'. May r' place) (same_Some role r (sym has ∙ has')) may)
 
     decided-refused : (why : Refusal) → (why ≡ refusal.NoMemory → ⊥) → IsRefused why → IsDecidedAs (May role place) (Refused why)
@@ -500,7 +498,7 @@ module _ {W : Type 0} (permits : W → ℕ → ℕ → Primitive → Option ℕ)
     decided-refused (refusal.Full weight many) other refused = absurd refused
     decided-refused refusal.NoMemory other refused = absurd (other refl)
 
-  module _ (why : Refusal) (other : why ≡ refusal.NoMemory → ⊥) (refused : IsRefused why) (log : List LogRow) (log-is : log ≡ with_row d.log centre (Some ask) (Refused why))
+  module _ (why : Refusal) (refused : IsRefused why) (log : List LogRow) (log-is : log ≡ refused_log d.log centre ask why)
       (s : AgentState W) (same : d ≡ s) where
     abbrev now : List LogRow → AgentState W
     now l = record { site = d.site; agent = d.agent; passes = d.passes; log = l; pending = d.pending; held = d.held }
@@ -513,7 +511,10 @@ module _ {W : Type 0} (permits : W → ℕ → ℕ → Primitive → Option ℕ)
           names = refl;
           free = none;
           seen = λ k. omega arith;
-          read = λ (read : IsRead d.log). subst IsRead (sym log-is) (read-row d.log centre ask (Refused why) (read-refused why other refused) read);
+          read = λ (read : IsRead d.log).
+              subst IsRead (sym log-is)
+              (after-refusal IsRead d.log centre ask why read
+              (λ other. read-row d.log centre ask (Refused why) (read-refused why other refused) read));
         })
         free
 
@@ -521,14 +522,16 @@ module _ {W : Type 0} (permits : W → ℕ → ℕ → Primitive → Option ℕ)
     spends-refused =
         subst (λ x. Spends 1 (desk_of x) (desk_of (now log))) same (record { wide = refl; fell = λ k. omega arith; most = λ k. omega arith })
 
-    pub decides-refused : AllPairs ◌≢◌ d.site.names → site.IsDecidedLog permits d.site d.agent d.log → site.IsDecidedLog permits d.site d.agent log
-    decides-refused differ decided role has =
+    pub decides-refused : site.IsDecidedLog permits d.site d.agent d.log → site.IsDecidedLog permits d.site d.agent log
+    decides-refused decided role has =
         subst (IsDecided (WardenPermits permits d.site.warden role) d.site.names) (sym log-is)
-        (decided-row d.log centre ask (Refused why) (WardenPermits permits d.site.warden role) d.site.names (read-refused why other refused)
-        (λ place named. decided-refused differ role place has named why other refused) (decided role has))
+        (after-refusal (IsDecided (WardenPermits permits d.site.warden role) d.site.names) d.log centre ask why (decided role has)
+        (λ other.
+        decided-row d.log centre ask (Refused why) (WardenPermits permits d.site.warden role) d.site.names (read-refused why other refused)
+        (λ place named. decided-refused role place has named why other refused) (decided role has)))
 
     pub refuses : Refuses (desk_of s) centre ask why (desk_of (record { site = d.site; agent = d.agent; passes = d.passes; log = log; pending = d.pending; held = d.held }))
     refuses =
         subst (λ x. Refuses (desk_of x) centre ask why (desk_of (now log))) same
         (subst (λ l. Refuses (desk_of d) centre ask why (desk_of (now l))) (sym log-is)
-        (record { may = may-refuse why other refused; log = same-log why other; waits = refl }))
+        (record { may = may-refuse why refused; log = refl; waits = refl }))

@@ -1,5 +1,5 @@
 -- A desk after a call: a pass of it has gone on, its log has a row more, and that row may be pending.
-use Rattle.std.proofs.Common.{◌≡◌, ◌≢◌, ℕ, ◌+◌, ◌<◌, Bool, true, false, List, [], ◌∷◌, ◌++◌, Option, Some, None, All, Contains, length, take, refl, sym, ap, ◌∙◌, subst, arith, ⊎_elim}
+use Rattle.std.proofs.Common.{◌≡◌, ℕ, ◌+◌, ◌<◌, Bool, true, false, List, [], ◌∷◌, ◌++◌, Option, Some, None, All, Contains, length, take, refl, sym, ap, ◌∙◌, subst, arith, ⊎_elim}
 use Rattle.std.specs.List.{slice_get, list_any}
 use Rattle.std.specs.Option.{is_none, is_some}
 use Rattle.std.proofs.Math.ListN.{set}
@@ -11,7 +11,7 @@ use Rattle.std.proofs.lemmas.Option.{none-some, same_Some, slice_get_within}
 use Rattle.tc_centre.specs.declared.answers.Answer.{Answer}
 use Rattle.tc_centre.specs.declared.answers.Answer.TheVariants as answer
 use Rattle.tc_desk.specs.Agreeing.{AgreesRefused, AgreesRow, AreLonger, HasRow, HaveRows, IsLonger, IsNextRow, NamesCentre}
-use Rattle.tc_desk.specs.Desks.{with_row}
+use Rattle.tc_desk.specs.Desks.{refused_log, with_row}
 use Rattle.tc_desk.specs.Logs.{any_pending, is_served}
 use Rattle.tc_desk.specs.Operands.{OpOf, Sound}
 use Rattle.tc_desk.specs.Served.{IsCalled, WasFull}
@@ -46,7 +46,7 @@ use Rattle.tc_shared.specs.Passes.{KeepsPass, CallsInTurn, SeesFull, SeesRoom}
 use Rattle.tc_turn.specs.Passes.{TurnstileState, PassState}
 use Rattle.tc_site.specs.Desks.{AgentState, IsDesk, IsWaitingAt, WaitsAt, is_held}
 use Rattle.tc_site.specs.Judging.{IsRefusedFor}
-use Rattle.tc_site.specs.Sites.{IsOwnPass, IsSite, histories_of, origins_of}
+use Rattle.tc_site.specs.Sites.{IsOwnPass, histories_of, origins_of}
 use Rattle.tc_site.specs.Turns.{HasGrown, IsTurn, waiting_of}
 use Rattle.tc_site.specs.declared.waiting.WaitingAt.{WaitingAt}
 use Rattle.tc_site.proofs.Calling.{are-set, grown-sees, longer-set}
@@ -151,7 +151,7 @@ module _ (t : TurnstileState Origin) (p q : PassState Entry Origin) (number : �
   pub makes-waits : reply_in q.seen (call_of p.number number) ≡ None → m.result ≡ outcome.Pending
   makes-waits none = pending-outcome m.result (λ r is. none-some r (sym none ∙ makes-reply r is))
 
-module _ {W : Type 0} (d : AgentState W) (is : IsDesk d) (site : IsSite d.site.names d.site.centres d.site.roles) (free : is_none d.held ≡ true)
+module _ {W : Type 0} (d : AgentState W) (is : IsDesk d) (free : is_none d.held ≡ true)
     (place : ℕ) (centre : List ℕ) (named : slice_get d.site.names place ≡ Some centre)
     (t : TurnstileState Origin) (p : PassState Entry Origin) (at-t : slice_get d.site.centres place ≡ Some t) (at-p : slice_get d.passes place ≡ Some p) where
   abbrev seen : PassState Entry Origin → List Entry
@@ -215,6 +215,7 @@ module _ {W : Type 0} (d : AgentState W) (is : IsDesk d) (site : IsSite d.site.n
     -- after the pass has seen more, to which the agent added nothing
     pub desk-longer : HasGrown (length d.log) p q → q.mine ≡ p.mine → IsDesk (record d { passes = set d.passes place q })
     desk-longer grown same = record {
+      site = is.site;
       agent_is = is.agent_is;
       are = are-set d.agent (length d.log) place d.site.centres d.passes is.are t p q at-t at-p keeps.own keeps.number;
       holds = holds-set;
@@ -267,7 +268,7 @@ module _ {W : Type 0} (d : AgentState W) (is : IsDesk d) (site : IsSite d.site.n
         counted = counted;
         known = subst (λ c. NamesCentre d.site.names c row.result) (sym of) known;
         agrees = λ k origin history at began there.
-            let here : k ≡ place = AllPairs-one_place d.site.names k place centre site.differ (at ∙ ap Some of) named in
+            let here : k ≡ place = AllPairs-one_place d.site.names k place centre is.site.differ (at ∙ ap Some of) named in
             let first = slice_get-map_from (λ (x : TurnstileState Origin). x.origin) d.site.centres k origin began in
             let after = slice_get-map_from seen passes' k history there in
             let same : t ≡ first.0 = same_Some t first.0 (sym at-t ∙ ap (slice_get d.site.centres) (sym here) ∙ first.1) in
@@ -281,6 +282,7 @@ module _ {W : Type 0} (d : AgentState W) (is : IsDesk d) (site : IsSite d.site.n
           → NamesCentre d.site.names centre row.result → All (HasRow (d.log ++ row ∷ []) centre) q.mine → WaitsAt d.site.names (d.log ++ row ∷ []) pending
           → IsDesk (record d { passes = set d.passes place q; log = d.log ++ row ∷ []; pending = pending })
       desk-pushed grown agrees known made waits = record {
+        site = is.site;
         agent_is = is.agent_is;
         are = are-set d.agent (length d.log) place d.site.centres d.passes is.are t p q at-t at-p keeps.own keeps.number;
         holds = holds-set;
@@ -409,6 +411,19 @@ module _ {W : Type 0} (d : AgentState W) (is : IsDesk d) (site : IsSite d.site.n
           (desk-pushed (row-of became) (waiting_of became (length d.log) place) refl refl grown (row-agrees became turn) (row-named became turn) (turn-rows became turn)
           (waits-turned d.site.names d.log centre ask place became named idle)))
 
+-- a fact of a log, and of it with the row of a refused call, is one of the log after the refusal
+pub after-refusal : (P : List LogRow → Type 0) (log : List LogRow) (centre : List ℕ) (ask : Ask) (why : Refusal) → P log
+    → ((why ≡ refusal.NoMemory → ⊥) → P (with_row log centre (Some ask) (Refused why))) → P (refused_log log centre ask why)
+after-refusal P log centre ask refusal.UnknownCentre same row = row (λ e. cc)
+after-refusal P log centre ask refusal.Waiting same row = row (λ e. cc)
+after-refusal P log centre ask refusal.Denied same row = row (λ e. cc)
+after-refusal P log centre ask refusal.TooBig same row = row (λ e. cc)
+after-refusal P log centre ask refusal.NotGround same row = row (λ e. cc)
+after-refusal P log centre ask (refusal.BadSpec bad) same row = row (λ e. cc)
+after-refusal P log centre ask refusal.TurnsSpent same row = row (λ e. cc)
+after-refusal P log centre ask (refusal.Full weight pending) same row = row (λ e. cc)
+after-refusal P log centre ask refusal.NoMemory same row = same
+
 pub longer-same : (agent top : ℕ) (histories : List (List Entry)) → AreLonger agent top histories histories
 longer-same agent top histories = record {
   whole = refl;
@@ -451,6 +466,7 @@ module _ {W : Type 0} (permits : W → ℕ → ℕ → Primitive → Option ℕ)
         agrees = λ k origin history at began there. judged-agrees why origin history (call_of d.agent (length d.log + 1)) other refused;
       } in
       record {
+        site = is.site;
         agent_is = is.agent_is;
         are = is.are;
         holds = is.holds;
@@ -461,6 +477,8 @@ module _ {W : Type 0} (permits : W → ℕ → ℕ → Primitive → Option ℕ)
       }
 
   -- after a call that was refused before its turn
-  pub desk-refused : (why : Refusal) {log : List LogRow} → log ≡ with_row d.log centre (Some ask) (Refused why) → (why ≡ refusal.NoMemory → ⊥)
+  pub desk-refused : (why : Refusal) {log : List LogRow} → log ≡ refused_log d.log centre ask why
       → IsRefusedFor permits d.site d.agent waits centre asked why → IsDesk (record d { log = log })
-  desk-refused why log-is other refused = subst (λ l. IsDesk (record d { log = l })) (sym log-is) (row-refused why other refused)
+  desk-refused why log-is refused =
+      subst (λ l. IsDesk (record d { log = l })) (sym log-is)
+      (after-refusal (λ l. IsDesk (record d { log = l })) d.log centre ask why is (λ other. row-refused why other refused))

@@ -40,9 +40,10 @@ pub record AreOpened (agents : ℕ) (cores : List Centre) (centres : List (Turns
 -- each column has passes of its agent, none of which holds a turn
 pub record AreColumns (centres : List (TurnstileState Origin))
     (columns : List (List (PassState Entry Origin))) : Type 0 where
-  pub are : (agent : ℕ) (column : List (PassState Entry Origin)) → slice_get columns agent ≡ Some column
-      → ArePasses agent centres column
-  pub free : (agent : ℕ) (column : List (PassState Entry Origin)) → slice_get columns agent ≡ Some column
+  pub are : (agent : ℕ) (column : List (PassState Entry Origin))
+      → slice_get columns agent ≡ Some column → ArePasses agent centres column
+  pub free : (agent : ℕ) (column : List (PassState Entry Origin))
+      → slice_get columns agent ≡ Some column
       → All (λ (p : PassState Entry Origin). p.holds ≡ false) column
 
 -- the column's last pass is the agent's pass of this centre, and holds no turn
@@ -97,8 +98,8 @@ pub record IsClosedOver (t : TurnstileState Origin) (olds : List (List (PassStat
       → (p : PassState Entry Origin) × (old ≡ new ++ p ∷ []) × IsSeenBy core.history agent p
 
 -- what is left of the centre at this place, of which the columns have the passes
-pub record IsClosedAt (columns : List (List (PassState Entry Origin))) (place : ℕ) (t : TurnstileState Origin)
-    (core : Centre) : Type 0 where
+pub record IsClosedAt (columns : List (List (PassState Entry Origin))) (place : ℕ)
+    (t : TurnstileState Origin) (core : Centre) : Type 0 where
   pub left : IsLeftOf t core
   pub each : (agent : ℕ) (column : List (PassState Entry Origin)) (p : PassState Entry Origin)
       → slice_get columns agent ≡ Some column → slice_get column place ≡ Some p

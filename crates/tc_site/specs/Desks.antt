@@ -15,7 +15,7 @@ use Rattle.tc_model.specs.State.{Origin}
 use Rattle.tc_model.specs.declared.asks.Primitive.{Primitive}
 use Rattle.tc_model.specs.declared.entries.Entry.{Entry}
 use Rattle.tc_turn.specs.Passes.{PassState}
-use Rattle.tc_site.specs.Sites.{SiteState, ArePasses, AgreesSeen, TURNS, histories_of}
+use Rattle.tc_site.specs.Sites.{SiteState, IsSite, ArePasses, AgreesSeen, TURNS, histories_of}
 use Rattle.tc_site.specs.declared.waiting.WaitingAt.{WaitingAt}
 
 -- an agent's desk: its site, the agent, its passes, its log, where it has a pending row, and at which centre
@@ -75,9 +75,10 @@ abbrev pub is_held : Option ℕ → ℕ → Bool
 is_held None k = false
 is_held (Some place) k = nat_eq place k
 
--- what the type promises of a desk: the passes are the agent's, the turn that is held is known, the log
--- agrees with what the passes have seen, and the row that is pending is known
+-- what the type promises of a desk: its site is one, the passes are the agent's, the turn that is held is
+-- known, the log agrees with what the passes have seen, and the row that is pending is known
 pub record IsDesk {W : Type 0} (d : AgentState W) : Type 0 where
+  pub site : IsSite d.site.names d.site.centres d.site.roles
   pub agent_is : d.agent < length d.site.roles
   pub are : ArePasses d.agent d.site.centres d.passes
   pub holds : (k : ℕ) (p : PassState Entry Origin) → slice_get d.passes k ≡ Some p
@@ -86,13 +87,14 @@ pub record IsDesk {W : Type 0} (d : AgentState W) : Type 0 where
   pub waits : WaitsAt d.site.names d.log d.pending
 
 -- the warden permits the role to use the primitive on the centre
-abbrev pub WardenPermits : {W : Type 0} → (W → ℕ → ℕ → Primitive → Option ℕ) → W → ℕ → ℕ → Primitive → Type 0
+abbrev pub WardenPermits : {W : Type 0} → (W → ℕ → ℕ → Primitive → Option ℕ)
+    → W → ℕ → ℕ → Primitive → Type 0
 WardenPermits permits warden role place primitive =
     (number : ℕ) × (permits warden role place primitive ≡ Some number)
 
 -- the log is decided by the site's warden, for the agent's role
-abbrev pub IsDecidedLog : {W : Type 0} → (W → ℕ → ℕ → Primitive → Option ℕ) → SiteState W → ℕ → List LogRow
-    → Type 0
+abbrev pub IsDecidedLog : {W : Type 0} → (W → ℕ → ℕ → Primitive → Option ℕ)
+    → SiteState W → ℕ → List LogRow → Type 0
 IsDecidedLog permits s agent log = (role : ℕ) → slice_get s.roles agent ≡ Some role
     → IsDecided (WardenPermits permits s.warden role) s.names log
 

@@ -7,8 +7,8 @@ use Rattle.tc_config.specs.declared.configs.CentreConf.{CentreConf}
 use Rattle.tc_site.specs.Sites.{SiteState, origins_of, roles_of}
 
 -- the core of a centre as it is set up, which has served nothing
-abbrev pub fresh_core : Configuration → CentreConf → Centre
-fresh_core c centre = record { origin = origin_of c centre; history = [] }
+abbrev pub founded_core : Configuration → CentreConf → Centre
+founded_core c centre = record { origin = origin_of c centre; history = [] }
 
 -- the site has the configuration's centres, each as it is set up, its agents' roles, and this warden
 pub record IsFounded {W : Type 0} (c : Configuration) (warden : W) (s : SiteState W) : Type 0 where

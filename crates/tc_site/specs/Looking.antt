@@ -28,7 +28,8 @@ pub record MayLook (t : TurnstileState Origin) (p : PassState Entry Origin) (log
 -- the log with this reply in the row at a place
 abbrev pub IsPut : List LogRow → ℕ → Reply → List LogRow → Type 0
 IsPut log place reply after = (front : List LogRow) (row : LogRow) (back : List LogRow)
-    → log ≡ front ++ row ∷ back → place ≡ length front → after ≡ front ++ replied row reply ∷ back
+    → log ≡ front ++ row ∷ back → place ≡ length front
+    → after ≡ front ++ replied row reply ∷ back
 
 -- the call of the row at a place has a reply in what the pass q has seen, and its row has got it
 pub record HasRowReply (place : ℕ) (log : List LogRow) (q : PassState Entry Origin) (after : List LogRow)
@@ -44,8 +45,8 @@ pub record HasNone (place : ℕ) (log : List LogRow) (q : PassState Entry Origin
   pub same : after ≡ log
 
 -- what came of one look
-abbrev pub IsLook : TurnstileState Origin → ℕ → PassState Entry Origin → List LogRow → Result Seen DeskFault
-    → PassState Entry Origin → List LogRow → Type 0
+abbrev pub IsLook : TurnstileState Origin → ℕ → PassState Entry Origin → List LogRow
+    → Result Seen DeskFault → PassState Entry Origin → List LogRow → Type 0
 IsLook t place p log (Ok seen.Answered) q after = Sees t p q × HasRowReply place log q after
 IsLook t place p log (Ok seen.StillPending) q after = Sees t p q × HasNone place log q after
 IsLook t place p log (Err fault.TurnsSpent) q after = IsSpent p q × (after ≡ log)

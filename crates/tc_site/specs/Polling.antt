@@ -36,7 +36,8 @@ IsPolled t place p centre log (Ok seen.StillPending) q after =
     PollsInTurn t p (length log + 1) (place + 1) poll.NotYet q
     × (after ≡ with_row log centre None (Polled None))
 IsPolled t place p centre log (Err (fault.Full weight pending)) q after =
-    SeesFull t p weight pending q × (after ≡ with_row log centre None (Refused (refusal.Full weight pending)))
+    SeesFull t p weight pending q
+    × (after ≡ with_row log centre None (Refused (refusal.Full weight pending)))
 IsPolled t place p centre log (Err fault.TurnsSpent) q after = IsSpent p q × (after ≡ log)
 IsPolled t place p centre log (Err fault.NoMemory) q after = (SeesRoom t p q ⊎ (q ≡ p)) × (after ≡ log)
 IsPolled t place p centre log (Err fault.Idle) q after = ⊥

@@ -47,8 +47,8 @@ pub record IsOwnPass (agent : ℕ) (t : TurnstileState Origin) (p : PassState En
 pub record ArePasses (agent : ℕ) (centres : List (TurnstileState Origin))
     (passes : List (PassState Entry Origin)) : Type 0 where
   pub wide : length passes ≡ length centres
-  pub each : (k : ℕ) (t : TurnstileState Origin) (p : PassState Entry Origin) → slice_get centres k ≡ Some t
-      → slice_get passes k ≡ Some p → IsOwnPass agent t p
+  pub each : (k : ℕ) (t : TurnstileState Origin) (p : PassState Entry Origin)
+      → slice_get centres k ≡ Some t → slice_get passes k ≡ Some p → IsOwnPass agent t p
 
 -- how many turns each pass of a site has
 abbrev pub TURNS : ℕ
@@ -58,8 +58,9 @@ TURNS = 4294967295
 pub record AreFresh (agent : ℕ) (centres : List (TurnstileState Origin))
     (passes : List (PassState Entry Origin)) : Type 0 where
   pub are : ArePasses agent centres passes
-  pub fresh : (k : ℕ) (t : TurnstileState Origin) (p : PassState Entry Origin) → slice_get centres k ≡ Some t
-      → slice_get passes k ≡ Some p → p ≡ new_pass t.table t.origin TURNS agent
+  pub fresh : (k : ℕ) (t : TurnstileState Origin) (p : PassState Entry Origin)
+      → slice_get centres k ≡ Some t → slice_get passes k ≡ Some p
+      → p ≡ new_pass t.table t.origin TURNS agent
 
 -- an agent's kit, or its desk that has ended, is of this site
 pub record KitState (W : Type 0) : Type 0 where
@@ -67,18 +68,20 @@ pub record KitState (W : Type 0) : Type 0 where
   pub agent : ℕ
 
 -- a desk that has ended: its site, its agent and its log
-pub record EndedState (W : Type 0) : Type 0 where
+pub record EndedDeskState (W : Type 0) : Type 0 where
   pub site : SiteState W
   pub agent : ℕ
   pub log : List LogRow
 
 -- the log agrees with what the agent's passes have seen
-abbrev pub AgreesSeen : List (TurnstileState Origin) → List (List ℕ) → List (PassState Entry Origin) → ℕ
-    → List LogRow → Type 0
-AgreesSeen centres names passes agent log = Agrees (origins_of centres) names (histories_of passes) agent log
+abbrev pub AgreesSeen : List (TurnstileState Origin) → List (List ℕ) → List (PassState Entry Origin)
+    → ℕ → List LogRow → Type 0
+AgreesSeen centres names passes agent log =
+    Agrees (origins_of centres) names (histories_of passes) agent log
 
 -- the agent's passes hold no turn, and its log agrees with what they have seen
-pub record IsEndedDesk {W : Type 0} (e : EndedState W) (passes : List (PassState Entry Origin)) : Type 0 where
+pub record IsEndedDesk {W : Type 0} (e : EndedDeskState W) (passes : List (PassState Entry Origin))
+    : Type 0 where
   pub agent_is : e.agent < length e.site.roles
   pub are : ArePasses e.agent e.site.centres passes
   pub free : All (λ (p : PassState Entry Origin). p.holds ≡ false) passes
@@ -108,8 +111,8 @@ pub record IsSiteOf {W : Type 0} (names : List (List ℕ)) (cores : List Centre)
   pub warden_is : s.warden ≡ warden
 
 -- there is one for each agent of the site, in order
-pub record AreOfSite {W V : Type 0} (site : V → SiteState W) (agent : V → ℕ) (s : SiteState W) (vs : List V)
-    : Type 0 where
+pub record AreOfSite {W V : Type 0} (site : V → SiteState W) (agent : V → ℕ) (s : SiteState W)
+    (vs : List V) : Type 0 where
   pub whole : length vs ≡ length s.roles
   pub each : (k : ℕ) (v : V) → slice_get vs k ≡ Some v → (site v ≡ s) × (agent v ≡ k)
 

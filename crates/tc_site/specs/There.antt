@@ -64,8 +64,8 @@ GoesNowhere d e = e.passes ≡ d.passes
 
 -- what a call came to: it was served, or refused, in a turn, or for want of one, at the centre of this name;
 -- or it went nowhere
-abbrev pub IsCallThere : {W : Type 0} → AgentState W → List ℕ → Ask → Result Served Refusal → AgentState W
-    → Type 0
+abbrev pub IsCallThere : {W : Type 0} → AgentState W → List ℕ → Ask → Result Served Refusal
+    → AgentState W → Type 0
 IsCallThere d centre ask (Ok how) e = CallsThere d centre ask (Ok how) e
 IsCallThere d centre ask (Err refusal.TurnsSpent) e = CallsThere d centre ask (Err refusal.TurnsSpent) e
 IsCallThere d centre ask (Err (refusal.Full weight pending)) e =

@@ -5,7 +5,7 @@ ghost use Rattle.tc_shared.specs.Passes.{IsAtRest};
 ghost use Rattle.tc_site.specs.Columns.{AreClosedFrom, AreColumns, AreTaken, HaveLasts};
 ghost use Rattle.tc_site.specs.Columns.{IsClosedOver, columns_of};
 ghost use Rattle.tc_desk.specs.Logs.{rows_of};
-ghost use Rattle.tc_site.specs.Sites.{EndedState, HasPasses, IsEndedDesk};
+ghost use Rattle.tc_site.specs.Sites.{EndedDeskState, HasPasses, IsEndedDesk};
 
 use crate::kits::EndedDesk;
 use std::alloc::Global;
@@ -26,10 +26,11 @@ pub(crate) fn take_apart<W: Warden + Drop>(
     alloc: Global,
     ended: Vec<EndedDesk<W>>,
 ) -> Result<Left, NoMemory>
-    ensures columns { IfOk result (λ left. AllZip (λ (e : EndedState W) passes. IsEndedDesk e passes)
+    ensures columns { IfOk result (λ left.
+        AllZip (λ (e : EndedDeskState W) passes. IsEndedDesk e passes)
         ended.items (columns_of left.columns.items)) }
     ensures logs { IfOk result (λ left. rows_of left.logs.items
-        ≡ map (λ (e : EndedState W). e.log) ended.items) }
+        ≡ map (λ (e : EndedDeskState W). e.log) ended.items) }
 {
     let mut columns = Vec::with_capacity(alloc, ended.len())?;
     let mut logs = Vec::with_capacity(alloc, ended.len())?;

@@ -11,13 +11,13 @@ use crate::kits::{DeskKit, EndedDesk};
 use crate::looking::{left, look_for, still, wait_for};
 use crate::polling::poll_for;
 use crate::sites::Site;
-use crate::turns::{push_row, told, turn_at, waiting};
+use crate::turns::{push_refused, push_row, told, turn_at, waiting};
 use crate::waiting::WaitingAt;
 use std::alloc::Global;
 use std::marker::Model;
 use std::snapshot::Snapshot;
 use std::sync::Wait;
-use tc_desk::{Desk, DeskFault, LogResult, LogRow, Refusal, Seen, Served, Warden};
+use tc_desk::{Desk, DeskFault, LogRow, Refusal, Seen, Served, Warden};
 use tc_model::Ask;
 use tc_shared::{CentrePass, Paused};
 use tc_term::Name;
@@ -71,6 +71,7 @@ impl<'a, W: Warden + Drop> AgentDesk<'a, W> {
         ensures agent { result.agent ≡ kit.agent }
         ensures sound { IsDecidedLog W.permits result.site result.agent result.log }
     {
+        // For what it ensures of the site, which the desk promises too.
         let _ = site.names();
         let DeskKit { agent, passes, .. } = kit;
         AgentDesk {
@@ -91,7 +92,6 @@ impl<'a, W: Warden + Drop> AgentDesk<'a, W> {
         ensures few { result ≤ MOST_WEIGHT }
         ensures agrees { IsDesk self.now }
     {
-        let _ = self.site.names();
         self.passes[centre as usize].known()
     }
 
@@ -103,15 +103,10 @@ impl<'a, W: Warden + Drop> AgentDesk<'a, W> {
         ensures paused { IfOk result (λ core. Pauses self.old centre core self.new) }
         ensures spent { OnErr result (HasNoneLeft self.old centre self.new) }
     {
-        let _ = self.site.names();
         let pass = &mut self.passes[centre as usize];
-        match self.site.centre(centre).pause(rt, pass) {
-            Ok(paused) => {
-                self.held = Some(centre);
-                return Ok(paused);
-            }
-            Err(spent) => return Err(spent),
-        }
+        let paused = self.site.centre(centre).pause(rt, pass)?;
+        self.held = Some(centre);
+        Ok(paused)
     }
 
     /// Gives back the turn that the desk holds, with the core as it was.
@@ -123,7 +118,6 @@ impl<'a, W: Warden + Drop> AgentDesk<'a, W> {
         let Some(place) = self.held else {
             unreachable!()
         };
-        let _ = self.site.names();
         let pass = &mut self.passes[place as usize];
         self.site.centre(place).resume(pass, paused);
         self.held = None;
@@ -132,7 +126,11 @@ impl<'a, W: Warden + Drop> AgentDesk<'a, W> {
     /// Ends the desk. The turns that it has left are gone.
     pub fn end(self) -> EndedDesk<W>
         requires free { (desk_of self).free ≡ true }
-        ensures { result ≡ record { site = self.entry.site; agent = self.entry.agent; log = self.entry.log } }
+        ensures { result ≡ record {
+          site = self.entry.site;
+          agent = self.entry.agent;
+          log = self.entry.log;
+        } }
     {
         let site = Snapshot::of(self.site);
         let AgentDesk {
@@ -183,45 +181,29 @@ impl<'a, W: Warden + Drop> Desk for AgentDesk<'a, W> {
         // What it came to at the centre of this name.
         ensures there { IsCallThere self.old centre.now ask result self.new }
     {
-        if self.log.reserve(1).is_err() {
-            return Err(Refusal::NoMemory);
-        }
-        let Ok(name) = centre.copy(alloc) else {
-            return Err(Refusal::NoMemory);
-        };
-        let Ok(asked) = ask.copy(alloc) else {
-            return Err(Refusal::NoMemory);
-        };
+        self.log.reserve(1).map_err(|_| Refusal::NoMemory)?;
+        let name = centre.copy(alloc).map_err(|_| Refusal::NoMemory)?;
+        let asked = ask.copy(alloc).map_err(|_| Refusal::NoMemory)?;
         let waits = self.pending.is_some();
-        match judge(alloc, self.site, self.agent, waits, centre, ask) {
-            Ok(Allowed { place, op }) => {
-                let row = self.log.len();
-                let pass = &mut self.passes[place as usize];
-                match turn_at(rt, alloc, self.site.centre(place), pass, row as u64 + 1, op) {
-                    Ok(became) => {
-                        let told = told(&became);
-                        self.pending = waiting(&became, row, place);
-                        push_row(&mut self.log, name, Some(asked), became);
-                        return told;
-                    }
-                    Err(_) => return Err(Refusal::NoMemory),
-                }
+        let Allowed { place, op } = match judge(alloc, self.site, self.agent, waits, centre, ask) {
+            Ok(allowed) => allowed,
+            Err(why) => {
+                push_refused(&mut self.log, name, asked, why);
+                return Err(why);
             }
-            Err(why) => match why {
-                Refusal::NoMemory => return Err(why),
-                _ => {
-                    push_row(&mut self.log, name, Some(asked), LogResult::Refused(why));
-                    return Err(why);
-                }
-            },
-        }
+        };
+        let row = self.log.len();
+        let pass = &mut self.passes[place as usize];
+        let turn = turn_at(rt, alloc, self.site.centre(place), pass, row as u64 + 1, op);
+        let became = turn.map_err(|_| Refusal::NoMemory)?;
+        let told = told(&became);
+        self.pending = waiting(&became, row, place);
+        push_row(&mut self.log, name, Some(asked), became);
+        told
     }
 
     fn look<R: Wait>(&mut self, rt: &R, alloc: Global) -> Result<Seen, DeskFault> {
-        let Some(at) = self.pending else {
-            return Err(DeskFault::Idle);
-        };
-        let _ = self.site.names();
+        let at = self.pending.ok_or(DeskFault::Idle)?;
         let pass = &mut self.passes[at.centre as usize];
         let centre = self.site.centre(at.centre);
         let seen = look_for(rt, alloc, centre, pass, &mut self.log, at.row);
@@ -230,10 +212,7 @@ impl<'a, W: Warden + Drop> Desk for AgentDesk<'a, W> {
     }
 
     fn wait<R: Wait>(&mut self, rt: &R, alloc: Global) -> Result<(), DeskFault> {
-        let Some(at) = self.pending else {
-            return Err(DeskFault::Idle);
-        };
-        let _ = self.site.names();
+        let at = self.pending.ok_or(DeskFault::Idle)?;
         let pass = &mut self.passes[at.centre as usize];
         let centre = self.site.centre(at.centre);
         let waited = wait_for(rt, alloc, centre, pass, &mut self.log, at.row);
@@ -253,10 +232,7 @@ impl<'a, W: Warden + Drop> Desk for AgentDesk<'a, W> {
         // What it came to at the centre of the pending row.
         ensures there { IsPollThere self.old result self.new }
     {
-        let Some(at) = self.pending else {
-            return Err(DeskFault::Idle);
-        };
-        let _ = self.site.names();
+        let at = self.pending.ok_or(DeskFault::Idle)?;
         let pass = &mut self.passes[at.centre as usize];
         let centre = self.site.centre(at.centre);
         let polled = poll_for(rt, alloc, centre, pass, &mut self.log, at.row);

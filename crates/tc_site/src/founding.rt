@@ -2,7 +2,7 @@
 ghost use Rattle.std.specs.Prelude.{◌≡◌, ◌<◌, [], length, map, IfOk};
 ghost use Rattle.tc_config.specs.Configurations.{IsCentre};
 ghost use Rattle.tc_config.specs.declared.configs.CentreConf.{CentreConf};
-ghost use Rattle.tc_site.specs.Founding.{fresh_core};
+ghost use Rattle.tc_site.specs.Founding.{founded_core};
 
 use std::alloc::Global;
 use tc_centre::Core;
@@ -14,7 +14,7 @@ use tc_term::Ground;
 pub(crate) fn cores(alloc: Global, config: &Config) -> Result<Vec<Core>, NoMemory>
     requires some { length config.now.agents ≡ 0 → config.now.centres ≡ [] }
     ensures { IfOk result
-        (λ cores. cores.items ≡ map (fresh_core config.now) config.now.centres) }
+        (λ cores. cores.items ≡ map (founded_core config.now) config.now.centres) }
 {
     let centres = config.centres();
     let mut cores = Vec::with_capacity(alloc, centres.len())?;
@@ -28,7 +28,7 @@ pub(crate) fn cores(alloc: Global, config: &Config) -> Result<Vec<Core>, NoMemor
 fn core(alloc: Global, config: &Config, centre: &CentreConf) -> Result<Core, NoMemory>
     requires some { 0 < length config.now.agents }
     requires centre { IsCentre centre.now }
-    ensures { IfOk result (λ core. core ≡ fresh_core config.now centre.now) }
+    ensures { IfOk result (λ core. core ≡ founded_core config.now centre.now) }
 {
     let name = centre.name.copy(alloc)?;
     let agents = agent_names(alloc, config.agents())?;

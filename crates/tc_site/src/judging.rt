@@ -2,9 +2,7 @@
 ghost use Rattle.std.specs.Prelude.{◌≡◌, ◌<◌, ◌^◌, IfSome, IfNone, IfOk, IfErr};
 ghost use Rattle.std.specs.Prelude.{Contains, Some, slice_get, length};
 ghost use Rattle.tc_desk.specs.Operands.{OpOf, Sound};
-ghost use Rattle.tc_model.specs.Asks.{primitive_of};
 ghost use Rattle.tc_site.specs.Judging.{IsAllowed, IsRefusedFor, fault_of};
-ghost use Rattle.tc_site.specs.Sites.{IsSite};
 
 use crate::sites::Site;
 use std::alloc::Global;
@@ -35,7 +33,6 @@ pub(crate) fn judge<W: Warden>(
         × OpOf ask (Sound a.op)) }
     ensures refused { IfErr result
         (IsRefusedFor W.permits site.now agent waits centre.now ask) }
-    ensures site { IsSite site.now.names site.now.centres site.now.roles }
 {
     let Some(place) = place_of(site.names(), centre) else {
         return Err(Refusal::UnknownCentre);

@@ -42,9 +42,9 @@ pub struct EndedDesk<W: Warden> {
 impl<W: Warden> Model for EndedDesk<W> {
     ghost use Rattle.std.specs.Coded.{codes};
     ghost use Rattle.tc_term.specs.TreeCode.{coded_tree, coded_trees};
-    ghost use Rattle.tc_site.specs.Sites.{EndedState, IsEndedDesk};
+    ghost use Rattle.tc_site.specs.Sites.{EndedDeskState, IsEndedDesk};
 
-    ghost Value = { EndedState W };
+    ghost Value = { EndedDeskState W };
 
     ghost coded = { Prim.hlevel (codes, coded_tree, coded_trees) };
 

@@ -26,11 +26,11 @@ pub(crate) fn look_for<R: Wait>(
     match centre.look(rt, alloc, pass, place as u64 + 1) {
         Ok(Some(reply)) => {
             put_reply(log, place, reply);
-            return Ok(Seen::Answered);
+            Ok(Seen::Answered)
         }
-        Ok(None) => return Ok(Seen::StillPending),
-        Err(LookFault::TurnsSpent) => return Err(DeskFault::TurnsSpent),
-        Err(LookFault::NoMemory) => return Err(DeskFault::NoMemory),
+        Ok(None) => Ok(Seen::StillPending),
+        Err(LookFault::TurnsSpent) => Err(DeskFault::TurnsSpent),
+        Err(LookFault::NoMemory) => Err(DeskFault::NoMemory),
     }
 }
 
@@ -51,10 +51,10 @@ pub(crate) fn wait_for<R: Wait>(
     match centre.wait(rt, alloc, pass, place as u64 + 1) {
         Ok(reply) => {
             put_reply(log, place, reply);
-            return Ok(());
+            Ok(())
         }
-        Err(LookFault::TurnsSpent) => return Err(DeskFault::TurnsSpent),
-        Err(LookFault::NoMemory) => return Err(DeskFault::NoMemory),
+        Err(LookFault::TurnsSpent) => Err(DeskFault::TurnsSpent),
+        Err(LookFault::NoMemory) => Err(DeskFault::NoMemory),
     }
 }
 

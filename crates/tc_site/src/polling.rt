@@ -41,11 +41,11 @@ pub(crate) fn poll_for<R: Wait>(
         Ok(Poll::Answered(reply, again)) => {
             push_row(log, name, None, LogResult::Polled(Some(again)));
             put_reply(log, place, reply);
-            return Ok(Seen::Answered);
+            Ok(Seen::Answered)
         }
         Ok(Poll::NotYet) => {
             push_row(log, name, None, LogResult::Polled(None));
-            return Ok(Seen::StillPending);
+            Ok(Seen::StillPending)
         }
         Err(SharedPollFault::Full { weight, pending }) => {
             push_row(
@@ -54,10 +54,10 @@ pub(crate) fn poll_for<R: Wait>(
                 None,
                 LogResult::Refused(Refusal::Full { weight, pending }),
             );
-            return Err(DeskFault::Full { weight, pending });
+            Err(DeskFault::Full { weight, pending })
         }
-        Err(SharedPollFault::TurnsSpent) => return Err(DeskFault::TurnsSpent),
-        Err(SharedPollFault::NoMemory) => return Err(DeskFault::NoMemory),
+        Err(SharedPollFault::TurnsSpent) => Err(DeskFault::TurnsSpent),
+        Err(SharedPollFault::NoMemory) => Err(DeskFault::NoMemory),
         Err(SharedPollFault::Stranger) => unreachable!(),
     }
 }

@@ -5,7 +5,7 @@ ghost use Rattle.tc_model.specs.Calls.{calls_of};
 ghost use Rattle.tc_site.specs.Founding.{IsFounded};
 ghost use Rattle.tc_desk.specs.Logs.{rows_of};
 ghost use Rattle.tc_site.specs.Sites.{AreClosed, AreFreshCores, AreOfSite, AllAgree, IsSiteOf};
-ghost use Rattle.tc_site.specs.Sites.{EndedState, KitState};
+ghost use Rattle.tc_site.specs.Sites.{EndedDeskState, KitState};
 
 use crate::closing::{Left, close_all, take_apart};
 use crate::founding::cores;
@@ -132,11 +132,11 @@ impl<W: Warden + Drop> Site<W> {
     ///
     /// The list holds the ended desks of all agents, in order.
     pub fn close(self, alloc: Global, ended: Vec<EndedDesk<W>>) -> Result<Closed, NoMemory>
-        requires all { AreOfSite (λ (e : EndedState W). e.site) (λ (e : EndedState W). e.agent)
-            self ended.items }
+        requires all { AreOfSite (λ (e : EndedDeskState W). e.site)
+            (λ (e : EndedDeskState W). e.agent) self ended.items }
         ensures closed { IfOk result (λ closed. AreClosed self closed.cores.items) }
         ensures logs { IfOk result (λ closed. rows_of closed.logs.items
-            ≡ map (λ (e : EndedState W). e.log) ended.items) }
+            ≡ map (λ (e : EndedDeskState W). e.log) ended.items) }
         ensures agree { IfOk result (λ closed.
             AllAgree self closed.cores.items (rows_of closed.logs.items)) }
         ensures others { IfOk result (λ closed. (agent : ℕ) → length self.roles ≤ agent

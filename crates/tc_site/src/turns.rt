@@ -1,7 +1,7 @@
 //! An agent's turns at a centre.
-ghost use Rattle.std.specs.Prelude.{◌≡◌, ℕ, ◌+◌, ◌<◌, ◌++◌, ◌∷◌, [], false, All};
+ghost use Rattle.std.specs.Prelude.{◌≡◌, ℕ, ◌+◌, ◌<◌, false, All};
 ghost use Rattle.std.specs.Prelude.{IfOk, OnErr, vec_len, vec_capacity, Ok, Err};
-ghost use Rattle.tc_desk.specs.Desks.{with_row};
+ghost use Rattle.tc_desk.specs.Desks.{refused_log, with_row};
 ghost use Rattle.tc_model.specs.Calls.{id_of};
 ghost use Rattle.tc_shared.specs.Passes.{IsPassOf, KeepsPass, SeesRoom};
 ghost use Rattle.tc_site.specs.Turns.{HasGrown, IsTurn, became_of, told_of, waiting_of};
@@ -67,6 +67,16 @@ pub(crate) fn push_row(log: &mut Vec<LogRow>, centre: Name, ask: Option<Ask>, be
     match log.push(row) {
         Ok(()) => {}
         Err(_) => unreachable!(),
+    }
+}
+
+/// Puts the row of a refused call behind the others. There is room. For want of memory it has no row.
+pub(crate) fn push_refused(log: &mut Vec<LogRow>, centre: Name, ask: Ask, why: Refusal)
+    requires { vec_len log.old < vec_capacity log.old }
+    ensures { log.new.items ≡ refused_log log.old.items centre ask why }
+{
+    if why != Refusal::NoMemory {
+        push_row(log, centre, Some(ask), LogResult::Refused(why));
     }
 }
 

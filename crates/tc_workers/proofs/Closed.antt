@@ -1,12 +1,12 @@
 -- Cores and logs that workers have left are those of a run that may go on.
-use Rattle.std.proofs.Common.{◌≡◌, ◌∙◌, ℕ, ◌<◌, ◌==◌, true, List, Some, All, length, map, refl, sym, ap, subst, get_or}
+use Rattle.std.proofs.Common.{◌≡◌, ◌∙◌, ℕ, ◌<◌, true, List, Some, All, length, map, refl, sym, subst, get_or}
 use Rattle.std.specs.List.{slice_get}
 use Rattle.std.proofs.lemmas.Bool.{eq-eqb}
 use Rattle.std.proofs.lemmas.List.{length-map}
 use Rattle.std.proofs.lemmas.Option.{same_Some, slice_get-get_or}
 use Rattle.tc_centre.specs.Centre.{Centre}
 use Rattle.tc_config.specs.Configurations.{Configuration, IsConfig, agent_names, centre_names}
-use Rattle.tc_config.specs.Good.{AreHistories, Follows, IsHistory, IsNoLook, Permits, origin_of}
+use Rattle.tc_config.specs.Good.{Follows, IsHistory, IsNoLook, Permits, origin_of}
 use Rattle.tc_config.specs.declared.configs.AgentConf.{AgentConf}
 use Rattle.tc_config.specs.declared.configs.CentreConf.{CentreConf}
 use Rattle.tc_desk.specs.Agreeing.{Agrees}
@@ -17,7 +17,7 @@ use Rattle.tc_lists.proofs.Filters.{All-filter_each}
 use Rattle.tc_model.specs.Calls.{calls_of, is_call_of}
 use Rattle.tc_model.specs.Choices.{TheFirst}
 use Rattle.tc_model.specs.Run.{IsFirstRun, IsLegal}
-use Rattle.tc_model.specs.State.{Origin, State, after_history, opening}
+use Rattle.tc_model.specs.State.{Origin, State}
 use Rattle.tc_model.specs.declared.entries.Entry.{Entry}
 use Rattle.tc_model.specs.declared.entries.Entry.TheVariants.{Called, Gave, Looked}
 use Rattle.tc_runner.proofs.Cores.{core-at, history-at, histories-map}

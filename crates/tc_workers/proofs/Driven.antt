@@ -1,8 +1,7 @@
 -- The agents before they are driven, and afterwards.
-use Rattle.std.proofs.Common.{◌≡◌, ◌∙◌, ℕ, suc, ◌+◌, ◌-◌, ◌*◌, ◌<◌, ◌≤◌, true, if◌then◌else◌, List, [], ◌∷◌, ◌++◌, Option, Some, All, length, map, sum_by, refl, sym, ap, subst, arith, length-append}
+use Rattle.std.proofs.Common.{◌≡◌, ◌∙◌, ℕ, suc, ◌+◌, ◌-◌, ◌*◌, ◌<◌, ◌≤◌, true, if◌then◌else◌, List, [], ◌∷◌, Option, Some, All, length, map, sum_by, refl, sym, ap, subst, arith, length-append}
 use Rattle.std.specs.List.{slice_get}
 use Rattle.std.proofs.lemmas.List.{length-map}
-use Rattle.std.proofs.lemmas.List.Elements.{All-head, All-tail}
 use Rattle.std.proofs.lemmas.List.Sums.{sum_by-cons}
 use Rattle.std.proofs.lemmas.Option.{same_Some}
 use Rattle.tc_config.specs.Configurations.{items_of}
@@ -15,13 +14,13 @@ use Rattle.tc_lists.proofs.Parts.{cons_head, cons_tail}
 use Rattle.tc_model.specs.Scripts.{Lines}
 use Rattle.tc_model.specs.declared.asks.Primitive.{Primitive}
 use Rattle.tc_model.specs.declared.scripts.ScriptItem.{ScriptItem}
-use Rattle.tc_lists.proofs.Sets.{slice_get-as_long, slice_get-map_at, slice_get-map_from}
+use Rattle.tc_lists.proofs.Sets.{slice_get-map_at, slice_get-map_from}
 use Rattle.tc_lists.proofs.Zips.{AllZip-slice_get}
 use Rattle.tc_sched.specs.Clients.{Client, IsOfScripts}
 use Rattle.tc_sched.specs.Steps.{AllWent, ArePlaced, IsReady, Went, left_in, left_of}
 use Rattle.tc_site.specs.Desks.{AgentState, IsDecidedLog, desk_of}
-use Rattle.tc_site.specs.Sites.{EndedState, SiteState, TURNS}
-use Rattle.tc_workers.specs.Crews.{AreAtDesks, AreLeft, CanDrive, HasRows, IsAtDesk, IsLeft, bare, ended_of, given_back, with_scripts}
+use Rattle.tc_site.specs.Sites.{EndedDeskState, SiteState, TURNS}
+use Rattle.tc_workers.specs.Crews.{AreAtDesks, AreLeft, CanDrive, HasRows, IsLeft, bare, ended_of, given_back, with_scripts}
 use Rattle.tc_workers.proofs.Seating.{scripts_in, scripts_of}
 
 -- the items of scripts, counted
@@ -150,7 +149,7 @@ module _ {W : Type 0} (permits : W → ℕ → ℕ → Primitive → Option ℕ)
           sound = subst (λ j. IsDecidedLog permits s j e.desk.log) is.1 (subst (λ t. IsDecidedLog permits t e.desk.agent e.desk.log) is.0 sound);
         }
 
-    ended-at : (k : ℕ) (v : EndedState W) → slice_get (map ended_of news) k ≡ Some v → (e : Member) × (slice_get news k ≡ Some e) × (ended_of e ≡ v)
+    ended-at : (k : ℕ) (v : EndedDeskState W) → slice_get (map ended_of news) k ≡ Some v → (e : Member) × (slice_get news k ≡ Some e) × (ended_of e ≡ v)
     ended-at k v here = slice_get-map_from ended_of news k v here
 
     -- each agent's desk has ended with the rows of its scripts
@@ -163,7 +162,7 @@ module _ {W : Type 0} (permits : W → ℕ → ℕ → Primitive → Option ℕ)
         each = λ k v here.
             let e = ended-at k v here in
             let is = of-site k e.0 e.1 in
-            (ap (λ (x : EndedState W). x.site) (sym e.2) ∙ is.0, ap (λ (x : EndedState W). x.agent) (sym e.2) ∙ is.1);
+            (ap (λ (x : EndedDeskState W). x.site) (sym e.2) ∙ is.0, ap (λ (x : EndedDeskState W). x.agent) (sym e.2) ∙ is.1);
       };
       each = λ k a v stands here.
           let e = ended-at k v here in

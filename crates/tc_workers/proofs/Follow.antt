@@ -1,9 +1,9 @@
 -- Logs that agree with the histories follow their scripts.
-use Rattle.std.proofs.Common.{◌≡◌, ◌∙◌, ℕ, ◌+◌, true, List, Some, All, length, map, take, refl, sym, ap, subst, arith}
+use Rattle.std.proofs.Common.{◌≡◌, ◌∙◌, ℕ, ◌+◌, true, List, Some, All, length, map, sym, ap, subst}
 use Rattle.std.specs.List.{slice_get}
 use Rattle.std.proofs.lemmas.Option.{same_Some}
 use Rattle.tc_config.specs.Configurations.{Configuration, IsConfig, centre_names}
-use Rattle.tc_config.specs.Good.{AreHistories, Follows, IsHistory, IsNoLook, IsRow, IsServedNumber, Permits, origin_of}
+use Rattle.tc_config.specs.Good.{Follows, IsNoLook, IsRow, IsServedNumber, Permits, origin_of}
 use Rattle.tc_config.specs.declared.configs.AgentConf.{AgentConf}
 use Rattle.tc_config.specs.declared.configs.CentreConf.{CentreConf}
 use Rattle.tc_desk.specs.Agreeing.{Agrees, AgreesRow, HasRow, IsMadeBy}

@@ -1,5 +1,5 @@
 -- The agents as their desks end.
-use Rattle.std.proofs.Common.{◌≡◌, ◌∙◌, ℕ, zero, suc, ◌+◌, ◌<◌, ◌≤◌, true, List, [], ◌∷◌, ◌++◌, Some, All, length, map, set, get_or, take, drop, refl, sym, ap, subst, arith, length-append, append_assoc, append-nil}
+use Rattle.std.proofs.Common.{◌≡◌, ◌∙◌, ℕ, zero, suc, ◌+◌, ◌<◌, true, List, [], ◌∷◌, ◌++◌, Some, All, length, map, set, get_or, take, drop, refl, sym, ap, subst, arith, length-append, append_assoc, append-nil}
 use Rattle.std.specs.List.{slice_get}
 use Rattle.std.proofs.lemmas.List.{length-map, map-append, nil_from_length}
 use Rattle.std.proofs.lemmas.List.Elements.{All-append, All-cons, All-head, All-nil, All-tail}
@@ -8,7 +8,7 @@ use Rattle.tc_config.specs.declared.configs.AgentConf.{AgentConf}
 use Rattle.tc_lists.proofs.Places.{slice_get_longer, slice_get_pushed}
 use Rattle.tc_sched.specs.Clients.{Client}
 use Rattle.tc_site.specs.Desks.{AgentState, desk_of}
-use Rattle.tc_site.specs.Sites.{EndedState}
+use Rattle.tc_site.specs.Sites.{EndedDeskState}
 use Rattle.tc_workers.specs.Crews.{HasRows, ended_of, given_back, with_scripts}
 use Rattle.tc_lists.proofs.Fronts.{front_whole, set_next-front, slice_get_next-front}
 
@@ -31,7 +31,7 @@ module _ {W : Type 0} where
   given_back-at (x ∷ agents) (y ∷ crew) (suc k) a c at there = given_back-at agents crew k a c at there
 
   -- the desks of the first members have ended, and their agents have their scripts
-  pub record Leaving (old : List AgentConf) (all rest : List (Client (AgentState W))) (now : List AgentConf) (ended : List (EndedState W)) : Type 0 where
+  pub record Leaving (old : List AgentConf) (all rest : List (Client (AgentState W))) (now : List AgentConf) (ended : List (EndedDeskState W)) : Type 0 where
     pub done : List (Client (AgentState W))
     pub split : all ≡ done ++ rest
     pub ended_are : ended ≡ map ended_of done
@@ -40,10 +40,10 @@ module _ {W : Type 0} where
     pub free : All IsFree rest
 
   -- at first none has
-  pub leaving-none : (old : List AgentConf) (all : List (Client (AgentState W))) (ended : List (EndedState W)) → All IsFree all → ended ≡ [] → Leaving old all all old ended
+  pub leaving-none : (old : List AgentConf) (all : List (Client (AgentState W))) (ended : List (EndedDeskState W)) → All IsFree all → ended ≡ [] → Leaving old all all old ended
   leaving-none old all ended free none = record { done = []; split = refl; ended_are = none; agents = refl; rows = All-nil HasRows; free = free }
 
-  module _ (old : List AgentConf) (all : List (Client (AgentState W))) (c : Client (AgentState W)) (rest : List (Client (AgentState W))) (now : List AgentConf) (ended : List (EndedState W))
+  module _ (old : List AgentConf) (all : List (Client (AgentState W))) (c : Client (AgentState W)) (rest : List (Client (AgentState W))) (now : List AgentConf) (ended : List (EndedDeskState W))
       (whole : length old ≡ length all) (leaving : Leaving old all (c ∷ rest) now ended) where
     count : length ended ≡ length leaving.done
     count = ap length leaving.ended_are ∙ length-map leaving.done ended_of
@@ -103,7 +103,7 @@ module _ {W : Type 0} where
         }
 
   -- at last all have
-  module _ (old : List AgentConf) (all rest : List (Client (AgentState W))) (now : List AgentConf) (ended : List (EndedState W))
+  module _ (old : List AgentConf) (all rest : List (Client (AgentState W))) (now : List AgentConf) (ended : List (EndedDeskState W))
       (whole : length old ≡ length all) (none : length rest ≡ 0) (leaving : Leaving old all rest now ended) where
     all-done : all ≡ leaving.done
     all-done = leaving.split ∙ ap (λ xs. leaving.done ++ xs) (nil_from_length rest none) ∙ append-nil leaving.done

@@ -1,5 +1,5 @@
 -- A desk of roles may go to another thread.
-use denote.Param.Send.{IsSend, IsSync}
+use denote.Param.Send.{IsSend}
 use denote.Ref.{NamedLft}
 use Rattle.tc_policy.proofs.roles.Roles.TheSendSync as sendsync
 use Rattle.tc_policy.specs.contracts.roles.Roles as roles

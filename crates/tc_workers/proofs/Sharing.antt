@@ -1,11 +1,9 @@
 -- The centres of a configuration as they are shared, and as they are closed.
-use Rattle.std.proofs.Common.{◌≡◌, ◌≢◌, ◌∙◌, ℕ, suc, ◌+◌, ◌*◌, ◌<◌, ◌≤◌, ◌^◌, List, [], ◌∷◌, Option, Some, All, AllPairs, Contains, length, map, sum_by, refl, sym, ap, subst, arith}
+use Rattle.std.proofs.Common.{◌≡◌, ◌≢◌, ◌∙◌, ℕ, ◌<◌, List, [], Some, All, AllPairs, length, map, sum_by, sym, ap, subst, arith}
 use Rattle.std.specs.List.{slice_get}
 use Rattle.std.proofs.lemmas.List.{length-map}
-use Rattle.std.proofs.lemmas.List.Elements.{All-map}
-use Rattle.std.proofs.lemmas.Option.{same_Some}
 use Rattle.tc_centre.specs.Centre.{Centre}
-use Rattle.tc_config.specs.Configurations.{Configuration, HasCentres, IsAgent, IsConfig, centre_names, items_of}
+use Rattle.tc_config.specs.Configurations.{Configuration, IsAgent, IsConfig, centre_names, items_of}
 use Rattle.tc_config.specs.Good as good
 use Rattle.tc_config.specs.Good.{origin_of}
 use Rattle.tc_config.specs.declared.configs.AgentConf.{AgentConf}
@@ -18,23 +16,18 @@ use Rattle.tc_desk.specs.declared.rows.LogResult.TheVariants.{Replied, Pending, 
 use Rattle.tc_desk.specs.declared.rows.Refusal.TheVariants as refusal
 use Rattle.tc_lists.proofs.Elements.{All-slice_get, All-from_slice_get}
 use Rattle.tc_model.specs.Asks.{primitive_of}
-use Rattle.tc_model.specs.Scripts.{Lines}
 use Rattle.tc_model.specs.State.{Origin}
-use Rattle.tc_model.specs.declared.asks.Primitive.{Primitive}
-use Rattle.tc_model.specs.declared.scripts.ScriptItem.{ScriptItem}
 use Rattle.tc_policy.specs.Places.{first_number, grant}
 use Rattle.tc_policy.specs.declared.grants.Grant.{Grant}
 use Rattle.tc_policy.proofs.Numbers.{number-has, number-stands}
 use Rattle.tc_runner.proofs.Cores.{cores-whole}
-use Rattle.tc_lists.proofs.Sets.{slice_get-as_long, slice_get-map_at, slice_get-map_from}
-use Rattle.tc_desk.specs.Logs.{rows_of}
+use Rattle.tc_lists.proofs.Sets.{slice_get-map_at, slice_get-map_from}
 use Rattle.tc_runner.specs.Cores.{AreCores, Goes}
-use Rattle.tc_runner.specs.Plans.{IsFresh}
 use Rattle.tc_sched.specs.Clients.{IsOfScripts}
 use Rattle.tc_sched.specs.Steps.{ArePlaced}
 use Rattle.tc_site.specs.Desks as desks
 use Rattle.tc_site.specs.Desks.{IsDecidedLog}
-use Rattle.tc_site.specs.Sites.{AllAgree, AreClosed, AreFreshCores, EndedState, IsSiteOf, SiteState, TURNS, origins_of}
+use Rattle.tc_site.specs.Sites.{AllAgree, AreClosed, AreFreshCores, EndedDeskState, IsSiteOf, SiteState, origins_of}
 use Rattle.tc_workers.specs.Crews.{AreLeft, CanDrive}
 use Rattle.tc_workers.proofs.Closed.{Goes-closed, IsWorked}
 use Rattle.tc_workers.proofs.Grants.{permits_by}
@@ -136,11 +129,11 @@ module _ (c : Configuration) (config : IsConfig c) (some : 0 < length c.agents) 
             (is.decided j row ask place here asked (ap (λ ns. slice_get ns place) (site.names_are ∙ named) ∙ there));
       }
 
-  worked-at : (logs : List (List LogRow)) (ended : List (EndedState (List Grant))) → AreLeft permits_by s agents ended
-      → logs ≡ map (λ (e : EndedState (List Grant)). e.log) ended → AllAgree s cores logs
+  worked-at : (logs : List (List LogRow)) (ended : List (EndedDeskState (List Grant))) → AreLeft permits_by s agents ended
+      → logs ≡ map (λ (e : EndedDeskState (List Grant)). e.log) ended → AllAgree s cores logs
       → (k : ℕ) (a : AgentConf) (log : List LogRow) → slice_get c.agents k ≡ Some a → slice_get logs k ≡ Some log → IsWorked c cores k a log
   worked-at logs ended left logged agree k a log at here =
-      let e = slice_get-map_from (λ (v : EndedState (List Grant)). v.log) ended k log (ap (λ ls. slice_get ls k) (sym logged) ∙ here) in
+      let e = slice_get-map_from (λ (v : EndedDeskState (List Grant)). v.log) ended k log (ap (λ ls. slice_get ls k) (sym logged) ∙ here) in
       let is = left.each k a e.0 (ap (λ xs. slice_get xs k) same ∙ at) e.1 in
       let all-named : s.names ≡ centre_names c = site.names_are ∙ named in
       record {
@@ -152,11 +145,11 @@ module _ (c : Configuration) (config : IsConfig c) (some : 0 < length c.agents) 
       }
 
   -- cores and logs are those of a run that may go on
-  pub closed-goes : (logs : List (List LogRow)) (ended : List (EndedState (List Grant))) → AreLeft permits_by s agents ended
-      → logs ≡ map (λ (e : EndedState (List Grant)). e.log) ended → AllAgree s cores logs → Goes c cores logs
+  pub closed-goes : (logs : List (List LogRow)) (ended : List (EndedDeskState (List Grant))) → AreLeft permits_by s agents ended
+      → logs ≡ map (λ (e : EndedDeskState (List Grant)). e.log) ended → AllAgree s cores logs → Goes c cores logs
   closed-goes logs ended left logged agree =
       let whole : length logs ≡ length c.agents =
       let ends = left.are.whole in
       let roles = ap length site.roles_are in
-      omega (arith, ap length logged, length-map ended (λ (v : EndedState (List Grant)). v.log), ends, roles, length-map agents (λ (b : AgentConf). b.role), ap length same) in
+      omega (arith, ap length logged, length-map ended (λ (v : EndedDeskState (List Grant)). v.log), ends, roles, length-map agents (λ (b : AgentConf). b.role), ap length same) in
       Goes-closed c config some cores logs cores-are closed.rest whole (worked-at logs ended left logged agree)

@@ -3,13 +3,12 @@ use Rattle.std.specs.Prelude.{◌≡◌, ℕ, ◌+◌, ◌*◌, ◌^◌, ◌<◌
 use Rattle.std.specs.Prelude.{List, [], ◌∷◌, All, length, map, slice_get, sum_by}
 use Rattle.tc_config.specs.Configurations.{items_of}
 use Rattle.tc_config.specs.declared.configs.AgentConf.{AgentConf}
-use Rattle.tc_desk.specs.declared.rows.LogRow.{LogRow}
 use Rattle.tc_model.specs.Scripts.{Lines}
 use Rattle.tc_model.specs.declared.asks.Primitive.{Primitive}
 use Rattle.tc_sched.specs.Clients.{Client, IsOfScripts}
 use Rattle.tc_sched.specs.Steps.{ArePlaced}
 use Rattle.tc_site.specs.Desks.{AgentState, IsNewDesk, IsDecidedLog, desk_of}
-use Rattle.tc_site.specs.Sites.{AreOfSite, EndedState, SiteState, TURNS, roles_of}
+use Rattle.tc_site.specs.Sites.{AreOfSite, EndedDeskState, SiteState, TURNS, roles_of}
 
 -- an agent with these scripts, and without any
 abbrev pub with_scripts : AgentConf → List Lines → AgentConf
@@ -43,18 +42,19 @@ module _ {W : Type 0} (permits : W → ℕ → ℕ → Primitive → Option ℕ)
     pub each : (k : ℕ) (c : Client (AgentState W)) → slice_get crew k ≡ Some c → IsAtDesk k c
 
   -- the agent's desk has ended: its log has the rows of its scripts, which the warden has decided
-  pub record IsLeft (k : ℕ) (a : AgentConf) (e : EndedState W) : Type 0 where
+  pub record IsLeft (k : ℕ) (a : AgentConf) (e : EndedDeskState W) : Type 0 where
     pub rows : IsOfScripts s.names a.scripts e.log
     pub sound : IsDecidedLog permits s k e.log
 
   -- each agent's desk has ended
-  pub record AreLeft (agents : List AgentConf) (ended : List (EndedState W)) : Type 0 where
-    pub are : AreOfSite (λ (e : EndedState W). e.site) (λ (e : EndedState W). e.agent) s ended
-    pub each : (k : ℕ) (a : AgentConf) (e : EndedState W)
+  pub record AreLeft (agents : List AgentConf) (ended : List (EndedDeskState W)) : Type 0 where
+    pub are : AreOfSite (λ (e : EndedDeskState W). e.site)
+        (λ (e : EndedDeskState W). e.agent) s ended
+    pub each : (k : ℕ) (a : AgentConf) (e : EndedDeskState W)
         → slice_get agents k ≡ Some a → slice_get ended k ≡ Some e → IsLeft k a e
 
 -- what is left of an agent's desk
-abbrev pub ended_of : {W : Type 0} → Client (AgentState W) → EndedState W
+abbrev pub ended_of : {W : Type 0} → Client (AgentState W) → EndedDeskState W
 ended_of c = record { site = c.desk.site; agent = c.desk.agent; log = c.desk.log }
 
 -- the rows of the agent's desk are those of its scripts

@@ -3,7 +3,7 @@ ghost use Rattle.std.specs.Prelude.{◌≡◌, ◌<◌, ◌^◌, List, All, leng
 ghost use Rattle.tc_policy.specs.declared.grants.Grant.{Grant};
 ghost use Rattle.tc_sched.specs.Clients.{Client};
 ghost use Rattle.tc_site.specs.Desks.{AgentState, desk_of};
-ghost use Rattle.tc_site.specs.Sites.{AreOfSite, EndedState, KitState};
+ghost use Rattle.tc_site.specs.Sites.{AreOfSite, KitState};
 ghost use Rattle.tc_workers.specs.Crews.{AreAtDesks, AreLeft, CanDrive, HasRows, bare, ended_of, given_back};
 
 use crate::scripts::{give_back, hand_out};

@@ -1,8 +1,6 @@
-use Rattle.std.proofs.Common.{◌≡◌, ◌∙◌, List, sym, ap, subst, rules}
-use Rattle.tc_centre.specs.Centre.{Centre}
-use Rattle.tc_config.specs.Configurations.{Configuration, centre_names}
+use Rattle.std.proofs.Common.{◌∙◌, List, sym, subst}
+use Rattle.tc_config.specs.Configurations.{Configuration}
 use Rattle.tc_config.specs.declared.configs.AgentConf.{AgentConf}
-use Rattle.tc_policy.specs.declared.grants.Grant.{Grant}
 use Rattle.tc_desk.specs.Logs.{rows_of}
 use Rattle.tc_runner.specs.Cores.{Goes}
 use Rattle.tc_site.specs.Sites.{IsSiteOf}

@@ -14,7 +14,7 @@ invariant_of-result g c =
     subst (λ (t : SiteState _). c.kit.inside.agent < length t.roles) same c.kit.invariant.0 in
     subst
     (λ l. IsDesk (record { site = s; agent = c.kit.inside.agent; passes = c.kit.inside.passes.items; log = l; pending = None; held = None }))
-    (sym c.new.ensures.items) (new-desk s c.kit.inside.agent c.kit.inside.passes.items fresh is)
+    (sym c.new.ensures.items) (new-desk s c.kit.inside.agent c.kit.inside.passes.items fresh c.names.ensures.site is)
 
 pub returns-clause-new : goal.returns-clause-new
 returns-clause-new g c =

@@ -9,4 +9,4 @@ returns-clause-few g c =
     let inside : c.args.centre < length c.self.inside.site.now.names =
     subst (λ (x : AgentState _). c.args.centre < length x.site.names) (sym c.self.view_is) c.requires.inside in
     subst (λ n. n ≤ MOST_WEIGHT) (sym c.known.ensures)
-    (seen-few _ c.self.invariant c.names.ensures.site c.args.centre inside c.index.result.now c.index.ensures)
+    (seen-few _ c.self.invariant c.args.centre inside c.index.result.now c.index.ensures)
