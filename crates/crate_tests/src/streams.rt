@@ -109,7 +109,7 @@ impl Write for Broken {
 fn errors_of_the_outside_are_failures(rt: HostRuntime) {
     let read = read_all(rt.alloc(), &mut StdSource::new(Broken), 100);
     assert!(rt; read.is_err_and(|fault| fault == InputFault::Failed));
-    // No clause refuses a write without its flush: std tells nothing of what a flush does.
+    // Std tells nothing of what a flush does: that its failure counts, no clause can say.
     let written = write_all(&mut StdSink::new(Broken), TEXT);
     assert!(rt; written.is_err_and(|fault| fault == SinkFault::Failed));
 }

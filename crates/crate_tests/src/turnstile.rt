@@ -2,7 +2,8 @@
 ghost use Rattle.std.specs.Prelude.{◌≡◌, ℕ, ◌<◌, ◌++◌, [], ◌∷◌, false, OnOk, OnErr};
 ghost use Rattle.std.specs.Prelude.{IfOk, All, length, slice_index_or, sum_by};
 ghost use Rattle.tc_turn.specs.Order.{one_if_same};
-ghost use Rattle.tc_turn.specs.Passes.{IsPassOf, ended_count};
+ghost use Rattle.tc_turn.specs.Passes.{ended_count};
+ghost use Rattle.crate_tests.specs.Turns.{IsFree, StaysFree};
 
 use std::alloc::{AllocError, Global};
 use std::sync::Wait;
@@ -63,11 +64,8 @@ fn take_turn<R: Wait>(
     turnstile: &Turnstile<Owners>,
     pass: &mut Pass<Owners>,
 ) -> Result<bool, TurnsSpent>
-    requires own { IsPassOf turnstile.now pass.old }
-    requires free { pass.old.holds ≡ false }
-    ensures own { IsPassOf turnstile.now pass.new }
-    ensures free { pass.new.holds ≡ false }
-    ensures number { pass.new.number ≡ pass.old.number }
+    requires { IsFree turnstile.now pass.old }
+    ensures { StaysFree turnstile.now pass.old pass.new }
 {
     let mut held = turnstile.enter(rt, pass)?;
     let added = held.value.add(pass.number()).is_ok();
@@ -82,11 +80,8 @@ fn take_turns<R: Wait>(
     pass: &mut Pass<Owners>,
     turns: u32,
 ) -> bool
-    requires own { IsPassOf turnstile.now pass.old }
-    requires free { pass.old.holds ≡ false }
-    ensures own { IsPassOf turnstile.now pass.new }
-    ensures free { pass.new.holds ≡ false }
-    ensures number { pass.new.number ≡ pass.old.number }
+    requires { IsFree turnstile.now pass.old }
+    ensures { StaysFree turnstile.now pass.old pass.new }
 {
     for _ in 0..turns {
         if take_turn(rt, turnstile, pass) != Ok(true) {
@@ -105,8 +100,8 @@ fn in_threads<R: Threads + Wait + Sync>(
     threads: usize,
 )
     requires some { 0 < threads }
-    requires free { All (λ p. IsPassOf turnstile.now p × (p.holds ≡ false)) passes.old }
-    ensures free { All (λ p. IsPassOf turnstile.now p × (p.holds ≡ false)) passes.new }
+    requires free { All (IsFree turnstile.now) passes.old }
+    ensures free { All (IsFree turnstile.now) passes.new }
     ensures numbers { (k : ℕ) (d : _) → k < length passes.old
         → (slice_index_or passes.new k d).number ≡ (slice_index_or passes.old k d).number }
 {
@@ -115,9 +110,8 @@ fn in_threads<R: Threads + Wait + Sync>(
         passes,
         threads,
         &|_, pass: &mut Pass<Owners>|
-            requires { IsPassOf turnstile.now pass.old × (pass.old.holds ≡ false) }
-            ensures { (IsPassOf turnstile.entry.now pass.new × (pass.new.holds ≡ false))
-                × (pass.new.number ≡ pass.old.number) }
+            requires { IsFree turnstile.now pass.old }
+            ensures { StaysFree turnstile.entry.now pass.old pass.new }
         {
             take_turns(rt, turnstile, pass, turns);
         },
@@ -131,11 +125,8 @@ fn is_done<R: Wait>(
     pass: &mut Pass<Owners>,
     total: u64,
 ) -> bool
-    requires own { IsPassOf turnstile.now pass.old }
-    requires free { pass.old.holds ≡ false }
-    ensures own { IsPassOf turnstile.now pass.new }
-    ensures free { pass.new.holds ≡ false }
-    ensures number { pass.new.number ≡ pass.old.number }
+    requires { IsFree turnstile.now pass.old }
+    ensures { StaysFree turnstile.now pass.old pass.new }
 {
     let count = turnstile.count(pass);
     let spent = take_turn(rt, turnstile, pass) == Err(TurnsSpent);
@@ -150,7 +141,7 @@ fn end_all<R: Wait>(
     passes: Vec<Pass<Owners>>,
     total: u64,
 ) -> Result<(bool, Vec<Ended<Owners>>), AllocError>
-    requires free { All (λ p. IsPassOf turnstile.now p × (p.holds ≡ false)) passes.items }
+    requires free { All (IsFree turnstile.now) passes.items }
     ensures own { IfOk result (λ r. All (λ e. e.table ≡ turnstile.now.table) r.1.items) }
     ensures numbers { IfOk result (λ r. (n : ℕ)
         → ended_count n r.1.items ≡ sum_by (λ p. one_if_same p.number n) passes.items) }

@@ -1,11 +1,12 @@
-use Rattle.std.proofs.Common.{◌≡◌, ℕ, ◌+◌, vec_len, vec_capacity, All, false, sum_by}
+use Rattle.std.proofs.Common.{◌≡◌, ℕ, ◌+◌, vec_len, vec_capacity, All, sum_by}
 use Rattle.tc_turn.specs.Order.{one_if_same}
-use Rattle.tc_turn.specs.Passes.{PassState, EndedState, IsPassOf, ended_count}
+use Rattle.tc_turn.specs.Passes.{PassState, EndedState, ended_count}
+use Rattle.crate_tests.specs.Turns.{IsFree}
 use Rattle.crate_tests.proofs.turnstile.end_all.Given as goal
 
 abbrev pub invariant-loop-one : goal.invariant-loop-one
 invariant-loop-one g l = record {
-  free : All (λ (p : PassState ℕ ℕ). IsPassOf l.turnstile p × (p.holds ≡ false)) l.passes.items;
+  free : All (IsFree l.turnstile) l.passes.items;
   own : All (λ (e : EndedState ℕ). e.table ≡ l.turnstile.table) l.ended.items;
   numbers : (n : ℕ) → ended_count n l.ended.items + sum_by (λ (p : PassState ℕ ℕ). one_if_same p.number n) l.passes.items ≡ sum_by (λ (p : PassState ℕ ℕ). one_if_same p.number n) l.fn.passes.items;
   room : vec_len l.ended + vec_len l.passes ≡ vec_capacity l.ended;

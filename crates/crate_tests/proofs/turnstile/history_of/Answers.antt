@@ -1,15 +1,13 @@
-use Rattle.std.proofs.Common.{◌≡◌, ℕ, ◌<◌, ◌≤◌, List, length, get_or, sum_by, false, ap, ◌∙◌, arith}
+use Rattle.std.proofs.Common.{◌≡◌, ℕ, ◌<◌, ◌≤◌, List, length, get_or, sum_by, ap, ◌∙◌, arith}
 use Rattle.tc_lists.proofs.Parts.{take-append_all}
 use Rattle.std.proofs.lemmas.List.Elements.{All-same}
 use Rattle.std.proofs.lemmas.List.Sums.{get_or-le-sum_by}
 use Rattle.tc_turn.specs.Order.{one_if_same}
-use Rattle.tc_turn.specs.Passes.{TurnstileState, PassState, EndedState, IsPassOf, new_pass, new_passes, ended_count}
+use Rattle.tc_turn.specs.Passes.{TurnstileState, PassState, EndedState, new_pass, new_passes, ended_count}
 use Rattle.tc_turn.proofs.Sums.{one_if_same-same}
 use Rattle.tc_turn.proofs.PassLists.{new_passes-own, length-new_passes, number-new_passes}
+use Rattle.crate_tests.specs.Turns.{IsFree}
 use Rattle.crate_tests.proofs.turnstile.history_of.Goals as goal
-
-abbrev IsFree : TurnstileState ℕ → PassState ℕ ℕ → Type 0
-IsFree t p = IsPassOf t p × (p.holds ≡ false)
 
 -- each number stands among the passes, and so among the ended ones
 each_ended : (t : TurnstileState ℕ) (turns passes : ℕ) (xs ys : List (PassState ℕ ℕ)) (ended : List (EndedState ℕ)) → xs ≡ new_passes t.table 0 turns 0 passes → length ys ≡ length xs
