@@ -1,5 +1,5 @@
 //! One measurement: so many threads make turns, at the turnstile or under a `Mutex`, or sleep.
-ghost use Rattle.std.specs.Prelude.{◌≡◌, ◌<◌, false, All};
+ghost use Rattle.std.specs.Prelude.{◌≡◌, ◌<◌, false};
 ghost use Rattle.tc_turn.specs.Passes.{IsPassOf};
 
 use crate::tally::Tally;

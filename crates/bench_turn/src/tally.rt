@@ -1,5 +1,4 @@
 //! What the turns work on: a number that each turn stirs, and how many turns there were.
-ghost use Rattle.std.specs.Prelude.{◌≡◌};
 
 use tc_turn::Chronicle;
 

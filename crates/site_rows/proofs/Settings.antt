@@ -1,5 +1,5 @@
 -- Sites of configurations, whose agents can be driven.
-use Rattle.std.proofs.Common.{◌≡◌, List, All, length, map, sym, subst, arith}
+use Rattle.std.proofs.Common.{◌≡◌, List, length, sym, subst, arith}
 use Rattle.std.proofs.lemmas.List.{length-map}
 use Rattle.tc_config.specs.Configurations.{Configuration, IsAgent, IsConfig, centre_names}
 use Rattle.tc_config.specs.declared.configs.AgentConf.{AgentConf}

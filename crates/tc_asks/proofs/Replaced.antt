@@ -1,11 +1,11 @@
 -- Terms with each variable replaced that has a value.
-use Rattle.std.proofs.Common.{◌≡◌, ◌<◌, ◌≤◌, ◌+◌, inl, inr, ℕ, zero, suc, List, [], ◌∷◌, Option, Some, None, length, map, get_or, refl, ap, sym, ◌∙◌, subst, arith}
+use Rattle.std.proofs.Common.{◌≡◌, ◌<◌, ◌≤◌, inl, inr, ℕ, zero, suc, List, [], ◌∷◌, Option, Some, None, length, map, get_or, refl, ap, sym, ◌∙◌, subst, arith}
 use Rattle.std.specs.List.{slice_get}
 use Rattle.std.proofs.lemmas.Bool.{cases_lt}
 use Rattle.std.proofs.lemmas.List.{get_or_past}
 use Rattle.std.proofs.lemmas.Option.{slice_get-get_or}
 use Rattle.tc_lists.proofs.Parts.{cons_head, cons_tail}
-use Rattle.tc_term.specs.Tree.{Tree, Variable, Trees, Last, More}
+use Rattle.tc_term.specs.Tree.{Tree, Variable, Last}
 use Rattle.tc_term.specs.TreeView.{tree_of, trees_of}
 use Rattle.tc_term.specs.Variables.{instance, instances, raised, var_bound, var_bound_of_all}
 use Rattle.tc_term.specs.Equations.{Equation, HasValue, Solvable}

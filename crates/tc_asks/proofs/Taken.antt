@@ -1,5 +1,5 @@
 -- What an asker has taken in, as it takes in a row or goes on to a script, and as the log changes.
-use Rattle.std.proofs.Common.{◌≡◌, ◌<◌, ◌≤◌, ◌+◌, ◌==◌, if◌then◌else◌, inl, inr, ℕ, true, false, List, [], ◌∷◌, ◌++◌, Option, Some, length, map, take, get_or, All, refl, ap, sym, ◌∙◌, subst, length-append, arith}
+use Rattle.std.proofs.Common.{◌≡◌, ◌<◌, ◌≤◌, ◌+◌, if◌then◌else◌, inl, inr, ℕ, true, false, List, [], ◌∷◌, ◌++◌, Option, Some, length, take, get_or, refl, ap, sym, ◌∙◌, subst, length-append, arith}
 use Rattle.std.specs.List.{slice_get}
 use Rattle.std.specs.Option.{option_map}
 use Rattle.std.proofs.Math.Seq.{get_or-append_seam}
@@ -18,7 +18,6 @@ use Rattle.tc_model.specs.declared.scripts.ScriptItem.{ScriptItem}
 use Rattle.tc_desk.specs.Asks.{AreValues, IsFilled, ScriptStep, equation, equations, steps_of}
 use Rattle.tc_desk.specs.Logs.{any_pending, is_pending, results_of}
 use Rattle.tc_desk.specs.declared.rows.LogRow.{LogRow}
-use Rattle.tc_desk.specs.declared.rows.LogResult.{LogResult}
 use Rattle.tc_desk.specs.declared.rows.LogResult.TheVariants.{Pending}
 use Rattle.tc_asks.specs.Bindings.{AreKnown}
 use Rattle.tc_asks.specs.Nexts.{IsNextAsk}

@@ -1,7 +1,7 @@
 //! Decimal numbers: appended to a text, and read from the front of one.
 //!
 //! Their text is what `{}` writes: no leading zero, no plus, and zero has no minus.
-ghost use Rattle.std.specs.Prelude.{◌≡◌, ◌≤◌, ◌++◌, ℕ, ℤ, pos, neg_ℤ, ◌==◌, ◌^◌};
+ghost use Rattle.std.specs.Prelude.{◌≡◌, ◌≤◌, ◌++◌, ℕ, ℤ, ◌==◌, ◌^◌};
 ghost use Rattle.std.specs.Prelude.{List, if◌then◌else◌, ◌+◌, ◌*◌, ◌-◌, ◌&&◌};
 ghost use Rattle.std.specs.Prelude.{nat_le, IfSome, IfNone, OnOk, OnErr};
 ghost use Rattle.std.specs.Option.{option_map, option_and_then};

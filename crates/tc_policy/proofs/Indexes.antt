@@ -1,12 +1,12 @@
 -- Indexes of grants: where a grant is appended, and where the first of some is removed.
-use Rattle.std.proofs.Common.{◌≡◌, ◌<◌, ℕ, Bool, true, false, if◌then◌else◌, Option, Some, None, is_some, List, [], ◌∷◌, ◌++◌, length, remove, slice_get, get_or, take, Contains, inl, inr, refl, sym, ap, ◌∙◌, subst}
+use Rattle.std.proofs.Common.{◌≡◌, ◌<◌, ℕ, true, false, if◌then◌else◌, Option, Some, None, is_some, List, [], ◌∷◌, ◌++◌, length, remove, Contains, inl, inr, refl, sym, ap, ◌∙◌, subst}
 use Rattle.std.specs.Option.{option_map}
 use Rattle.std.proofs.lemmas.Option.{slice_get_within, get_or_from_slice_get, same_Some}
 use Rattle.tc_lists.proofs.Options.{none_from_is_some}
 use Rattle.tc_policy.specs.Places.{IsFirstAt, IsIndex, IsWithoutFirst, first_place, lowered}
 use Rattle.tc_policy.specs.Same.{same_grant}
 use Rattle.tc_policy.specs.declared.grants.Grant.{Grant}
-use Rattle.tc_policy.proofs.FirstPlaces.{same_tells, first_place-absent, first_place-from, first_place-is, first_place-none, first_place-push_known, first_place-push_new, first_place-remove}
+use Rattle.tc_policy.proofs.FirstPlaces.{same_tells, first_place-from, first_place-is, first_place-none, first_place-push_known, first_place-push_new, first_place-remove}
 
 -- another grant keeps its place, or has none still
 push_other : (g h : Grant) (grants : List Grant) (o : Option ℕ) → first_place h grants ≡ o → same_grant g h ≡ false

@@ -1,7 +1,7 @@
 -- Numbers of grants, and where these stand.
-use Rattle.std.proofs.Common.{◌≡◌, ℕ, suc, ◌+◌, List, Option, Some, None, Contains, IfSome, IfNone, refl, sym, ap, ◌∙◌, arith}
+use Rattle.std.proofs.Common.{◌≡◌, ℕ, suc, List, Option, Some, None, Contains, IfSome, IfNone, refl, sym, ap, ◌∙◌, arith}
 use Rattle.std.specs.Option.{option_map}
-use Rattle.std.proofs.lemmas.Option.{none-some, same_Some, slice_get_within, get_or_from_slice_get}
+use Rattle.std.proofs.lemmas.Option.{none-some, slice_get_within, get_or_from_slice_get}
 use Rattle.tc_lists.proofs.Options.{option_map_some}
 use Rattle.tc_policy.specs.Places.{IsFirstNumber, first_number, first_place}
 use Rattle.tc_policy.specs.declared.grants.Grant.{Grant}

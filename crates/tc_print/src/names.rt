@@ -1,6 +1,5 @@
 //! Names as text: plain where they have the form of a name token, else quoted.
 ghost use Rattle.std.specs.Prelude.{◌≡◌, ◌++◌, OnErr, OnOk};
-ghost use Rattle.std.specs.List.{flat_map};
 ghost use Rattle.tc_term.specs.Text.{atom_text, name_text, quoted, quoted_byte};
 ghost use mathlib.Core.List.{IsPrefix};
 

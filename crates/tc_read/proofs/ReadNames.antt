@@ -4,7 +4,7 @@ use Rattle.std.specs.Prelude.{codes, bytes_eq}
 use Rattle.std.specs.List.{list_all, AllByRecursion}
 use Rattle.std.proofs.lemmas.Bool.Decides.{nat_tests}
 use Rattle.tc_term.specs.Tree.{Tree, Fits}
-use Rattle.tc_term.specs.Tokens.{Sign, EqColonEq, EqBackEq, EqLess, GreaterEq, BackEq, SlashSlash, Equal, Less, Greater, Plus, Minus, Star, Ask, sign_bytes, Lexeme, Word, Variable, Number, Quoted, Symbol, Punctuation, Mark, Inside, closed, doubled, escaped, plain, escape, SpellsToken, Longest}
+use Rattle.tc_term.specs.Tokens.{Sign, EqColonEq, EqBackEq, EqLess, GreaterEq, BackEq, SlashSlash, Equal, Less, Greater, Plus, Minus, Star, Ask, sign_bytes, Lexeme, Word, Variable, Number, Quoted, Symbol, Punctuation, Mark, Inside, closed, doubled, escaped, plain, escape, SpellsToken}
 use Rattle.tc_term.specs.Tokens as spelled
 use Rattle.tc_term.specs.Layouts.{At, Stop, TextEnd, ClauseEnd, NoToken, Scan, at_text_end, at_clause_end, at_no_token, token}
 use Rattle.tc_term.specs.Grammar.{Token, Operator, infix_of, operator_of, functor_of, xfx, yfx, Derives, operand, prefix, infix_term, Operand, variable, integer, negative, atom, compound, no_items, items, group, Arguments, last_argument, more_arguments, Items, last_item, list_tail, more_items, IsTerm}

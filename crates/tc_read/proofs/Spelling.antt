@@ -20,7 +20,7 @@ use Rattle.std.specs.Str.Parse.{digits_value_after}
 use Rattle.tc_term.proofs.Places.{Stands-range, place_in-range, place_in_cases}
 use Rattle.tc_term.specs.Faults.{is_anonymous, known_after, known_by, learned, number_by, number_of}
 use Rattle.tc_term.specs.Text.{is_name, name_text, quoted, quoted_byte}
-use Rattle.tc_term.specs.Tokens.{Lexeme, Word, Number, Quoted, Symbol, Punctuation, Minus, Mark, decimal_from, escape, mark_byte}
+use Rattle.tc_term.specs.Tokens.{Lexeme, Word, Number, Quoted, decimal_from}
 use Rattle.tc_term.specs.Tokens as spelled
 use Rattle.tc_term.specs.Variables.{place_in}
 use Rattle.tc_read.proofs.Again.{NoWord, all_words}

@@ -1,7 +1,6 @@
 -- What the reader answers, as the code has it.
 use Rattle.std.specs.Prelude.{ℕ, Option, Some, None, Result, Ok, Err}
 use Rattle.tc_term.specs.Faults as faults
-use Rattle.tc_term.specs.Faults.{ReadsAs, Judged, Parsed, Ended, Reading, reading}
 use Rattle.tc_read.specs.declared.fault.ReadFault.{ReadFault}
 use Rattle.tc_read.specs.declared.fault.ReadFault.TheVariants.{Syntax, WideInt, TooMany, TooBig, NoMemory}
 use Rattle.tc_term.specs.declared.template.Pattern.{Pattern}

@@ -1,9 +1,8 @@
 //! The steps of the parser where a term is awaited.
 ghost use Rattle.std.specs.Prelude.{◌≡◌, IfOk, map};
-ghost use Rattle.tc_term.specs.Grammar.{NotCalled};
 ghost use Rattle.tc_read.specs.Frames.{IsMove, opened};
 ghost use Rattle.tc_read.specs.Kept.{kept};
-ghost use Rattle.tc_read.specs.Machine.{begin, listed, minus, named, signed, unbracketed};
+ghost use Rattle.tc_read.specs.Machine.{begin, listed, minus, named, signed};
 ghost use Rattle.tc_read.specs.Views.{meant, sign_view, token_view, unquoted};
 
 use crate::build::{atom, integer, variable};

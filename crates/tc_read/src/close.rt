@@ -1,5 +1,5 @@
 //! The steps of the parser where a term has been read.
-ghost use Rattle.std.specs.Prelude.{◌≡◌, ◌∷◌, IfOk, [], MatchOption, None, Some, map, suc};
+ghost use Rattle.std.specs.Prelude.{◌≡◌, IfOk, [], MatchOption, None, Some, map, suc};
 ghost use Rattle.tc_read.specs.declared.frames.Frame.{Frame};
 ghost use Rattle.tc_read.specs.declared.frames.Stack.{Stack};
 ghost use Rattle.tc_read.specs.Frames.{IsMove, close_in, frames_of, items_of, opened_below, top};

@@ -1,13 +1,13 @@
 //! The longest token at the front of a text.
 ghost use Rattle.std.specs.Prelude.{◌≡◌, ◌<◌, ◌≤◌, ◌&&◌, ◌∷◌, ◌++◌, [], false, IfNone, IfSome};
-ghost use Rattle.std.specs.Prelude.{MatchOption, None, Some, length, take, drop, true};
+ghost use Rattle.std.specs.Prelude.{None, Some, length, true};
 ghost use Rattle.std.specs.List.{prefix_len};
 ghost use Rattle.std.specs.Char.{is_ascii_digit};
 ghost use Rattle.tc_term.specs.Bytes.{is_word};
-ghost use Rattle.tc_term.specs.Tokens.{BeginsNone, escape, mark_byte, sign_bytes};
-ghost use Rattle.tc_read.specs.Lexemes.{lexeme_view, mark_view};
-ghost use Rattle.tc_read.specs.Lexing.{Begins, after_one, back_sign, equal_sign, greater_sign};
-ghost use Rattle.tc_read.specs.Lexing.{is_mark, leads_with, quoted_end, sign_at, slash_sign};
+ghost use Rattle.tc_term.specs.Tokens.{mark_byte, sign_bytes};
+ghost use Rattle.tc_read.specs.Lexemes.{mark_view};
+ghost use Rattle.tc_read.specs.Lexing.{after_one, equal_sign};
+ghost use Rattle.tc_read.specs.Lexing.{is_mark, leads_with, sign_at};
 ghost use Rattle.tc_read.specs.Views.{sign_view};
 
 use crate::layout::next_byte;

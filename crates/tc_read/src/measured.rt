@@ -1,5 +1,5 @@
 //! Terms with their sizes.
-ghost use Rattle.std.specs.Prelude.{◌≡◌, ◌≤◌, length, map, reverse, ◌<◌};
+ghost use Rattle.std.specs.Prelude.{◌≡◌, ◌≤◌, map, reverse, ◌<◌};
 ghost use Rattle.tc_term.specs.Limits.{most_depth, most_name_bytes, most_nodes};
 ghost use Rattle.tc_term.specs.Tree as tree;
 ghost use Rattle.tc_term.specs.TreeView.{tree_of};

@@ -1,8 +1,7 @@
 //! The tokens of a text, or of a clause, with what ends them.
-ghost use Rattle.std.specs.Prelude.{◌≡◌, true, IfOk, IsTrue, IfNone, IfSome, List, length, ℕ, ◌↔◌};
-ghost use Rattle.tc_term.specs.Layouts.{At, IsBehindEnd, Scan};
-ghost use Rattle.tc_term.specs.Tokens.{BeginsNone};
-ghost use Rattle.tc_read.specs.Scan.{IsClauseEnd, StandsNext, IsScanned, stop_view};
+ghost use Rattle.std.specs.Prelude.{◌≡◌, true, IfOk, IsTrue, ◌↔◌};
+ghost use Rattle.tc_term.specs.Layouts.{IsBehindEnd};
+ghost use Rattle.tc_read.specs.Scan.{IsClauseEnd, StandsNext, IsScanned};
 
 use crate::layout::{behind_layout, behind_piece, next_byte};
 use crate::lexeme::Lexeme;

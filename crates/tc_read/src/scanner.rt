@@ -1,5 +1,5 @@
 //! What is gathered from the tokens of a text.
-ghost use Rattle.std.specs.Prelude.{◌≡◌, ◌∷◌, ◌++◌, [], IfOk, MatchOption, OnOk, None, Some, List, Bool, ℕ};
+ghost use Rattle.std.specs.Prelude.{◌≡◌, ◌∷◌, ◌++◌, [], IfOk, MatchOption, OnOk, None, Some, List};
 ghost use Rattle.tc_term.specs.Faults.{known_behind, mark_of, or_else, token_of, wide_at};
 ghost use Rattle.tc_term.specs.Grammar.{Integer};
 ghost use Rattle.tc_term.specs.Layouts.{At};

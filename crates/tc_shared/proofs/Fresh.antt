@@ -1,11 +1,11 @@
 -- The passes of a new centre.
-use Rattle.std.proofs.Common.{◌≡◌, ℕ, zero, suc, ◌+◌, ◌<◌, ◌≤◌, List, [], ◌∷◌, All, false, length, refl, sym, ap, ◌∙◌, subst, arith}
+use Rattle.std.proofs.Common.{◌≡◌, ℕ, zero, suc, ◌+◌, ◌<◌, ◌≤◌, List, [], All, length, refl, sym, ap, ◌∙◌, subst, arith}
 use Rattle.std.proofs.lemmas.List.Elements.{All-nil, All-cons, All-same}
 use Rattle.tc_model.specs.Calls.{id_of}
 use Rattle.tc_model.specs.State.{Origin}
 use Rattle.tc_model.specs.declared.entries.Entry.{Entry}
 use Rattle.tc_turn.specs.Passes.{TurnstileState, PassState, new_pass, new_passes}
-use Rattle.tc_shared.specs.Passes.{IsPassOf, IsFreshPassOf, IsAtRest}
+use Rattle.tc_shared.specs.Passes.{IsFreshPassOf, IsAtRest}
 
 module _ (t : TurnstileState Origin) (rest : IsAtRest t.origin []) (turns : ℕ) where
   pub fresh-pass : (k : ℕ) → k < length t.origin.agents → IsFreshPassOf t (new_pass t.table t.origin turns k)

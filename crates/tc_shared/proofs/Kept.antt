@@ -1,12 +1,12 @@
 -- What every call keeps of a pass.
-use Rattle.std.proofs.Common.{◌≡◌, ℕ, ◌+◌, ◌<◌, List, [], ◌∷◌, ◌++◌, All, false, refl, sym, ap, ◌∙◌, subst, arith}
+use Rattle.std.proofs.Common.{◌≡◌, ℕ, ◌+◌, ◌<◌, List, [], ◌∷◌, All, false, refl, sym, ap, ◌∙◌, subst, arith}
 use Rattle.std.proofs.lemmas.List.Elements.{All-weaker, All-push, Contains-append_right, Contains-append_left, Contains-push}
 use Rattle.tc_model.specs.Calls.{id_of, call_of}
 use Rattle.tc_model.specs.Run.{HasCall}
 use Rattle.tc_model.specs.State.{Origin}
 use Rattle.tc_model.specs.declared.calls.Op.{Op}
 use Rattle.tc_model.specs.declared.entries.Entry.{Entry}
-use Rattle.tc_model.specs.declared.entries.Entry.TheVariants.{Called, Looked}
+use Rattle.tc_model.specs.declared.entries.Entry.TheVariants.{Called}
 use Rattle.tc_centre.specs.declared.answers.Answer.{Answer}
 use Rattle.tc_centre.specs.declared.answers.Poll.{Poll}
 use Rattle.tc_turn.specs.Passes.{TurnstileState, PassState}

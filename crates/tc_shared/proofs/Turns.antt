@@ -1,5 +1,5 @@
 -- What a turn makes of a pass.
-use Rattle.std.proofs.Common.{◌≡◌, ◌≢◌, ℕ, ◌+◌, ◌-◌, ◌<◌, ◌≤◌, List, [], ◌∷◌, ◌++◌, Bool, true, false, All, Some, None, Option, Ok, Err, IfOk, IfErr, OnErr, is_ok, refl, sym, ap, ◌∙◌, subst, length}
+use Rattle.std.proofs.Common.{◌≡◌, ◌≢◌, ℕ, ◌+◌, ◌-◌, ◌<◌, ◌≤◌, List, [], ◌∷◌, ◌++◌, Bool, true, false, All, Some, Option, Ok, Err, IfOk, OnErr, is_ok, refl, sym, ap, ◌∙◌, subst, length}
 use Rattle.std.specs.declared.result.Result.{Result}
 use Rattle.std.proofs.lemmas.List.{append-nil}
 use Rattle.std.proofs.lemmas.Bool.{true≢false}
@@ -10,10 +10,9 @@ use Rattle.tc_model.specs.Entries.{IsFull, pending_after}
 use Rattle.tc_model.specs.Entries as entries
 use Rattle.tc_model.specs.Replies.{reply_in}
 use Rattle.tc_model.specs.State.{Origin}
-use Rattle.tc_model.specs.declared.calls.CallId.{CallId}
 use Rattle.tc_model.specs.declared.calls.Op.{Op}
 use Rattle.tc_model.specs.declared.entries.Entry.{Entry}
-use Rattle.tc_model.specs.declared.entries.Entry.TheVariants.{Called, Gave, Looked}
+use Rattle.tc_model.specs.declared.entries.Entry.TheVariants.{Called, Looked}
 use Rattle.tc_centre.specs.Centre.{Centre, IsFullCentre, weight_in, waiting_in}
 use Rattle.tc_centre.specs.Turns.{IsGave, Serves}
 use Rattle.tc_centre.specs.Turns as centre
@@ -30,7 +29,7 @@ use Rattle.tc_centre.specs.declared.answers.TurnFault.TheVariants as turn
 use Rattle.tc_shared.specs.declared.answers.CallFault.{CallFault}
 use Rattle.tc_turn.specs.Owners.{entries_of, OthersOwnNone}
 use Rattle.tc_turn.specs.Passes.{TurnstileState, PassState, Enters, Leaves}
-use Rattle.tc_shared.specs.Passes.{IsPassOf, IsAtRest, IsPaused, IsPausedOf, IsCallRefused, IsSharedPollRefused, IsSameFault, IsSamePollFault, CallsInTurn, PollsInTurn, Sees, SeesFull, SeesRoom, Finds, after_turn}
+use Rattle.tc_shared.specs.Passes.{IsPassOf, IsAtRest, IsPaused, IsPausedOf, IsCallRefused, IsSharedPollRefused, IsSameFault, IsSamePollFault, CallsInTurn, PollsInTurn, Sees, SeesFull, SeesRoom, after_turn}
 use Rattle.tc_centre.proofs.Owned.{owned-calls}
 use Rattle.tc_shared.proofs.Adding.{others-none, own-more, none-of-none}
 

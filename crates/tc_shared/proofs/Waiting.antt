@@ -1,5 +1,5 @@
 -- What waiting makes of a pass.
-use Rattle.std.proofs.Common.{◌≡◌, ℕ, ◌+◌, ◌-◌, ◌<◌, ◌≤◌, List, [], ◌∷◌, ◌++◌, Bool, true, false, Option, Some, None, refl, sym, ap, ◌∙◌, subst, length, arith, length-append}
+use Rattle.std.proofs.Common.{◌≡◌, ℕ, ◌+◌, ◌-◌, ◌<◌, ◌≤◌, List, None, refl, sym, ap, ◌∙◌, subst, length, arith}
 use mathlib.Core.List.{IsPrefix}
 use Rattle.tc_lists.proofs.Prefixes.{IsPrefix-trans, IsPrefix-whole, length-IsPrefix}
 use Rattle.std.specs.List.{Contains}

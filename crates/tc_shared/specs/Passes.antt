@@ -9,7 +9,6 @@ use Rattle.tc_model.specs.Replies.{reply_in}
 use Rattle.tc_model.specs.Run.{IsFirstRun, HasCall}
 use Rattle.tc_model.specs.State.{Origin, IsQuiescent, opening, after_history}
 use Rattle.tc_model.specs.declared.limits.TheConstants.{MOST_WEIGHT}
-use Rattle.tc_model.specs.declared.calls.CallId.{CallId}
 use Rattle.tc_model.specs.declared.calls.Op.{Op}
 use Rattle.tc_model.specs.declared.items.Item.{Item}
 use Rattle.tc_model.specs.declared.outcomes.Outcome.{Outcome}

@@ -1,5 +1,5 @@
 //! The centre, its passes, and a turn that is kept.
-ghost use Rattle.std.specs.Prelude.{◌≡◌, [], ◌<◌, ◌≤◌, ℕ, false, true, Some, length, IfOk, IfErr, OnErr, All};
+ghost use Rattle.std.specs.Prelude.{◌≡◌, [], ◌<◌, ◌≤◌, ℕ, false, Some, length, IfOk, IfErr, OnErr, All};
 ghost use Rattle.tc_model.specs.Calls.{id_of, calls_of, call_of};
 ghost use Rattle.tc_model.specs.Run.{HasCall};
 ghost use Rattle.tc_model.specs.Replies.{reply_in};

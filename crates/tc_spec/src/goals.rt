@@ -1,7 +1,7 @@
 //! Goals by their names and how many arguments they have.
 ghost use Rattle.std.specs.Prelude.{◌≡◌, ◌≢◌, IfNone, IfOk, IfSome};
-ghost use Rattle.tc_term.specs.TreeView.{tree_of, trees_of};
-ghost use Rattle.tc_term.specs.Tree.{Atomic, Compound};
+ghost use Rattle.tc_term.specs.TreeView.{tree_of};
+ghost use Rattle.tc_term.specs.Tree.{Atomic};
 ghost use Rattle.tc_model.specs.Reactions.{goal_term, of_one, of_two};
 ghost use Rattle.tc_spec.specs.Goals.{IsGoalOf, one_name, two_name};
 

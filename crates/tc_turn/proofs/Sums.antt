@@ -1,10 +1,7 @@
 -- The counts that the rule adds up.
-use Rattle.std.proofs.Common.{◌≡◌, ℕ, zero, suc, ◌+◌, ◌<◌, ◌≤◌, ◌≢◌, List, [], ◌∷◌, set, sym, refl, ap, ◌∙◌, arith, cond, eq-eqb, ne_eqb, lt-ltb, sum_by, Option, Some, lt_of_not-le}
+use Rattle.std.proofs.Common.{◌≡◌, ℕ, ◌+◌, ◌<◌, ◌≤◌, ◌≢◌, refl, ap, ◌∙◌, arith, cond, eq-eqb, ne_eqb, lt-ltb, Option, Some, lt_of_not-le}
 use mathlib.Core.Logic.{dite}
-use mathlib.Core.Option.{some, some-injective, some-ne-none}
 use native.Mathlib.Decide.{ℕ_discrete, dec_le}
-use lib.ListN.{get_elem?}
-use Rattle.std.proofs.lemmas.List.Sums.{sum_by-cons}
 use Rattle.tc_turn.specs.Order.{one_if_same, one_if_below, one_if_in}
 
 pub one_if_same-same : (n x : ℕ) → n ≡ x → one_if_same n x ≡ 1

@@ -1,5 +1,5 @@
 //! Copies of terms in the arena.
-ghost use Rattle.std.specs.Prelude.{◌≡◌, ◌≤◌, IfOk};
+ghost use Rattle.std.specs.Prelude.{◌≤◌, IfOk};
 ghost use Rattle.tc_term.specs.TreeView.{tree_of};
 ghost use Rattle.tc_term.specs.Variables.{raised, var_bound};
 ghost use Rattle.tc_unify.specs.Arena.{IsArena, IsNodeFor, Grows};

@@ -1,5 +1,5 @@
 //! Values of nodes and terms: what every solution makes of them, where it is within the limits.
-ghost use Rattle.std.specs.Prelude.{◌≡◌, ◌≤◌, ◌<◌, length, IfOk, IsTrue};
+ghost use Rattle.std.specs.Prelude.{◌≡◌, ◌≤◌, ◌<◌, IfOk, IsTrue};
 ghost use Rattle.tc_term.specs.Limits.{most_depth};
 ghost use Rattle.tc_term.specs.Room.{whole, IsWithin};
 ghost use Rattle.tc_term.specs.Tree.{Atomic, is_ground, IsTuple};

@@ -1,4 +1,4 @@
-use denote.Param.Send.{param_send, sendable}
+use denote.Param.Send.{sendable}
 use Rattle.std.proofs.Common.{◌+◌, ◌*◌, ◌++◌, ℕ, List, All, length, take, drop, sym, subst, rules}
 use Rattle.tc_lists.proofs.Parts.{take-append_all}
 use Rattle.tc_sched.specs.Steps.{IsReady, left_in}

@@ -1,6 +1,5 @@
 use Rattle.std.proofs.Common.{◌≡◌, ◌∙◌, ℕ, List, map, sym, ap, subst}
 use Rattle.tc_config.specs.Configurations.{Configuration, centre_names}
-use Rattle.tc_config.specs.declared.configs.AgentConf.{AgentConf}
 use Rattle.tc_config.specs.declared.configs.CentreConf.{CentreConf}
 use Rattle.tc_policy.specs.declared.grants.Grant.{Grant}
 use Rattle.tc_workers.specs.Crews.{CanDrive}

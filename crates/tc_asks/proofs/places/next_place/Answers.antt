@@ -1,4 +1,4 @@
-use Rattle.std.proofs.Common.{◌≤◌, [], ap, length, refl, subst, sym, ◌∙◌, arith}
+use Rattle.std.proofs.Common.{◌≤◌, [], ap, length, refl, subst, ◌∙◌, arith}
 use Rattle.std.proofs.lemmas.List.{get_or_default}
 use Rattle.tc_model.specs.Scripts.{Lines}
 use Rattle.tc_asks.proofs.Steps.{placed_next}

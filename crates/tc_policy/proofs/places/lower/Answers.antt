@@ -1,4 +1,4 @@
-use Rattle.std.proofs.Common.{sym, ap, ◌∙◌, rules}
+use Rattle.std.proofs.Common.{ap, ◌∙◌, rules}
 use Rattle.std.proofs.lemmas.Map.Made.{map_same_pairs, lookup-map_values}
 use Rattle.std.specs.Map.{lookup}
 use Rattle.tc_policy.specs.Places.{lowered}

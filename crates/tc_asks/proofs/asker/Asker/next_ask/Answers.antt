@@ -2,7 +2,6 @@ use Rattle.std.proofs.Common.{◌≡◌, ◌<◌, Some, length, get_or, ap, arit
 use Rattle.std.specs.List.{slice_get}
 use Rattle.std.proofs.lemmas.Option.{slice_get-get_or}
 use Rattle.tc_lists.proofs.Options.{IfSome-at}
-use Rattle.tc_model.specs.declared.scripts.ScriptItem.{ScriptItem}
 use Rattle.tc_asks.specs.Bindings.{AreKnown}
 use Rattle.tc_asks.specs.Places.{IsItemAt}
 use Rattle.tc_asks.specs.Progress.{Progress}

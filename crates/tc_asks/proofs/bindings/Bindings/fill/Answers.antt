@@ -1,5 +1,4 @@
-use Rattle.std.proofs.Common.{◌≡◌, if◌then◌else◌, Option, Some, None, ap, sym, ◌∙◌, subst}
-use Rattle.tc_term.specs.Equations.{Equations}
+use Rattle.std.proofs.Common.{◌≡◌, if◌then◌else◌, Some, None, ap, sym, ◌∙◌, subst}
 use Rattle.tc_term.specs.TreeView.{tree_of}
 use Rattle.tc_asks.specs.Bindings.{AreKnown}
 use Rattle.tc_asks.proofs.Replaced.{unreplaced}

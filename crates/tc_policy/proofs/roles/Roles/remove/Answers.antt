@@ -1,4 +1,4 @@
-use Rattle.std.proofs.Common.{◌<◌, length, sym, ap, ◌∙◌, refl, arith}
+use Rattle.std.proofs.Common.{◌<◌, length, sym, ◌∙◌, arith}
 use Rattle.tc_policy.specs.Places.{place_in}
 use Rattle.tc_policy.proofs.Indexes.{index-first, index-none, index-within, without-first, without-none}
 use Rattle.tc_policy.proofs.roles.Roles.remove.Goals as goal

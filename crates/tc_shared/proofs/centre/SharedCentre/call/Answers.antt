@@ -1,12 +1,9 @@
-use Rattle.std.proofs.Common.{◌≡◌, ℕ, sym, ap, ◌∙◌, subst, Ok, Err, IfOk, OnErr}
+use Rattle.std.proofs.Common.{◌≡◌, ℕ, sym, ap, ◌∙◌, subst, IfOk}
 use Rattle.tc_model.specs.Run.{IsNext}
 use Rattle.tc_model.specs.State.{Origin}
-use Rattle.tc_model.specs.declared.calls.CallId.{CallId}
 use Rattle.tc_model.specs.declared.entries.Entry.{Entry}
 use Rattle.tc_turn.specs.Passes.{TurnstileState, PassState}
 use Rattle.tc_centre.specs.Turns as centre
-use Rattle.tc_model.specs.Calls.{call_of}
-use Rattle.tc_shared.specs.Passes.{IsCallRefused}
 use Rattle.tc_shared.proofs.Turns.{is-next, adds, makes, refuses, ok-no-fault}
 use Rattle.tc_shared.proofs.Kept.{keeps-makes, makes-own_call, keeps-call-refused}
 use Rattle.tc_shared.proofs.centre.SharedCentre.call.Goals as goal

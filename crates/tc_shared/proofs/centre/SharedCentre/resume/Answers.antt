@@ -1,4 +1,4 @@
-use Rattle.std.proofs.Common.{◌≡◌, sym, subst}
+use Rattle.std.proofs.Common.{sym, subst}
 use Rattle.tc_centre.specs.Centre.{Centre}
 use Rattle.tc_shared.specs.Passes.{IsPausedOf}
 use Rattle.tc_shared.proofs.Turns.{resumes, resumes-own, resumes-grown}

@@ -1,11 +1,9 @@
-use Rattle.std.proofs.Common.{◌≡◌, ◌+◌, ℕ, sym, ap, ◌∙◌, subst, length}
+use Rattle.std.proofs.Common.{◌≡◌, ◌+◌, ℕ, sym, ap, ◌∙◌, length}
 use Rattle.tc_model.specs.State.{Origin}
-use Rattle.tc_model.specs.Run.{HasCall}
 use Rattle.tc_model.specs.Replies.{reply_in}
 use Rattle.tc_model.specs.declared.entries.Entry.{Entry}
 use Rattle.tc_turn.specs.Passes.{PassState}
-use Rattle.tc_model.specs.Calls.{call_of}
-use Rattle.tc_shared.specs.Passes.{IsPassOf, WaitsInTurns}
+use Rattle.tc_shared.specs.Passes.{WaitsInTurns}
 use Rattle.tc_shared.proofs.Waiting.{ahead-first, ahead-rested, seen-waits, refused-waits, called-later, waited-in-vain, refused-at-once}
 use Rattle.tc_shared.proofs.centre.SharedCentre.wait.Goals as goal
 
