@@ -1,7 +1,8 @@
 //! std's readers and writers as a source and a sink.
 //!
 //! Nothing is told of the bytes: what the process is connected to is trusted.
-ghost use Rattle.std.specs.Prelude.{◌≡◌, ◌<◌, ◌≤◌, length, take, IfOk, IfErr, IsErr, OnOk, None, true, false, not};
+ghost use Rattle.std.specs.Prelude.{◌≡◌, ◌<◌, ◌≤◌, length, take, true, false, not};
+ghost use Rattle.std.specs.Prelude.{IfOk, IfErr, IsErr, OnOk, None};
 ghost use Rattle.std.specs.Io.KnownBytes.{ReadConsumes, Appends, Keeps};
 ghost use Rattle.tc_io.specs.Faults.{Counts};
 

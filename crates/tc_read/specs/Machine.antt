@@ -3,6 +3,7 @@ use Rattle.tc_term.specs.Tokens.{Sign, Minus, sign_bytes}
 use Rattle.tc_term.specs.Grammar.{Token, Variable, Integer, Name, Symbol, Open, Close}
 use Rattle.tc_term.specs.Grammar.{OpenList, CloseList, Comma, Bar, Operator, infix_of}
 use Rattle.tc_term.specs.Grammar.{Meaning, nil, cell, negated, between}
+use Rattle.tc_term.specs.Grammar.{argument_priority, minus_priority, whole_priority}
 
 -- What stands open, innermost first: an operator behind its left side; a minus; a group; a
 -- compound's name and the arguments before this one; a list's items before this one; all its items,
@@ -17,13 +18,13 @@ pub data Frame (A : Type 0) : Type 0 where
 
 -- the highest priority of a term in the innermost open place
 abbrev pub limit : {A : Type 0} → List (Frame A) → ℕ
-limit [] = 1000
+limit [] = whole_priority
 limit (Between op a ∷ s) = op.right
-limit (Negated ∷ s) = 200
-limit (Group ∷ s) = 1000
-limit (Args name done ∷ s) = 999
-limit (Elements done ∷ s) = 999
-limit (Tail done ∷ s) = 999
+limit (Negated ∷ s) = minus_priority
+limit (Group ∷ s) = whole_priority
+limit (Args name done ∷ s) = argument_priority
+limit (Elements done ∷ s) = argument_priority
+limit (Tail done ∷ s) = argument_priority
 
 -- a term is awaited; the term a of this priority has been read; the whole has been read
 pub data Standing (A : Type 0) : Type 0 where
@@ -113,7 +114,7 @@ module _ {A : Type 0} (m : Meaning A) where
   abbrev pub close : List (Frame A) → A → List Token → MachineStep A
   close [] a ts = close_all a ts
   close (Between op left ∷ s) a ts = Goes_to s (Holds (between m op left a) op.priority) ts
-  close (Negated ∷ s) a ts = Goes_to s (Holds (negated m a) 200) ts
+  close (Negated ∷ s) a ts = Goes_to s (Holds (negated m a) minus_priority) ts
   close (Group ∷ s) a ts = close_group s a ts
   close (Args name done ∷ s) a ts = close_argument s name done a ts
   close (Elements done ∷ s) a ts = close_element s done a ts

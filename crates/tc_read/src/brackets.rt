@@ -5,9 +5,7 @@ ghost use Rattle.tc_term.specs.Limits.{most_brackets};
 ghost use Rattle.tc_read.specs.Lexemes.{lexeme_view};
 
 use crate::lexeme::{Lexeme, Mark};
-
-/// The most brackets that are open at once.
-const MOST: usize = 200;
+use tc_term::MAX_BRACKETS;
 
 /// The brackets that are open, until they are too many at some place.
 #[derive(Drop)]
@@ -49,7 +47,7 @@ impl Brackets {
         ensures { (n most : ℕ) → CountsTo self.old n most → CountsTo self.new (n + 1)
             (max most (n + 1)) }
     {
-        if self.count == MOST {
+        if self.count == MAX_BRACKETS {
             self.too_many = true;
         } else {
             self.count += 1;

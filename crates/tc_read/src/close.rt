@@ -10,7 +10,7 @@ ghost use Rattle.tc_read.specs.Views.{operator_view, token_view};
 use crate::compound::{between, cell, compound, list, negated, nil};
 use crate::cursor::{Delimiter, delimited, next};
 use crate::frames::{Frame, Move, Stack, State, Step, awaited, held, limit};
-use crate::operators::{Operator, infix};
+use crate::operators::{MINUS_PRIORITY, Operator, infix};
 use crate::tokens::Tokens;
 use std::alloc::Global;
 use tc_lists::NoMemory;
@@ -100,7 +100,7 @@ fn close_negated<'a>(alloc: Global, stack: &mut Stack, tokens: Tokens<'a>) -> Mo
 {
     let of = stack.pop_item();
     let item = negated(alloc, of)?;
-    held(stack, item, 200, tokens)
+    held(stack, item, MINUS_PRIORITY, tokens)
 }
 
 /// The closing of a round bracket.

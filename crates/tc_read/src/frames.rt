@@ -8,7 +8,7 @@ ghost use Rattle.tc_read.specs.Machine.{Awaits, Goes_to, Holds, limit};
 ghost use Rattle.tc_read.specs.Views.{token_view};
 
 use crate::measured::Item;
-use crate::operators::Operator;
+use crate::operators::{ARGUMENT_PRIORITY, MINUS_PRIORITY, Operator, WHOLE_PRIORITY};
 use crate::tokens::Tokens;
 use std::alloc::Global;
 use tc_lists::NoMemory;
@@ -137,7 +137,7 @@ pub fn limit(stack: &Stack) -> u16
     ensures { (ks : List Kept) → result ≡ limit (framed (frames_of stack.now) ks) }
 {
     match stack.frames.last() {
-        None => 1000,
+        None => WHOLE_PRIORITY,
         Some(frame) => frame_limit(frame),
     }
 }
@@ -148,10 +148,8 @@ fn frame_limit(frame: &Frame) -> u16
 {
     match frame {
         Frame::Between(operator) => operator.right,
-        Frame::Negated => 200,
-        Frame::Group => 1000,
-        Frame::Args(_, _) => 999,
-        Frame::Elements(_) => 999,
-        Frame::Tail(_) => 999,
+        Frame::Negated => MINUS_PRIORITY,
+        Frame::Group => WHOLE_PRIORITY,
+        Frame::Args(_, _) | Frame::Elements(_) | Frame::Tail(_) => ARGUMENT_PRIORITY,
     }
 }

@@ -1,5 +1,5 @@
 //! The longest token at the front of a text.
-ghost use Rattle.std.specs.Prelude.{◌≡◌, ◌<◌, ◌≤◌, ◌&&◌, ◌∷◌, ◌++◌, [], false, IfNone, IfSome};
+ghost use Rattle.std.specs.Prelude.{◌≡◌, ◌<◌, ◌≤◌, ◌&&◌, ◌∷◌, ◌++◌, false, IfNone, IfSome};
 ghost use Rattle.std.specs.Prelude.{None, Some, length, true};
 ghost use Rattle.std.specs.List.{prefix_len};
 ghost use Rattle.std.specs.Char.{is_ascii_digit};

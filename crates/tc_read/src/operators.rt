@@ -6,6 +6,15 @@ ghost use Rattle.tc_read.specs.Views.{operator_view, operator_option, sign_view,
 
 use crate::tokens::{Sign, Token};
 
+/// The highest priority of a term by itself and of one in round brackets, which is the comma's.
+pub const WHOLE_PRIORITY: u16 = 1000;
+
+/// The highest priority of an argument, and of an element of a list.
+pub const ARGUMENT_PRIORITY: u16 = 999;
+
+/// The priority of a minus with its term, and the highest one of that term.
+pub const MINUS_PRIORITY: u16 = 200;
+
 /// An operator: its name, its priority, and the highest priority of each side.
 #[derive(Clone, Copy)]
 pub struct Operator {
@@ -22,9 +31,9 @@ pub fn infix(token: Token) -> Option<Operator>
     match token {
         Token::Comma => Some(Operator {
             name: b",",
-            priority: 1000,
-            left: 999,
-            right: 1000,
+            priority: WHOLE_PRIORITY,
+            left: ARGUMENT_PRIORITY,
+            right: WHOLE_PRIORITY,
         }),
         Token::Symbol(sign) => Some(symbol_operator(sign)),
         Token::Word(name) => word_operator(name),

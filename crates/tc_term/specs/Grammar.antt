@@ -54,9 +54,21 @@ abbrev pub operator_named : List ℕ → Option Operator
 operator_named name = if bytes_eq name (codes "is") then Some (xfx (codes "is") 700)
     else (if bytes_eq name (codes "mod") then Some (yfx (codes "mod") 400) else None)
 
+-- the highest priority of a term by itself and of one in round brackets, which is the comma's
+abbrev pub whole_priority : ℕ
+whole_priority = 1000
+
+-- the highest priority of an argument, and of an element of a list
+abbrev pub argument_priority : ℕ
+argument_priority = 999
+
+-- the priority of a minus with its term, and the highest one of that term
+abbrev pub minus_priority : ℕ
+minus_priority = 200
+
 -- the operator that a token is behind a term
 abbrev pub infix_of : Token → Option Operator
-infix_of Comma = Some (xfy (codes ",") 1000)
+infix_of Comma = Some (xfy (codes ",") whole_priority)
 infix_of (Symbol sign) = Some (operator_of sign)
 infix_of (Name true name) = operator_named name
 infix_of _ = None
@@ -107,8 +119,8 @@ module _ {A : Type 0} (m : Meaning A) where
     -- rest stands behind it.
     pub data Derives : ℕ → List Token → A → List Token → Type 0 where
       operand : {p : ℕ} {ts rest : List Token} {a : A} → Operand ts a rest → Derives p ts a rest
-      prefix : {p : ℕ} {ts rest : List Token} {a : A} → 200 ≤ p → NotCalled ts → NotNumber ts
-          → Derives 200 ts a rest → Derives p (Symbol Minus ∷ ts) (negated a) rest
+      prefix : {p : ℕ} {ts rest : List Token} {a : A} → minus_priority ≤ p → NotCalled ts → NotNumber ts
+          → Derives minus_priority ts a rest → Derives p (Symbol Minus ∷ ts) (negated a) rest
       infix_term : {p : ℕ} {ts mid rest : List Token} {token : Token} {a b : A} (op : Operator)
           → infix_of token ≡ Some op → op.priority ≤ p
           → Derives op.left ts a (token ∷ mid) → Derives op.right mid b rest
@@ -128,26 +140,26 @@ module _ {A : Type 0} (m : Meaning A) where
           → Operand (token ∷ Open true ∷ ts) (m.compound name a more) rest
       no_items : {rest : List Token} → Operand (OpenList ∷ CloseList ∷ rest) nil rest
       items : {ts rest : List Token} {a : A} → Items ts a rest → Operand (OpenList ∷ ts) a rest
-      group : {glued : Bool} {ts rest : List Token} {a : A} → Derives 1000 ts a (Close ∷ rest)
-          → Operand (Open glued ∷ ts) a rest
+      group : {glued : Bool} {ts rest : List Token} {a : A}
+          → Derives whole_priority ts a (Close ∷ rest) → Operand (Open glued ∷ ts) a rest
 
     -- the arguments of a compound, the first and the others, up to and with the closing bracket
     pub data Arguments : List Token → A → List A → List Token → Type 0 where
-      last_argument : {ts rest : List Token} {a : A} → Derives 999 ts a (Close ∷ rest)
+      last_argument : {ts rest : List Token} {a : A} → Derives argument_priority ts a (Close ∷ rest)
           → Arguments ts a [] rest
       more_arguments : {ts mid rest : List Token} {a b : A} {more : List A}
-          → Derives 999 ts a (Comma ∷ mid) → Arguments mid b more rest
+          → Derives argument_priority ts a (Comma ∷ mid) → Arguments mid b more rest
           → Arguments ts a (b ∷ more) rest
 
     -- a list from an element on, up to and with the closing bracket
     pub data Items : List Token → A → List Token → Type 0 where
-      last_item : {ts rest : List Token} {a : A} → Derives 999 ts a (CloseList ∷ rest)
+      last_item : {ts rest : List Token} {a : A} → Derives argument_priority ts a (CloseList ∷ rest)
           → Items ts (cell a nil) rest
-      list_tail : {ts mid rest : List Token} {a b : A} → Derives 999 ts a (Bar ∷ mid)
-          → Derives 999 mid b (CloseList ∷ rest) → Items ts (cell a b) rest
-      more_items : {ts mid rest : List Token} {a b : A} → Derives 999 ts a (Comma ∷ mid)
+      list_tail : {ts mid rest : List Token} {a b : A} → Derives argument_priority ts a (Bar ∷ mid)
+          → Derives argument_priority mid b (CloseList ∷ rest) → Items ts (cell a b) rest
+      more_items : {ts mid rest : List Token} {a b : A} → Derives argument_priority ts a (Comma ∷ mid)
           → Items mid b rest → Items ts (cell a b) rest
 
   -- the tokens are a term that means a
   abbrev pub IsTerm : List Token → A → Type 0
-  IsTerm ts a = Derives 1000 ts a []
+  IsTerm ts a = Derives whole_priority ts a []

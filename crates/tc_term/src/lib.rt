@@ -32,7 +32,7 @@ pub use laws::{
     fewer_equations_have_more_solutions, ground_template_matches_itself, renumbering_keeps_matches,
     template_keeps_its_numbers, tuple_is_a_template, value_is_a_tuple, value_is_unique,
 };
-pub use limits::{MAX_DEPTH, MAX_NAME_BYTES, MAX_NODES, MAX_VARIABLES, Room, fits};
+pub use limits::{MAX_BRACKETS, MAX_DEPTH, MAX_NAME_BYTES, MAX_NODES, MAX_VARIABLES, Room, fits};
 pub use name::Name;
 pub use tc_lists::NoMemory;
 pub use template::{NotPattern, Pattern};

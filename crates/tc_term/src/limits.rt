@@ -19,6 +19,9 @@ pub const MAX_NAME_BYTES: usize = 65_535;
 /// The most different variables of a template.
 pub const MAX_VARIABLES: usize = 256;
 
+/// The most brackets of a text that are open at once.
+pub const MAX_BRACKETS: usize = 200;
+
 /// How many nodes and bytes of names may still come.
 #[derive(Clone, Copy, Debug)]
 pub struct Room {
