@@ -6,6 +6,7 @@ use Rattle.std.proofs.Math.ListN.{get_or-eq_default}
 use Rattle.std.proofs.Math.Seq.{drop-append_seam, take-append_seam}
 use Rattle.std.proofs.lemmas.List.{map-append, reverse-append}
 use Rattle.std.proofs.lemmas.List.Elements.{All-nil, All-pop, All-weaker, All-drop}
+use Rattle.tc_lists.proofs.Prefixes.{take-IsPrefix}
 use Rattle.tc_term.specs.Tree.{Tree, Variable}
 use Rattle.tc_term.specs.Variables.{raised}
 use Rattle.tc_term.proofs.Instances.{instance-instance}
@@ -107,10 +108,10 @@ module _ (a : Arena) (l : Links) (added : List Added) (store : IsStore a l added
         (link : (k : ℕ) → link_of n k ≡ rewound (link_of m) (drop to.trail m.trail.items) k)
         (cut : IsCut m n to) where
       same_nodes : c.nodes.items ≡ a.nodes.items
-      same_nodes = nodes ∙ ap (λ i. take i b.nodes.items) nodes_to ∙ g.grows.nodes
+      same_nodes = nodes ∙ ap (λ i. take i b.nodes.items) nodes_to ∙ take-IsPrefix a.nodes.items b.nodes.items g.grows.nodes
 
       same_text : c.text.items ≡ a.text.items
-      same_text = text ∙ ap (λ i. take i b.text.items) text_to ∙ g.grows.text
+      same_text = text ∙ ap (λ i. take i b.text.items) text_to ∙ take-IsPrefix a.text.items b.text.items g.grows.text
 
       same_variables : c.variables ≡ a.variables
       same_variables = variables ∙ g.grows.variables
@@ -148,7 +149,8 @@ module _ (a : Arena) (l : Links) (added : List Added) (store : IsStore a l added
         },
         AreLevels-same a.variables b.variables a.nodes.items (take e.before.nodes b.nodes.items) a.text.items (take e.before.text b.text.items)
             (link_of l) (rewound (link_of m) (drop e.before.trail m.trail.items)) l.trail.items (take e.before.trail m.trail.items) (reverse added)
-            g.grows.variables (ap (λ i. take i b.nodes.items) nodes_to ∙ g.grows.nodes) (ap (λ i. take i b.text.items) text_to ∙ g.grows.text)
+            g.grows.variables (ap (λ i. take i b.nodes.items) nodes_to ∙ take-IsPrefix a.nodes.items b.nodes.items g.grows.nodes)
+            (ap (λ i. take i b.text.items) text_to ∙ take-IsPrefix a.text.items b.text.items g.grows.text)
             (λ k. ap (λ ns. rewound (link_of m) ns k) (ap₂ (λ n ns. drop n ns) trail_to g.trail ∙ drop-append_seam l.trail.items g.more) ∙ g.back k)
             (ap₂ (λ n ns. take n ns) trail_to g.trail ∙ take-append_seam l.trail.items g.more) store.levels,
       );

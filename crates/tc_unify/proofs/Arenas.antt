@@ -1,11 +1,12 @@
 -- The arena: what its nodes are, also once it grows or is cut.
+use mathlib.Core.List.{IsPrefix}
 use Rattle.std.proofs.Common.{◌≡◌, ◌≢◌, ℕ, ◌+◌, ◌-◌, ◌<◌, ◌≤◌, ◌⊎◌, inl, inr, List, [], ◌∷◌, ◌++◌, length, length-append, length-drop, take, drop, get_or, refl, sym, ap, ap₂, ◌∙◌, subst, arith, Bool, cond, ℤ}
 use Rattle.std.proofs.lemmas.Bool.Decides.{Decides-ltb}
 use Rattle.std.proofs.lemmas.Bool.{cases_lt, cases_order, le-ltb}
-use Rattle.std.proofs.lemmas.List.{take-append-drop, take-append-le, drop-append-le, take_all, length-take-le, get_or_default}
+use Rattle.std.proofs.lemmas.List.{take-append-le, drop-append-le, length-take-le, get_or_default}
 use Rattle.std.proofs.lemmas.List.Elements.{All-nil, All-cons, All-get_or, All-push, All-weaker}
 use Rattle.std.proofs.Math.ListN.{get_or-eq_default}
-use Rattle.std.proofs.Math.Seq.{take-append_seam, get_or-append_seam}
+use Rattle.std.proofs.Math.Seq.{get_or-append_seam}
 use Rattle.std.proofs.Math.Path.{fun_ext}
 use Rattle.tc_term.specs.Tree.{Tree, Variable, Atomic, Number}
 use Rattle.tc_unify.specs.declared.names.TheConstants.{SHORT, SHORT_NAMES}
@@ -16,12 +17,12 @@ use Rattle.tc_unify.specs.declared.nodes.Node.TheVariants.{Atom, Int, Apply}
 use Rattle.tc_unify.specs.Nodes.{Shape, VariableNode, AtomNode, NumberNode, ApplyNode, IsVariable, IsTerm, IsHead, IsPlain, IsInOrder, InOrder, tree_of_node, applied, label}
 use Rattle.tc_unify.proofs.Labels.{label-same, label-labels}
 use Rattle.tc_unify.specs.Walks.{NamesAll}
-use Rattle.tc_unify.specs.Arena.{node_shape, outer_shape, shape_in, IsInside, HasLink, IsNodeWithin, IsArenaOf, IsArena, IsNodeOf, AreNodesOf, Grows, IsNodeFor, IsHeadFor, shape_of, node_tree, Begins}
+use Rattle.tc_unify.specs.Arena.{node_shape, outer_shape, shape_in, IsInside, HasLink, IsNodeWithin, IsArenaOf, IsArena, IsNodeOf, AreNodesOf, Grows, IsNodeFor, IsHeadFor, shape_of, node_tree}
 use Rattle.tc_unify.specs.declared.nodes.Arena.{Arena}
 use Rattle.std.specs.Prelude.{bytes_eq, slice_range, Decides}
 use Rattle.std.proofs.lemmas.Slice.Eq.{bytes_eq-Decides}
 use Rattle.tc_lists.proofs.Parts.{take-drop-append}
-use Rattle.tc_lists.proofs.Prefixes.{IsPrefix-from_take, IsPrefix-trans, get_or-IsPrefix, length-IsPrefix, take-IsPrefix}
+use Rattle.tc_lists.proofs.Prefixes.{IsPrefix-append, IsPrefix-trans, IsPrefix-whole, get_or-IsPrefix, length-IsPrefix}
 
 -- what a term's node is
 pub shape_in-term : (nodes : List Node) (text : List ℕ) (k : ℕ) → k < FIRST_NAME → shape_in nodes text k ≡ node_shape text (get_or nodes k (Atom 0 0))
@@ -134,36 +135,18 @@ pub term_below : (nodes : List Node) (text : List ℕ) (k : ℕ) → IsTerm (sha
 term_below nodes text k h =
     elim (cases_lt k FIRST_VARIABLE) [ inl below ↦ below | inr above ↦ absurd (subst IsTerm (shape_in-variable nodes text k above) h) ]
 
--- a beginning and the rest
-Begins-rest : {X : Type 0} (xs ys : List X) → Begins xs ys → ys ≡ xs ++ drop (length xs) ys
-Begins-rest xs ys h = sym (take-append-drop (length xs) ys) ∙ ap (λ zs. zs ++ drop (length xs) ys) h
-
-pub Begins-length : {X : Type 0} (xs ys : List X) → Begins xs ys → length xs ≤ length ys
-Begins-length xs ys h = length-IsPrefix xs ys (IsPrefix-from_take xs ys h)
-
-pub Begins-itself : {X : Type 0} (xs : List X) → Begins xs xs
-Begins-itself xs = take_all (length xs) xs (omega arith)
-
-pub Begins-append : {X : Type 0} (xs more : List X) → Begins xs (xs ++ more)
-Begins-append xs more = take-append_seam xs more
-
-pub Begins-trans : {X : Type 0} (xs ys zs : List X) → Begins xs ys → Begins ys zs → Begins xs zs
-Begins-trans xs ys zs h i =
-    take-IsPrefix xs zs (IsPrefix-trans xs ys zs (IsPrefix-from_take xs ys h) (IsPrefix-from_take ys zs i))
-
-name-begins : (text longer : List ℕ) (from len : ℕ) → Begins text longer → from + len ≤ length text → take len (drop from longer) ≡ take len (drop from text)
+name-begins : (text longer : List ℕ) (from len : ℕ) → IsPrefix text longer → from + len ≤ length text → take len (drop from longer) ≡ take len (drop from text)
 name-begins text longer from len h i =
-    let more = drop (length text) longer in
-    ap (λ zs. take len (drop from zs)) (Begins-rest text longer h)
-    ∙ ap (take len) (drop-append-le from text more (omega arith))
-    ∙ take-append-le len (drop from text) more (omega (arith, length-drop from text))
+    ap (λ zs. take len (drop from zs)) (sym h.1)
+    ∙ ap (take len) (drop-append-le from text h.0 (omega arith))
+    ∙ take-append-le len (drop from text) h.0 (omega (arith, length-drop from text))
 
-node_shape-begins : (nodes : List Node) (text longer : List ℕ) (count : ℕ) (node : Node) → Begins text longer → IsNodeWithin nodes text count node → node_shape longer node ≡ node_shape text node
+node_shape-begins : (nodes : List Node) (text longer : List ℕ) (count : ℕ) (node : Node) → IsPrefix text longer → IsNodeWithin nodes text count node → node_shape longer node ≡ node_shape text node
 node_shape-begins nodes text longer count (Atom from len) h w = ap AtomNode (name-begins text longer from len h w.0)
 node_shape-begins nodes text longer count (Int n) h w = refl
 node_shape-begins nodes text longer count (Apply head argument) h w = refl
 
-module _ (nodes more : List Node) (text longer : List ℕ) (count : ℕ) (arena : IsArenaOf nodes text count) (grows : Begins nodes more) (text_grows : Begins text longer) where
+module _ (nodes more : List Node) (text longer : List ℕ) (count : ℕ) (arena : IsArenaOf nodes text count) (grows : IsPrefix nodes more) (text_grows : IsPrefix text longer) where
   node_at : (k : ℕ) → k < length nodes → IsNodeWithin nodes text count (get_or nodes k (Atom 0 0))
   node_at k h = All-get_or (IsNodeWithin nodes text count) nodes k (Atom 0 0) h arena.within
 
@@ -172,7 +155,7 @@ module _ (nodes more : List Node) (text longer : List ℕ) (count : ℕ) (arena 
   shape_in-grows k (inl h) =
       let few = arena.few in
       shape_in-term more longer k (omega arith)
-      ∙ ap (node_shape longer) (get_or-IsPrefix nodes more k (Atom 0 0) (IsPrefix-from_take nodes more grows) h)
+      ∙ ap (node_shape longer) (get_or-IsPrefix nodes more k (Atom 0 0) grows h)
       ∙ node_shape-begins nodes text longer count (get_or nodes k (Atom 0 0)) text_grows (node_at k h)
       ∙ sym (shape_in-term nodes text k (omega arith))
   shape_in-grows k (inr h) = shape_in-outer more longer k h.0 ∙ sym (shape_in-outer nodes text k h.0)
@@ -241,10 +224,10 @@ module _ (nodes : List Node) (node : Node) (text : List ℕ) (count : ℕ) (aren
 
   pushed-inside : (k : ℕ) → IsInside nodes count k → pushed k ≡ shape_in nodes text k
   unfolding pushed
-  pushed-inside k h = shape_in-grows nodes (nodes ++ node ∷ []) text text count arena (Begins-append nodes (node ∷ [])) (Begins-itself text) k h
+  pushed-inside k h = shape_in-grows nodes (nodes ++ node ∷ []) text text count arena (IsPrefix-append nodes (node ∷ [])) (IsPrefix-whole text) k h
 
   within_next : (k : ℕ) → k < length nodes → NamesAll (IsInside nodes count) (shape_in nodes text k)
-  within_next k h = inside_within nodes nodes text text count arena (Begins-itself nodes) (Begins-itself text) k (inl h)
+  within_next k h = inside_within nodes nodes text text count arena (IsPrefix-whole nodes) (IsPrefix-whole text) k (inl h)
 
   inside_order : (k : ℕ) → IsInside nodes count k → IsPlain (pushed k) ⊎ (k < length nodes)
   unfolding pushed
@@ -298,7 +281,7 @@ named_nodes a j k f x g y arena h i d e =
     let nodes = a.nodes.items in
     let text = a.text.items in
     let within : (n : ℕ) → n < length nodes → NamesAll (IsNodeOf a) (shape_of a n) =
-    λ n m. inside_within nodes nodes text text a.variables arena (Begins-itself nodes) (Begins-itself text) n (inl m) in
+    λ n m. inside_within nodes nodes text text a.variables arena (IsPrefix-whole nodes) (IsPrefix-whole text) n (inl m) in
     let left = subst (NamesAll (IsNodeOf a)) d (within j h) in
     let right = subst (NamesAll (IsNodeOf a)) e (within k i) in
     All-cons P (x, y) ((f, g) ∷ []) (left.1, right.1) (All-cons P (f, g) [] (left.0, right.0) (All-nil P))
@@ -317,13 +300,13 @@ pub named_node : (a : Arena) (k f x : ℕ) → IsArena a → k < length a.nodes.
 named_node a k f x arena h e =
     let nodes = a.nodes.items in
     let text = a.text.items in
-    subst (NamesAll (IsNodeOf a)) e (inside_within nodes nodes text text a.variables arena (Begins-itself nodes) (Begins-itself text) k (inl h))
+    subst (NamesAll (IsNodeOf a)) e (inside_within nodes nodes text text a.variables arena (IsPrefix-whole nodes) (IsPrefix-whole text) k (inl h))
 
 -- longer text changes no node
-shape_in-text : (nodes : List Node) (text longer : List ℕ) (count : ℕ) → IsArenaOf nodes text count → Begins text longer → (k : ℕ) → shape_in nodes longer k ≡ shape_in nodes text k
+shape_in-text : (nodes : List Node) (text longer : List ℕ) (count : ℕ) → IsArenaOf nodes text count → IsPrefix text longer → (k : ℕ) → shape_in nodes longer k ≡ shape_in nodes text k
 shape_in-text nodes text longer count arena grows k =
     elim (cases_lt k (length nodes)) [
-      | inl below ↦ shape_in-grows nodes nodes text longer count arena (Begins-itself nodes) grows k (inl below)
+      | inl below ↦ shape_in-grows nodes nodes text longer count arena (IsPrefix-whole nodes) grows k (inl below)
       | inr above ↦
           elim (cases_lt k FIRST_NAME) [
             | inl term ↦
@@ -338,17 +321,17 @@ within_text nodes text longer count h (Atom from len) w = (let stands = w.0 in o
 within_text nodes text longer count h (Int n) w = tt
 within_text nodes text longer count h (Apply head argument) w = w
 
-pub IsArenaOf-text : (nodes : List Node) (text longer : List ℕ) (count : ℕ) → IsArenaOf nodes text count → Begins text longer → IsArenaOf nodes longer count
+pub IsArenaOf-text : (nodes : List Node) (text longer : List ℕ) (count : ℕ) → IsArenaOf nodes text count → IsPrefix text longer → IsArenaOf nodes longer count
 IsArenaOf-text nodes text longer count arena grows = record {
   order = subst InOrder (sym (fun_ext (shape_in-text nodes text longer count arena grows))) arena.order;
-  within = All-weaker (IsNodeWithin nodes text count) (IsNodeWithin nodes longer count) (within_text nodes text longer count (Begins-length text longer grows)) nodes arena.within;
+  within = All-weaker (IsNodeWithin nodes text count) (IsNodeWithin nodes longer count) (within_text nodes text longer count (length-IsPrefix text longer grows)) nodes arena.within;
   few = arena.few;
 }
 
 -- an arena with one node more, on a text that has grown
 module _ (old new : Arena) (node : Node)
     (arena : IsArena old)
-    (text : Begins old.text.items new.text.items)
+    (text : IsPrefix old.text.items new.text.items)
     (variables : new.variables ≡ old.variables)
     (nodes : new.nodes.items ≡ old.nodes.items ++ node ∷ [])
     (next : IsNext old.nodes.items new.text.items old.variables node)
@@ -367,7 +350,7 @@ module _ (old new : Arena) (node : Node)
 
   pub Grows-pushed : Grows old new
   Grows-pushed = record {
-    nodes = subst (Begins old.nodes.items) (sym nodes) (Begins-append old.nodes.items (node ∷ []));
+    nodes = subst (IsPrefix old.nodes.items) (sym nodes) (IsPrefix-append old.nodes.items (node ∷ []));
     text = text;
     variables = variables;
   }
@@ -392,22 +375,22 @@ shape_of-grows old new arena grows k h = shape_in-grows old.nodes.items new.node
 
 pub inside_grows : (old new : Arena) → Grows old new → (k : ℕ) → IsNodeOf old k → IsNodeOf new k
 inside_grows old new grows k (inl h) =
-    let longer = Begins-length old.nodes.items new.nodes.items grows.nodes in
+    let longer = length-IsPrefix old.nodes.items new.nodes.items grows.nodes in
     inl (omega arith)
 inside_grows old new grows k (inr h) = inr (h.0, subst (λ n. k < FIRST_VARIABLE + n) (sym grows.variables) h.1)
 
 pub Grows-itself : (a : Arena) → Grows a a
-Grows-itself a = record { nodes = Begins-itself a.nodes.items; text = Begins-itself a.text.items; variables = refl }
+Grows-itself a = record { nodes = IsPrefix-whole a.nodes.items; text = IsPrefix-whole a.text.items; variables = refl }
 
 pub Grows-trans : (old mid new : Arena) → Grows old mid → Grows mid new → Grows old new
 Grows-trans old mid new g h = record {
-  nodes = Begins-trans old.nodes.items mid.nodes.items new.nodes.items g.nodes h.nodes;
-  text = Begins-trans old.text.items mid.text.items new.text.items g.text h.text;
+  nodes = IsPrefix-trans old.nodes.items mid.nodes.items new.nodes.items g.nodes h.nodes;
+  text = IsPrefix-trans old.text.items mid.text.items new.text.items g.text h.text;
   variables = h.variables ∙ g.variables;
 }
 
 -- an arena without a new node, on a text that has grown
-pub IsArena-same : (old new : Arena) → IsArena old → Begins old.text.items new.text.items → new.variables ≡ old.variables → new.nodes.items ≡ old.nodes.items → IsArena new
+pub IsArena-same : (old new : Arena) → IsArena old → IsPrefix old.text.items new.text.items → new.variables ≡ old.variables → new.nodes.items ≡ old.nodes.items → IsArena new
 IsArena-same old new arena text variables nodes =
     subst (λ n. IsArenaOf new.nodes.items new.text.items n) (sym variables)
     (subst (λ ns. IsArenaOf ns new.text.items old.variables) (sym nodes)
@@ -417,7 +400,7 @@ pub atom_pushed : (old new : Arena) (name : List ℕ) (from : ℕ) → SHORT < l
     → new.nodes.items ≡ old.nodes.items ++ Atom from (length name) ∷ []
     → IsArena new × IsHeadFor new (length old.nodes.items) (Atomic name)
 atom_pushed old new name from long arena start text variables few nodes =
-    let longer : Begins old.text.items new.text.items = subst (Begins old.text.items) (sym text) (Begins-append old.text.items name) in
+    let longer : IsPrefix old.text.items new.text.items = subst (IsPrefix old.text.items) (sym text) (IsPrefix-append old.text.items name) in
     let node = Atom from (length name) in
     let next : IsNext old.nodes.items new.text.items old.variables node = (omega (arith, ap length text, length-append old.text.items name), long) in
     let same = ap (λ i. take (length name) (drop i new.text.items)) start ∙ ap (λ bytes. take (length name) (drop (length old.text.items) bytes)) text ∙ take-drop-append old.text.items name in
@@ -436,7 +419,7 @@ pub number_pushed : (old new : Arena) (n : ℤ) → IsArena old → new.text.ite
     → new.nodes.items ≡ old.nodes.items ++ Int n ∷ []
     → IsArena new × IsNodeFor new (length old.nodes.items) (Number n)
 number_pushed old new n arena text variables few nodes =
-    let longer : Begins old.text.items new.text.items = subst (Begins old.text.items) (sym text) (Begins-itself old.text.items) in (
+    let longer : IsPrefix old.text.items new.text.items = subst (IsPrefix old.text.items) (sym text) (IsPrefix-whole old.text.items) in (
       IsArena-pushed old new (Int n) arena longer variables nodes tt few,
       record {
         inside = inside_pushed old new (Int n) arena longer variables nodes tt few;
@@ -449,7 +432,7 @@ pub apply_pushed : (old new : Arena) (head argument : ℕ) → IsArena old → I
     → new.nodes.items ≡ old.nodes.items ++ Apply head argument ∷ []
     → IsArena new × IsHeadFor new (length old.nodes.items) (applied (node_tree old head) (node_tree old argument))
 apply_pushed old new head argument arena is_head inside other text variables few nodes =
-    let longer : Begins old.text.items new.text.items = subst (Begins old.text.items) (sym text) (Begins-itself old.text.items) in
+    let longer : IsPrefix old.text.items new.text.items = subst (IsPrefix old.text.items) (sym text) (IsPrefix-whole old.text.items) in
     let node = Apply head argument in
     let next : IsNext old.nodes.items new.text.items old.variables node = (subst (λ bytes. IsHead (shape_in old.nodes.items bytes head)) (sym text) is_head, inside, other) in
     let grows = Grows-pushed old new node arena longer variables nodes next few in

@@ -1,4 +1,5 @@
 -- An arena that grows keeps what its links mean.
+use Rattle.tc_lists.proofs.Prefixes.{length-IsPrefix}
 use Rattle.std.proofs.Common.{◌≡◌, ℕ, ◌+◌, ◌<◌, ◌≤◌, ◌⊎◌, inl, inr, List, [], ◌∷◌, length, reverse, sym, ap, ◌∙◌, subst, arith, All}
 use Rattle.std.proofs.Math.Path.{fun_ext}
 use Rattle.std.proofs.Math.ListN.{get_or-eq_default}
@@ -19,7 +20,7 @@ use Rattle.tc_unify.specs.Arena.{IsInside, IsArena, IsNodeOf, HasLinkIn, Grows, 
 use Rattle.tc_unify.specs.Tables.{link_of}
 use Rattle.tc_unify.specs.Meeting.{IsLinked}
 use Rattle.tc_unify.specs.Stores.{equation_of, said_of, IsLevel, AreLevels}
-use Rattle.tc_unify.proofs.Arenas.{inside_link, Begins-length, shape_in-grows, label-grows, IsTerm-below, term_below}
+use Rattle.tc_unify.proofs.Arenas.{inside_link, shape_in-grows, label-grows, IsTerm-below, term_below}
 use Rattle.tc_unify.proofs.Tables.{link_in-term, link_in-variable}
 use Rattle.tc_lists.proofs.Elements.{All-from_map, All-reverse}
 
@@ -104,10 +105,10 @@ IsLinked-grown old new l m arena grown grows linked inside past trail link same 
 }
   where
     longer : (k : ℕ) → IsNodeOf old k → IsNodeOf new k
-    longer k h = subst (λ n. IsInside new.nodes.items n k) (sym grows.variables) (inside_longer old.nodes.items new.nodes.items old.variables k (Begins-length old.nodes.items new.nodes.items grows.nodes) h)
+    longer k h = subst (λ n. IsInside new.nodes.items n k) (sym grows.variables) (inside_longer old.nodes.items new.nodes.items old.variables k (length-IsPrefix old.nodes.items new.nodes.items grows.nodes) h)
 
     longer_link : (k : ℕ) → HasLinkIn old k → HasLinkIn new k
-    longer_link k (inl h) = (let more = Begins-length old.nodes.items new.nodes.items grows.nodes in inl (omega arith))
+    longer_link k (inl h) = (let more = length-IsPrefix old.nodes.items new.nodes.items grows.nodes in inl (omega arith))
     longer_link k (inr h) = inr (h.0, subst (λ n. k < FIRST_VARIABLE + n) (sym grows.variables) h.1)
 
 -- nodes past the tables link to themselves

@@ -1,6 +1,7 @@
 -- The arena: what its nodes are, and what holds of it.
 use Rattle.std.specs.Prelude.{◌≡◌, ℕ, ◌+◌, ◌-◌, ◌<◌, ◌≤◌, ◌⊎◌, List, length}
 use Rattle.std.specs.Prelude.{take, drop, get_or, All, if◌then◌else◌, nat_lt}
+use mathlib.Core.List.{IsPrefix}
 use Rattle.tc_term.specs.Tree.{Tree, Variable}
 use Rattle.tc_unify.specs.declared.names.TheConstants.{SHORT}
 use Rattle.tc_unify.specs.declared.nodes.TheConstants.{FIRST_NAME, FIRST_VARIABLE}
@@ -57,14 +58,10 @@ shape_of a = shape_in a.nodes.items a.text.items
 abbrev pub node_tree : Arena → ℕ → Tree
 node_tree a = label (shape_of a) Variable
 
--- the first list begins the second
-abbrev pub Begins : {X : Type 0} → List X → List X → Type 0
-Begins xs ys = take (length xs) ys ≡ xs
-
 -- more nodes and more names, after those that stood there
 pub record Grows (old new : Arena) : Type 0 where
-  pub nodes : Begins old.nodes.items new.nodes.items
-  pub text : Begins old.text.items new.text.items
+  pub nodes : IsPrefix old.nodes.items new.nodes.items
+  pub text : IsPrefix old.text.items new.text.items
   pub variables : new.variables ≡ old.variables
 
 -- the node is one of the arena's

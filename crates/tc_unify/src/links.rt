@@ -1,9 +1,9 @@
 //! Links from nodes to lower nodes that stand for the same tree, and the order in which they came.
+ghost use mathlib.Core.List.{IsPrefix};
 ghost use Rattle.std.specs.Prelude.{◌≡◌, ◌≢◌, ℕ, ◌+◌, ◌^◌, ◌<◌, ◌≤◌, ◌++◌, ◌∷◌, []};
 ghost use Rattle.std.specs.Prelude.{length, take, drop, All, OnOk, OnErr, get_or};
 ghost use Rattle.tc_unify.specs.Links.{Falls, linked, root};
 ghost use Rattle.tc_unify.specs.Tables.{link_of, unlinked, rewound, HasNode, Extends};
-ghost use Rattle.tc_unify.specs.Arena.{Begins};
 
 use crate::nodes::FIRST_VARIABLE;
 use tc_lists::NoMemory;
@@ -103,7 +103,7 @@ pub(crate) fn push_own(table: &mut Vec<usize>, first: usize, len: usize) -> Resu
     requires shorter { length table.old.items ≤ len }
     requires room { first + len < 2 ^ 64 }
     ensures full { OnOk result (length table.new.items ≡ len) }
-    ensures begins { Begins table.old.items table.new.items }
+    ensures begins { IsPrefix table.old.items table.new.items }
     ensures own { (k : ℕ)
         → get_or table.new.items k (first + k) ≡ get_or table.old.items k (first + k) }
 {

@@ -1,11 +1,11 @@
+use mathlib.Core.List.{IsPrefix}
 use Rattle.std.proofs.Common.{◌≡◌, ℕ, ◌+◌, ◌-◌, ◌≤◌, length, get_or}
-use Rattle.tc_unify.specs.Arena.{Begins}
 use Rattle.tc_unify.proofs.links.push_own.Given as goal
 
 abbrev pub invariant-loop-table : goal.invariant-loop-table
 invariant-loop-table l = record {
   shorter : length l.table.items ≤ l.len;
-  begins : Begins l.fn.table.items l.table.items;
+  begins : IsPrefix l.fn.table.items l.table.items;
   own : (k : ℕ) → get_or l.table.items k (l.first + k) ≡ get_or l.fn.table.items k (l.first + k);
 }
 
