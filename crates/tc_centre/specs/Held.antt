@@ -5,7 +5,7 @@ use Rattle.tc_model.specs.Entries.{weight}
 use Rattle.tc_model.specs.Reactions.{Rule}
 use Rattle.tc_model.specs.Typed.{IsTypedCall}
 use Rattle.tc_model.specs.declared.limits.TheConstants.{MOST_TUPLES, MOST_WEIGHT}
-use Rattle.tc_model.specs.Run.{IsFirstRun}
+use Rattle.tc_model.specs.Run.{IsFirstRun, IsNext}
 use Rattle.tc_model.specs.State.{State, Origin, IsOrigin, IsQuiescent, opening, after_history}
 use Rattle.tc_model.specs.declared.calls.CallId.{CallId}
 use Rattle.tc_model.specs.declared.calls.Op.{Op}
@@ -81,6 +81,12 @@ IsAtRest h = IsSettled (origin_of h.founding) h.history.items h.spec h.bag.now h
 -- there is room for another call, and for all answers to which it may lead
 abbrev pub HasRoom : Holdings → Type 0
 HasRoom h = weight h.history.items + (length h.pending.now + 2) * (h.founding.budget + 1) ≤ MOST_WEIGHT
+
+-- a call of this id may be served: it is the agent's next, no request can be answered, and there is room
+pub record MayServe (id : CallId) (h : Holdings) : Type 0 where
+  pub next : IsNext (origin_of h.founding) h.history.items id
+  pub rest : IsAtRest h
+  pub room : HasRoom h
 
 -- the state that is held
 abbrev pub state_held : Holdings → State

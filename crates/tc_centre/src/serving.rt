@@ -4,10 +4,9 @@ ghost use Rattle.tc_bag.specs.Stock.{AddsYounger};
 ghost use Rattle.tc_pending.specs.Answers.{IsNextAnswer};
 ghost use Rattle.tc_model.specs.Reactions.{clauses_text};
 ghost use Rattle.tc_model.specs.Replies.{reply_in};
-ghost use Rattle.tc_model.specs.Run.{IsNext};
 ghost use Rattle.tc_model.specs.Typed.{IsTypedId};
 ghost use Rattle.tc_model.specs.declared.calls.Op.{Op};
-ghost use Rattle.tc_centre.specs.Held.{origin_of, HoldsRun, IsAtRest, HasRoom, Knows, known_of};
+ghost use Rattle.tc_centre.specs.Held.{HoldsRun, IsAtRest, Knows, MayServe, known_of};
 ghost use Rattle.tc_centre.specs.Held.{IsSame, KeepsHeld, KeepsAround, KeepsTyped};
 ghost use Rattle.tc_centre.specs.Held.{Answers, Calls, Grows};
 ghost use Rattle.tc_centre.specs.Operations.{Performs, HasServed};
@@ -27,9 +26,7 @@ use tc_spec::{Spec, print_spec};
 ///
 /// Where memory ends, all is as before.
 pub fn guarded(alloc: Global, held: &mut Holdings, id: CallId, op: Op) -> Result<Answer, NoMemory>
-    requires next { IsNext (origin_of held.old.founding) held.old.history.items id }
-    requires rest { IsAtRest held.old }
-    requires room { HasRoom held.old }
+    requires may { MayServe id held.old }
     ensures served { IfOk result (HasServed id op held.old held.new) }
     ensures same { OnErr result (IsSame held.old held.new) }
 {
@@ -47,10 +44,8 @@ pub fn guarded(alloc: Global, held: &mut Holdings, id: CallId, op: Op) -> Result
 
 // Serves an operation on tuples, and answers the requests that can be answered.
 fn on_tuples(alloc: Global, held: &mut Holdings, id: CallId, op: Op) -> Result<Answer, NoMemory>
-    requires next { IsNext (origin_of held.old.founding) held.old.history.items id }
+    requires may { MayServe id held.old }
     requires op { IsOnTuples op }
-    requires rest { IsAtRest held.old }
-    requires room { HasRoom held.old }
     ensures served { IfOk result (HasServed id op held.old held.new) }
     ensures same { OnErr result (IsSame held.old held.new) }
 {
@@ -77,10 +72,8 @@ fn on_tuples(alloc: Global, held: &mut Holdings, id: CallId, op: Op) -> Result<A
 
 // Serves a call and answers what can be answered. After a fault only the marks are as before.
 fn serve(alloc: Global, held: &mut Holdings, id: CallId, op: Op) -> Result<Answer, NoMemory>
-    requires next { IsNext (origin_of held.old.founding) held.old.history.items id }
+    requires may { MayServe id held.old }
     requires op { IsOnTuples op }
-    requires rest { IsAtRest held.old }
-    requires room { HasRoom held.old }
     ensures rest { OnOk result (IsAtRest held.new) }
     ensures grown { OnOk result (Grows id op held.old.history.items held.new.history.items) }
     ensures answer { IfOk result (IsAnswer (reply_in held.new.history.items id)) }
@@ -103,10 +96,8 @@ fn serve(alloc: Global, held: &mut Holdings, id: CallId, op: Op) -> Result<Answe
 
 // Serves a call and appends its entry.
 fn call(alloc: Global, held: &mut Holdings, id: CallId, op: Op) -> Result<(), NoMemory>
-    requires next { IsNext (origin_of held.old.founding) held.old.history.items id }
+    requires may { MayServe id held.old }
     requires op { IsOnTuples op }
-    requires rest { IsAtRest held.old }
-    requires room { HasRoom held.old }
     ensures run { OnOk result (HoldsRun held.new) }
     ensures known { OnOk result (Knows (known_of held.old) held.new) }
     ensures called { OnOk result (Calls id op held.old.history.items held.new.history.items) }
@@ -152,7 +143,7 @@ fn perform(
 
 // Answers the requests that can be answered, the oldest first, until none is left. Only requests and
 // tuples that are not known yet are looked at.
-fn answer_all(alloc: Global, held: &mut Holdings, known: Known) -> Result<(), NoMemory>
+fn answer_all(alloc: Global, held: &mut Holdings, mut known: Known) -> Result<(), NoMemory>
     requires run { HoldsRun held.old }
     requires known { Knows known held.old }
     ensures rest { OnOk result (IsAtRest held.new) }
@@ -161,7 +152,6 @@ fn answer_all(alloc: Global, held: &mut Holdings, known: Known) -> Result<(), No
     ensures spec { held.new.spec ≡ held.old.spec }
     ensures typed { OnOk result (KeepsTyped held.old held.new) }
 {
-    let mut known = known;
     while let Some((place, age)) = held.pending.next_answerable(&held.bag, known)? {
         answer(alloc, held, place, age)?;
         known = known.without(place);
@@ -195,9 +185,7 @@ fn set_spec(
     op: Op,
     spec: Spec,
 ) -> Result<Answer, NoMemory>
-    requires next { IsNext (origin_of held.old.founding) held.old.history.items id }
-    requires rest { IsAtRest held.old }
-    requires room { HasRoom held.old }
+    requires may { MayServe id held.old }
     requires spec { op ≡ Op.SetSpec spec }
     ensures served { IfOk result (HasServed id op held.old held.new) }
     ensures same { OnErr result (IsSame held.old held.new) }
@@ -216,9 +204,7 @@ fn set_spec(
 
 // Tells the text of the clauses.
 fn get_spec(alloc: Global, held: &mut Holdings, id: CallId) -> Result<Answer, NoMemory>
-    requires next { IsNext (origin_of held.old.founding) held.old.history.items id }
-    requires rest { IsAtRest held.old }
-    requires room { HasRoom held.old }
+    requires may { MayServe id held.old }
     ensures served { IfOk result (HasServed id Op.GetSpec held.old held.new) }
     ensures same { OnErr result (IsSame held.old held.new) }
 {

@@ -8,9 +8,10 @@ use Rattle.std.proofs.lemmas.List.Edits.{length-remove, get_or-remove_below, get
 use Rattle.tc_model.specs.declared.calls.Request.{Request}
 use Rattle.tc_pending.specs.declared.changes.Change.{Change}
 use Rattle.tc_pending.specs.declared.index.Index.{Index}
+use Rattle.tc_pending.specs.declared.waiters.Waiters.{Waiters}
 use Rattle.tc_pending.specs.Changes.{earlier, rewound, earlier_serials, rewound_serials, AreFiled, IsLog}
 use Rattle.tc_pending.specs.Codes.{codes_of}
-use Rattle.tc_pending.specs.Filed.{Has, HasFirst, IsFiled, KeepsAll}
+use Rattle.tc_pending.specs.Filed.{AreIndexed, Has, HasFirst, IsFiled, KeepsAll}
 use Rattle.tc_pending.specs.Rising.{IsAbove}
 use Rattle.tc_pending.proofs.Log.{rewound-append, unnoted}
 use Rattle.tc_lists.proofs.Bools.{length-none_false}
@@ -92,6 +93,16 @@ module _ (index : Index) (below : ℕ) (codes serials : List ℕ) (filed : IsFil
       → ((k : ℕ) → k < start → get_or serials k 0 < below) → HasFirst index codes serials count
   HasFirst-filed start count inside less low k before =
       filed.has k (omega (arith, inside, less, before)) (low k (omega (arith, less, before)))
+
+-- where the index has some of the first requests, it has fewer
+pub AreIndexed-fewer : (waiters : Waiters) (count fewer : ℕ) → fewer ≤ count → AreIndexed waiters count → AreIndexed waiters fewer
+AreIndexed-fewer waiters count fewer less indexed = record {
+  codes = indexed.codes;
+  each = indexed.each;
+  rises = indexed.rises;
+  has = λ k before. indexed.has k (omega (arith, before, less));
+  inside = let inside = indexed.inside in omega (arith, inside, less);
+}
 
 -- changes before others, which are taken back first
 pub rewound_serials-append : (xs ys : List Change) (serials : List ℕ)

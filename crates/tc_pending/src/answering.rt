@@ -4,8 +4,7 @@ ghost use Rattle.tc_lists.specs.Firsts.{NoneOf};
 ghost use Rattle.tc_bag.specs.Stock.{tuples_of};
 ghost use Rattle.tc_model.specs.State.{IsAnswerable};
 ghost use Rattle.tc_pending.specs.Answers.{IsNextAnswer, IsKnown};
-ghost use Rattle.tc_pending.specs.Codes.{codes_of};
-ghost use Rattle.tc_pending.specs.Filed.{IsFiled};
+ghost use Rattle.tc_pending.specs.Filed.{AreLent};
 
 use crate::asking::oldest_asking;
 use crate::waiters::Waiters;
@@ -56,9 +55,7 @@ impl Known {
 ///
 /// No memory is taken.
 pub(crate) fn newly_answerable(waiters: &Waiters, bag: &Bag, known: Known) -> Option<(usize, u64)>
-    requires codes { waiters.now.codes.now ≡ codes_of waiters.now.requests.now }
-    requires filed { IsFiled waiters.now.index.now waiters.now.filed waiters.now.codes.now
-        waiters.now.serials.now }
+    requires lent { AreLent waiters.now }
     requires known { IsKnown known bag.now.now waiters.now.requests.now }
     requires inside { known.requests ≤ length waiters.now.requests.now }
     ensures found { IfSome result

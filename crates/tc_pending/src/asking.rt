@@ -3,10 +3,10 @@ ghost use Rattle.std.specs.Prelude.{◌≡◌, ◌↔◌, ◌<◌, ◌≤◌, le
 ghost use Rattle.tc_lists.specs.Firsts.{NoneOf};
 ghost use Rattle.tc_term.specs.Tree.{IsTuple};
 ghost use Rattle.tc_pending.specs.Answers.{AsksFor, IsOldestAsking};
-ghost use Rattle.tc_bag.specs.Codes.{top_code};
 ghost use Rattle.tc_pending.specs.Codes.{code_of, codes_of};
 ghost use Rattle.tc_pending.specs.Rising.{NumbersRise};
-ghost use Rattle.tc_pending.specs.Filed.{IsFiled, HasFirst, HasNone, IsAsking, NoneAsks};
+ghost use Rattle.tc_pending.specs.Filed.{AreIndexed, AreLent, IsWanted};
+ghost use Rattle.tc_pending.specs.Filed.{HasFirst, HasNone, IsAsking, NoneAsks};
 
 use crate::codes::code_of;
 use crate::index::Index;
@@ -17,77 +17,71 @@ use tc_model::Request;
 use tc_search::does_match;
 use tc_term::Ground;
 
+/// A tuple that requests may ask for, with the code of its functor and that of all of it.
+#[derive(Clone, Copy)]
+pub(crate) struct Wanted<'a> {
+    tuple: &'a Ground,
+    top: u64,
+    whole: u64,
+}
+
 /// The place of the oldest of the first `count` requests that asks for a tuple.
 pub(crate) fn oldest_asking(waiters: &Waiters, count: usize, tuple: &Ground) -> Option<usize>
-    requires codes { waiters.now.codes.now ≡ codes_of waiters.now.requests.now }
-    requires filed { IsFiled waiters.now.index.now waiters.now.filed waiters.now.codes.now
-        waiters.now.serials.now }
+    requires lent { AreLent waiters.now }
     requires inside { count ≤ length waiters.now.requests.now }
     ensures found { IfSome result (IsOldestAsking tuple.now waiters.now.requests.now) }
     ensures inside { IfSome result (λ place. place < count) }
     ensures none { IfNone result
         (NoneOf (AsksFor tuple.now) (take count waiters.now.requests.now)) }
 {
-    let top = top_code(tuple.term());
-    let whole = code_of(tuple.term());
+    let wanted = Wanted {
+        tuple,
+        top: top_code(tuple.term()),
+        whole: code_of(tuple.term()),
+    };
     let start = count_below(waiters.serials, waiters.filed).min(count);
-    let place = looked_up(waiters, start, top, whole, tuple);
+    let place = looked_up(waiters, start, &wanted);
     if place < start {
         return Some(place);
     }
-    gone_through(waiters, start, count, top, whole, tuple)
+    gone_through(waiters, start, count, &wanted)
 }
 
 // The place of the oldest of the first `count` requests that asks for a tuple, where the index has
 // them; `count` where there is none.
-fn looked_up(waiters: &Waiters, count: usize, top: u64, whole: u64, tuple: &Ground) -> usize
-    requires codes { waiters.now.codes.now ≡ codes_of waiters.now.requests.now }
-    requires each { length waiters.now.serials.now ≡ length waiters.now.codes.now }
-    requires rises { NumbersRise waiters.now.serials.now }
-    requires has { HasFirst waiters.now.index.now waiters.now.codes.now waiters.now.serials.now
-        count }
-    requires inside { count ≤ length waiters.now.requests.now }
-    requires top { top ≡ top_code tuple.now }
-    requires whole { whole ≡ code_of tuple.now }
-    requires tuple { IsTuple tuple.now }
+fn looked_up(waiters: &Waiters, count: usize, wanted: &Wanted) -> usize
+    requires indexed { AreIndexed waiters.now count }
+    requires wanted { IsWanted wanted.now }
     ensures inside { result ≤ count }
-    ensures asks { result < count → IsAsking tuple.now waiters.now.requests.now result }
-    ensures none { NoneOf (AsksFor tuple.now) (take result waiters.now.requests.now) }
+    ensures asks { result < count
+        → IsAsking wanted.now.tuple.now waiters.now.requests.now result }
+    ensures none { NoneOf (AsksFor wanted.now.tuple.now) (take result waiters.now.requests.now) }
 {
     if count == 0 {
         return 0;
     }
-    let any = asking_by(waiters, 0, count, tuple);
-    let same = asking_by(waiters, top, any, tuple);
-    asking_by(waiters, whole, same, tuple)
+    let any = asking_by(waiters, 0, count, wanted.tuple);
+    let same = asking_by(waiters, wanted.top, any, wanted.tuple);
+    asking_by(waiters, wanted.whole, same, wanted.tuple)
 }
 
 // The place of the oldest of the first `count` requests that asks for a tuple, by their codes, where
 // none before `start` does.
-fn gone_through(
-    waiters: &Waiters,
-    start: usize,
-    count: usize,
-    top: u64,
-    whole: u64,
-    tuple: &Ground,
-) -> Option<usize>
+fn gone_through(waiters: &Waiters, start: usize, count: usize, wanted: &Wanted) -> Option<usize>
     requires codes { waiters.now.codes.now ≡ codes_of waiters.now.requests.now }
     requires inside { count ≤ length waiters.now.requests.now }
     requires start { start ≤ count }
-    requires none { NoneOf (AsksFor tuple.now) (take start waiters.now.requests.now) }
-    requires top { top ≡ top_code tuple.now }
-    requires whole { whole ≡ code_of tuple.now }
-    requires tuple { IsTuple tuple.now }
-    ensures found { IfSome result (IsOldestAsking tuple.now waiters.now.requests.now) }
+    requires none { NoneOf (AsksFor wanted.now.tuple.now) (take start waiters.now.requests.now) }
+    requires wanted { IsWanted wanted.now }
+    ensures found { IfSome result (IsOldestAsking wanted.now.tuple.now waiters.now.requests.now) }
     ensures inside { IfSome result (λ place. place < count) }
     ensures none { IfNone result
-        (NoneOf (AsksFor tuple.now) (take count waiters.now.requests.now)) }
+        (NoneOf (AsksFor wanted.now.tuple.now) (take count waiters.now.requests.now)) }
 {
     let requests = waiters.requests;
     let codes = waiters.codes;
     for place in start..count {
-        if asks(&requests[place], codes[place], top, whole, tuple) {
+        if asks(&requests[place], codes[place], wanted) {
             return Some(place);
         }
     }
@@ -95,28 +89,21 @@ fn gone_through(
 }
 
 // Whether a request asks for a tuple, by their codes and then by matching.
-fn asks(request: &Request, code: u64, top: u64, whole: u64, tuple: &Ground) -> bool
+fn asks(request: &Request, code: u64, wanted: &Wanted) -> bool
     requires code { code ≡ code_of request.now.template }
-    requires top { top ≡ top_code tuple.now }
-    requires whole { whole ≡ code_of tuple.now }
-    requires tuple { IsTuple tuple.now }
-    ensures { IsTrue result ↔ AsksFor tuple.now request.now }
+    requires wanted { IsWanted wanted.now }
+    ensures { IsTrue result ↔ AsksFor wanted.now.tuple.now request.now }
 {
-    if code != 0 && code != top && code != whole {
+    if code != 0 && code != wanted.top && code != wanted.whole {
         return false;
     }
-    does_match(&request.template, tuple)
+    does_match(&request.template, wanted.tuple)
 }
 
 // The place of the oldest of the first `count` requests that has this code and asks for a tuple,
 // where the index has them; `count` where there is none.
 fn asking_by(waiters: &Waiters, code: u64, count: usize, tuple: &Ground) -> usize
-    requires codes { waiters.now.codes.now ≡ codes_of waiters.now.requests.now }
-    requires each { length waiters.now.serials.now ≡ length waiters.now.codes.now }
-    requires rises { NumbersRise waiters.now.serials.now }
-    requires has { HasFirst waiters.now.index.now waiters.now.codes.now waiters.now.serials.now
-        count }
-    requires inside { count ≤ length waiters.now.requests.now }
+    requires indexed { AreIndexed waiters.now count }
     requires tuple { IsTuple tuple.now }
     ensures inside { result ≤ count }
     ensures asks { result < count → IsAsking tuple.now waiters.now.requests.now result }

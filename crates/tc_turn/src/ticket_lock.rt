@@ -254,22 +254,8 @@ impl<C: Chronicle> TicketLock<C> {
             ) }
     {
         if count > 0 {
-            self.add_entries(seat, count);
+            self.table.shared.fetch_add::<Publish>(seat, ENTRIES, count);
         }
-    }
-
-    fn add_entries(&self, seat: &mut TurnSeat<C>, count: u64)
-        requires table { seat.old.table_id ≡ self.now.table.shared.table_id }
-        requires grown { HasNewEntries C.history C.origin C.owner count seat.old.me }
-        ensures table { seat.new.table_id ≡ seat.old.table_id }
-        ensures seat { (value : C) → Holds (Some value) seat.old.me → seat.new.me
-            ≡ (
-              with_entries seat.old.me.0 (C.history value)
-                  (own_entries C.owner seat.old.me.0.number (C.history value)),
-              seat.old.me.1,
-            ) }
-    {
-        self.table.shared.fetch_add::<Publish>(seat, ENTRIES, count);
     }
 
     /// Returns the value, and passes the turn on.

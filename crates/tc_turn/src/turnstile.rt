@@ -139,14 +139,13 @@ impl<C: Chronicle> Turnstile<C> {
     /// Ends the turnstile, once each of its passes has ended, and gives the value.
     ///
     /// The list may have any order.
-    pub fn close(self, ended: Vec<Ended<C>>) -> C
+    pub fn close(self, mut ended: Vec<Ended<C>>) -> C
         requires own { All (λ e. e.table ≡ self.table) ended.items }
         requires whole { (n : ℕ) → n < self.passes → 0 < ended_count n ended.items }
         ensures origin { C.origin result ≡ self.origin }
         ensures seen { All (AgreesWith C.owner (C.history result)) ended.items }
         ensures others { (n : ℕ) → self.passes ≤ n → entries_of C.owner n (C.history result) ≡ [] }
     {
-        let mut ended = ended;
         let Turnstile { lock } = self;
         let mut seat = lock.gather();
         while let Some(one) = ended.pop() {

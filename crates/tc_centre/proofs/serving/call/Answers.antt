@@ -16,7 +16,7 @@ returns-clause-run c =
     subst (λ f. IsHeld (origin_of f) c.push.new.self.items new.spec new.bag.now new.bag.next new.pending.now)
     (sym c.perform.ensures.keeps.founding)
     (called (origin_of old.founding) old.history.items c.push.new.self.items old.spec old.bag.now old.bag.next
-    old.pending.now c.args.id c.requires.rest c.requires.next c.requires.room
+    old.pending.now c.args.id c.requires.may.rest c.requires.may.next c.requires.may.room
     new.spec new.bag.now new.bag.next new.pending.now c.args.op c.in_ok-outcome.outcome c.in_ok-outcome.items
     done.served done.state done.few done.next
     (c.in_ok-push.ensures.items
@@ -24,7 +24,7 @@ returns-clause-run c =
 
 pub returns-clause-known : goal.returns-clause-known
 returns-clause-known c =
-    known-still c.args.held.now c.perform.new.held c.requires.rest.quiescent c.in_ok-outcome.ensures.done.keeps
+    known-still c.args.held.now c.perform.new.held c.requires.may.rest.quiescent c.in_ok-outcome.ensures.done.keeps
 
 pub returns-clause-typed : goal.returns-clause-typed
 returns-clause-typed c all =

@@ -13,7 +13,7 @@ pub returns-clause-served : goal.returns-clause-served
 returns-clause-served c =
     let old = c.args.held.now in
     let items = c.empty.result in
-    served-still old _ c.args.id c.args.op Done items c.requires.next c.requires.rest c.requires.room refl refl refl
+    served-still old _ c.args.id c.args.op Done items c.requires.may.next c.requires.may.rest c.requires.may.room refl refl refl
     c.in_ok-push.ensures.items (Replied reply.Done)
     (subst (λ o. IsServed TheFirst (origin_of old.founding) (state_held old) c.args.id o Done items) (sym c.requires.spec)
     c.empty.ensures)

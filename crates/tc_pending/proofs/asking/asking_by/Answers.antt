@@ -7,7 +7,7 @@ use Rattle.tc_pending.proofs.asking.asking_by.Goals as goal
 
 pub returns-then-does_match-clause-none : goal.returns-then-does_match-clause-none
 returns-then-does_match-clause-none c =
-    none-up c.args.tuple.now c.args.waiters.now.requests.now c.args.waiters.now.codes.now c.requires.codes c.args.code c.loop-place.at
+    none-up c.args.tuple.now c.args.waiters.now.requests.now c.args.waiters.now.codes.now c.requires.indexed.codes c.args.code c.loop-place.at
     c.loop-place.invariant.none c.in-Some.place c.in-Some.ensures.found
 
 pub loop-place-preserved : goal.loop-place-preserved
@@ -15,10 +15,10 @@ loop-place-preserved c =
     let requests = c.args.waiters.now.requests.now in
     let place = c.in-Some.place in
     let r = c.index-requests-place.result in
-    let inside : place < length requests = omega (arith, c.in-Some.ensures.inside.1, c.requires.inside) in
+    let inside : place < length requests = omega (arith, c.in-Some.ensures.inside.1, c.requires.indexed.inside) in
     record {
       inside = omega (arith, c.in-Some.ensures.inside.1);
-      none = none-further c.args.tuple.now requests c.args.waiters.now.codes.now c.requires.codes c.args.code c.loop-place.at
+      none = none-further c.args.tuple.now requests c.args.waiters.now.codes.now c.requires.indexed.codes c.args.code c.loop-place.at
           c.loop-place.invariant.none place r
           (slice_get-get_or requests place r inside ∙ ap Some (sym c.index-requests-place.is))
           (λ asks. absurd (true≢false (sym (c.if-does_match.ensures.1 (subst (AsksFor c.args.tuple.now) c.index-requests-place.is asks)))))
@@ -27,5 +27,5 @@ loop-place-preserved c =
 
 pub returns-clause-none : goal.returns-clause-none
 returns-clause-none c =
-    none-up c.args.tuple.now c.args.waiters.now.requests.now c.args.waiters.now.codes.now c.requires.codes c.args.code c.loop-place.at
+    none-up c.args.tuple.now c.args.waiters.now.requests.now c.args.waiters.now.codes.now c.requires.indexed.codes c.args.code c.loop-place.at
     c.loop-place.invariant.none c.args.count c.in_default.ensures.none

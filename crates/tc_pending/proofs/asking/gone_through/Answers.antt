@@ -11,8 +11,8 @@ loop-place-preserved c =
     let requests = c.args.waiters.now.requests.now in
     let place = c.loop-place.place in
     let r = c.index-requests-place.result in
-    subst (NoneOf (AsksFor c.args.tuple.now))
+    subst (NoneOf (AsksFor c.args.wanted.now.tuple.now))
     (sym (take_more requests place r (omega (arith, c.loop-place-test.true, c.requires.inside))
     ∙ ap (λ q. take place requests ++ q ∷ []) (sym c.index-requests-place.is)))
-    (NoneOf-push (AsksFor c.args.tuple.now) (take place requests) r c.loop-place.invariant
+    (NoneOf-push (AsksFor c.args.wanted.now.tuple.now) (take place requests) r c.loop-place.invariant
     (λ asks. absurd (true≢false (sym (c.if-asks.ensures.1 asks)))))

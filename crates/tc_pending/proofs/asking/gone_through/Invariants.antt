@@ -4,4 +4,4 @@ use Rattle.tc_pending.specs.Answers.{AsksFor}
 use Rattle.tc_pending.proofs.asking.gone_through.Given as goal
 
 abbrev pub invariant-loop-place : goal.invariant-loop-place
-invariant-loop-place l = NoneOf (AsksFor l.tuple) (take l.place l.waiters.requests.now)
+invariant-loop-place l = NoneOf (AsksFor l.wanted.tuple.now) (take l.place l.waiters.requests.now)

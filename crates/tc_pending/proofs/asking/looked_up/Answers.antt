@@ -1,19 +1,22 @@
 use Rattle.std.proofs.Common.{◌≡◌, ◌<◌, ◌≤◌, subst, ⊎_elim, arith}
 use Rattle.std.proofs.lemmas.Bool.{cases_lt}
 use Rattle.tc_pending.specs.Filed.{IsAsking, NoneAsks}
+use Rattle.tc_pending.proofs.Filed.{AreIndexed-fewer}
 use Rattle.tc_pending.proofs.Lookups.{NoneAsks-less, none-of}
 use Rattle.tc_pending.proofs.asking.looked_up.Goals as goal
 
-pub asking_by-same-requires-clause-has : goal.asking_by-same-requires-clause-has
-asking_by-same-requires-clause-has c = λ k before. c.requires.has k (omega (arith, before, c.asking_by-any.ensures.inside))
+pub asking_by-same-requires-clause-indexed : goal.asking_by-same-requires-clause-indexed
+asking_by-same-requires-clause-indexed c =
+    AreIndexed-fewer c.args.waiters.now c.args.count c.asking_by-any.result c.asking_by-any.ensures.inside c.requires.indexed
 
-pub asking_by-requires-clause-has : goal.asking_by-requires-clause-has
-asking_by-requires-clause-has c = λ k before.
-    c.requires.has k (omega (arith, before, c.asking_by-same.ensures.inside, c.asking_by-any.ensures.inside))
+pub asking_by-requires-clause-indexed : goal.asking_by-requires-clause-indexed
+asking_by-requires-clause-indexed c =
+    AreIndexed-fewer c.args.waiters.now c.args.count c.asking_by-same.result
+    (omega (arith, c.asking_by-same.ensures.inside, c.asking_by-any.ensures.inside)) c.requires.indexed
 
 pub returns-clause-asks : goal.returns-clause-asks
 returns-clause-asks c = λ inside.
-    let Asks = IsAsking c.args.tuple.now c.args.waiters.now.requests.now in
+    let Asks = IsAsking c.args.wanted.now.tuple.now c.args.waiters.now.requests.now in
     let any = c.asking_by-any in
     let same = c.asking_by-same in
     let whole = c.asking_by in
@@ -30,13 +33,13 @@ returns-clause-asks c = λ inside.
 
 pub returns-clause-none : goal.returns-clause-none
 returns-clause-none c =
-    let tuple = c.args.tuple.now in
+    let tuple = c.args.wanted.now.tuple.now in
     let requests = c.args.waiters.now.requests.now in
     let place = c.asking_by.result in
-    none-of tuple requests c.requires.tuple place
+    none-of tuple requests c.requires.wanted.tuple place
     (NoneAsks-less tuple requests 0 place c.asking_by-any.result
     (omega (arith, c.asking_by.ensures.inside, c.asking_by-same.ensures.inside)) c.asking_by-any.ensures.none)
-    (subst (λ code. NoneAsks tuple requests code place) c.requires.top
-    (NoneAsks-less tuple requests c.args.top place c.asking_by-same.result c.asking_by.ensures.inside
+    (subst (λ code. NoneAsks tuple requests code place) c.requires.wanted.top
+    (NoneAsks-less tuple requests c.args.wanted.now.top place c.asking_by-same.result c.asking_by.ensures.inside
     c.asking_by-same.ensures.none))
-    (subst (λ code. NoneAsks tuple requests code place) c.requires.whole c.asking_by.ensures.none)
+    (subst (λ code. NoneAsks tuple requests code place) c.requires.wanted.whole c.asking_by.ensures.none)

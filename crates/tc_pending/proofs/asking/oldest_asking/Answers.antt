@@ -5,10 +5,18 @@ use Rattle.tc_pending.proofs.Filed.{HasFirst-filed}
 use Rattle.tc_pending.proofs.Lookups.{oldest}
 use Rattle.tc_pending.proofs.asking.oldest_asking.Goals as goal
 
-pub looked_up-place-requires-clause-has : goal.looked_up-place-requires-clause-has
-looked_up-place-requires-clause-has c =
-    HasFirst-filed c.args.waiters.now.index.now c.args.waiters.now.filed c.args.waiters.now.codes.now c.args.waiters.now.serials.now c.requires.filed c.count_below.result
-    c.min-start.result c.count_below.ensures.inside (omega arith) c.count_below.ensures.below
+pub looked_up-place-requires-clause-indexed : goal.looked_up-place-requires-clause-indexed
+looked_up-place-requires-clause-indexed c =
+    let waiters = c.args.waiters.now in
+    let filed = c.requires.lent.filed in
+    record {
+      codes = c.requires.lent.codes;
+      each = filed.each;
+      rises = filed.rises;
+      has = HasFirst-filed waiters.index.now waiters.filed waiters.codes.now waiters.serials.now filed c.count_below.result c.min-start.result
+          c.count_below.ensures.inside (omega arith) c.count_below.ensures.below;
+      inside = omega (arith, c.requires.inside);
+    }
 
 pub returns-then-place-start-clause-found : goal.returns-then-place-start-clause-found
 returns-then-place-start-clause-found c =

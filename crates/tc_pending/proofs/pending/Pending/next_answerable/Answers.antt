@@ -1,4 +1,4 @@
-use Rattle.std.proofs.Common.{take, subst, sym, ◌∙◌}
+use Rattle.std.proofs.Common.{ap, take, subst, sym, ◌∙◌}
 use Rattle.std.specs.Option.{IfNone}
 use Rattle.std.specs.Result.{IfOk}
 use Rattle.tc_lists.specs.Firsts.{NoneOf}
@@ -9,12 +9,15 @@ use Rattle.tc_pending.specs.Codes.{codes_of}
 use Rattle.tc_pending.proofs.Filed.{IsFiled-at, AreFiled-now}
 use Rattle.tc_pending.proofs.pending.Pending.next_answerable.Goals as goal
 
-pub newly_answerable-requires-clause-filed : goal.newly_answerable-requires-clause-filed
-newly_answerable-requires-clause-filed c =
+pub newly_answerable-requires-clause-lent : goal.newly_answerable-requires-clause-lent
+newly_answerable-requires-clause-lent c =
     let p = c.self.inside in
-    IsFiled-at p.index p.filed (codes_of p.requests.items) c.deref-2.result.now p.serials.items c.deref-3.result.now
-    (c.deref-2.ensures.value ∙ c.self.invariant.coded) c.deref-3.ensures.value
-    (AreFiled-now p.index p.filed p.requests.items p.serials.items p.changes.items c.self.invariant.filed)
+    let coded = c.deref-2.ensures.value ∙ c.self.invariant.coded in
+    record {
+      codes = coded ∙ ap codes_of (sym c.deref.ensures.value);
+      filed = IsFiled-at p.index p.filed (codes_of p.requests.items) c.deref-2.result.now p.serials.items c.deref-3.result.now coded c.deref-3.ensures.value
+          (AreFiled-now p.index p.filed p.requests.items p.serials.items p.changes.items c.self.invariant.filed);
+    }
 
 pub answerable_from-requires-clause-none : goal.answerable_from-requires-clause-none
 answerable_from-requires-clause-none c =

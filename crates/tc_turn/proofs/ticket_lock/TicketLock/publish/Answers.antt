@@ -1,6 +1,6 @@
 use Rattle.std.proofs.Common.{rules, []}
 use Rattle.tc_turn.proofs.TurnSteps.{publishes}
-use Rattle.tc_turn.proofs.ticket_lock.TicketLock.add_entries.Goals as goal
+use Rattle.tc_turn.proofs.ticket_lock.TicketLock.publish.Goals as goal
 
 pub fetch_add-requires : goal.fetch_add-requires
 fetch_add-requires g c =
