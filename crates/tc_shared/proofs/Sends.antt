@@ -11,7 +11,6 @@ use Rattle.tc_model.proofs.events.Sign.TheSendSync as sign
 use Rattle.tc_term.proofs.comparison.Cmp.TheSendSync as cmp
 use Rattle.std.proofs.alloc.Global.TheSendSync as global
 use Rattle.std.below.std_heap.proofs.GlobalAllocator.TheSendSync as galloc
-use Rattle.std.proofs.collections.BTreeSet.TheSendSync as btreeset
 use Rattle.tc_bag.proofs.index.Index.TheSendSync as bagindex
 use Rattle.tc_bag.proofs.slots.Mark.TheSendSync as bagmark
 use Rattle.tc_bag.specs.contracts.slots.Place.{the_row as place, the_field as place_field}

@@ -120,10 +120,9 @@ impl SharedCentre {
         ensures kept { KeepsPass self.now pass.old pass.new }
         ensures called { IfOk result (λ _. HasCall (call_of pass.new.number number) pass.new.seen) }
     {
-        let Ok(held) = self.turnstile.enter(rt, pass) else {
+        let Ok(mut held) = self.turnstile.enter(rt, pass) else {
             return Err(CallFault::TurnsSpent);
         };
-        let mut held = held;
         let id = CallId {
             agent: pass.number(),
             number,
@@ -195,23 +194,15 @@ impl SharedCentre {
         ensures spent { pass.old.turns ≡ 0 → result ≡ Err LookFault.TurnsSpent }
         ensures kept { KeepsPass self.now pass.old pass.new }
     {
-        let mut heard = rung(&self.bells, pass.number());
-        match self.look(rt, alloc, pass, number) {
-            Ok(Some(reply)) => return Ok(reply),
-            Ok(None) => {}
-            Err(fault) => return Err(fault),
-        }
         for _ in rt.forever() {
+            let heard = rung(&self.bells, pass.number());
+            if let Some(reply) = self.look(rt, alloc, pass, number)? {
+                return Ok(reply);
+            }
             if pass.turns() == 0 {
                 return Err(LookFault::TurnsSpent);
             }
             self.rest(rt, pass, heard);
-            heard = rung(&self.bells, pass.number());
-            match self.look(rt, alloc, pass, number) {
-                Ok(Some(reply)) => return Ok(reply),
-                Ok(None) => {}
-                Err(fault) => return Err(fault),
-            }
         }
         unreachable!()
     }
@@ -237,10 +228,9 @@ impl SharedCentre {
         ensures spent { pass.old.turns ≡ 0 → result ≡ Err SharedPollFault.TurnsSpent }
         ensures kept { KeepsPass self.now pass.old pass.new }
     {
-        let Ok(held) = self.turnstile.enter(rt, pass) else {
+        let Ok(mut held) = self.turnstile.enter(rt, pass) else {
             return Err(SharedPollFault::TurnsSpent);
         };
-        let mut held = held;
         let id = CallId {
             agent: pass.number(),
             number,
