@@ -18,8 +18,8 @@ use Rattle.tc_model.specs.Choices.{TheFirst}
 use Rattle.tc_model.specs.Run.{IsLegal}
 use Rattle.tc_model.specs.State.{IsName, Origin, opening, origin_from}
 use Rattle.tc_model.specs.declared.entries.Entry.{Entry}
-use Rattle.tc_runner.specs.Cores.{AreCores, histories, histories_of}
-use Rattle.tc_runner.specs.Plans.{AreAgentNames, IsFresh, fresh_core, fresh_cores, names_of}
+use Rattle.tc_runner.specs.Cores.{AreCores, Goes, histories, histories_of}
+use Rattle.tc_runner.specs.Plans.{AreAgentNames, fresh_core, fresh_cores, names_of}
 
 -- each centre has a history
 pub histories-whole : (ss : List CentreConf) (xs : List Centre) → length (histories_of ss xs) ≡ length ss
@@ -46,36 +46,33 @@ empty-history origin = record {
   looks = All-nil IsNoLook;
 }
 
-pub IsFresh-opened : (c : Configuration) (cores : List Centre) (logs : List (List LogRow)) → AreCores c cores
-    → All (λ (x : Centre). x.history ≡ []) cores → length logs ≡ length c.agents → All (λ (log : List LogRow). log ≡ []) logs → IsFresh c cores logs
-IsFresh-opened c cores logs are unserved whole unasked =
+-- a run of which nothing has happened yet may go on
+pub Goes-fresh : (c : Configuration) (cores : List Centre) (logs : List (List LogRow)) → AreCores c cores
+    → All (λ (x : Centre). x.history ≡ []) cores → length logs ≡ length c.agents → All (λ (log : List LogRow). log ≡ []) logs → Goes c cores logs
+Goes-fresh c cores logs are unserved whole unasked =
     let empty : (place : ℕ) (h : List Entry) → slice_get (histories c cores) place ≡ Some h → h ≡ [] =
     λ place h at. histories-empty c.centres cores place h unserved at in
     let no-row : (agent : ℕ) (log : List LogRow) → slice_get logs agent ≡ Some log → log ≡ [] =
     λ agent log at. All-slice_get (λ (l : List LogRow). l ≡ []) logs agent log unasked at in
     record {
-      goes = record {
-        are = are;
-        going = record {
-          runs = record {
-            whole = histories-whole c.centres cores;
-            each = λ place s h known at. subst (IsHistory TheFirst (origin_of c s)) (sym (empty place h at)) (empty-history (origin_of c s));
-          };
-          follow = record {
-            whole = whole;
-            each = λ agent a log stands at.
-                subst (Follows c (histories c cores) agent a) (sym (no-row agent log at)) (record {
-                  rows = λ k row here. absurd (none-some row here);
-                  last = λ k row here. absurd (none-some row here);
-                  calls = λ place h there.
-                      subst (λ es. All (λ e. IsServedNumber a [] place (id_of e).number) (calls_of agent es)) (sym (empty place h there))
-                      (All-nil (λ e. IsServedNumber a [] place (id_of e).number));
-                });
-          };
+      are = are;
+      going = record {
+        runs = record {
+          whole = histories-whole c.centres cores;
+          each = λ place s h known at. subst (IsHistory TheFirst (origin_of c s)) (sym (empty place h at)) (empty-history (origin_of c s));
+        };
+        follow = record {
+          whole = whole;
+          each = λ agent a log stands at.
+              subst (Follows c (histories c cores) agent a) (sym (no-row agent log at)) (record {
+                rows = λ k row here. absurd (none-some row here);
+                last = λ k row here. absurd (none-some row here);
+                calls = λ place h there.
+                    subst (λ es. All (λ e. IsServedNumber a [] place (id_of e).number) (calls_of agent es)) (sym (empty place h there))
+                    (All-nil (λ e. IsServedNumber a [] place (id_of e).number));
+              });
         };
       };
-      unserved = unserved;
-      unasked = unasked;
     }
 
 -- the names of configured agents

@@ -3,3 +3,4 @@ pub mod Results
 pub mod Clients
 pub mod Steps
 pub mod Plans
+pub mod Runs

@@ -5,10 +5,8 @@ use Rattle.tc_centre.specs.Centre.{Centre, centre_from}
 use Rattle.tc_config.specs.Configurations.{Configuration, IsConfig, centre_names}
 use Rattle.tc_config.specs.declared.configs.AgentConf.{AgentConf}
 use Rattle.tc_config.specs.declared.configs.CentreConf.{CentreConf}
-use Rattle.tc_desk.specs.declared.rows.LogRow.{LogRow}
 use Rattle.tc_model.specs.State.{IsName}
 use Rattle.tc_policy.specs.declared.grants.Grant.{Grant}
-use Rattle.tc_runner.specs.Cores.{Goes}
 
 -- the names of the centres, the grants and the agents are those of the configuration
 pub record IsPlan (centres : List (List ℕ)) (roles : List Grant) (agents : List AgentConf) (c : Configuration)
@@ -35,9 +33,3 @@ fresh_core names s = centre_from s.name names s.budget s.tuples s.clauses
 -- a core for each centre; none, where there is no agent
 abbrev pub fresh_cores : List AgentConf → List CentreConf → List Centre
 fresh_cores agents centres = if length agents == 0 then [] else map (fresh_core (names_of agents)) centres
-
--- cores and logs of a run of which nothing has happened yet
-pub record IsFresh (c : Configuration) (cores : List Centre) (logs : List (List LogRow)) : Type 0 where
-  pub goes : Goes c cores logs
-  pub unserved : All (λ (x : Centre). x.history ≡ []) cores
-  pub unasked : All (λ (log : List LogRow). log ≡ []) logs

@@ -2,7 +2,8 @@
 ghost use Rattle.std.specs.Prelude.{◌≡◌, ◌<◌, [], All, length, map, IfOk};
 ghost use Rattle.tc_config.specs.Configurations.{IsCentre};
 ghost use Rattle.tc_desk.specs.Logs.{rows_of};
-ghost use Rattle.tc_runner.specs.Plans.{AreAgentNames, IsFresh, fresh_core, fresh_cores, names_of};
+ghost use Rattle.tc_runner.specs.Plans.{AreAgentNames, fresh_core, fresh_cores, names_of};
+ghost use Rattle.tc_runner.specs.Runs.{IsFresh};
 
 use crate::plans::Plan;
 use std::alloc::Global;
@@ -26,9 +27,7 @@ pub struct Opened {
 /// Clauses and tuples are moved to the cores. The names of the agents are copied for each centre.
 pub fn open(alloc: Global, config: Config) -> Result<Opened, NoMemory>
     ensures plan { IfOk result (λ opened. opened.plan ≡ config) }
-    ensures fresh { IfOk result
-        (λ opened. IsFresh config opened.cores.items (rows_of opened.logs.items)) }
-    ensures none { IfOk result (λ opened. length config.agents ≡ 0 → opened.cores.items ≡ []) }
+    ensures fresh { IfOk result IsFresh }
 {
     let whole = Snapshot::of(&config);
     let (centres, _, roles, agents) = config.into_parts();

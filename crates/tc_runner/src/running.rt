@@ -1,10 +1,11 @@
 //! Steps of all agents.
-ghost use Rattle.std.specs.Prelude.{◌≡◌, ◌<◌, [], true, false, length, IfOk, OnOk};
+ghost use Rattle.std.specs.Prelude.{◌≡◌, ◌<◌, true, false, IfOk, OnOk};
 ghost use Rattle.tc_config.specs.Good.{IsGood};
 ghost use Rattle.tc_model.specs.Choices.{TheFirst};
 ghost use Rattle.tc_runner.specs.Clients.{AreClients, left_in};
 ghost use Rattle.tc_desk.specs.Logs.{rows_of};
 ghost use Rattle.tc_runner.specs.Cores.{Goes, histories};
+ghost use Rattle.tc_runner.specs.Runs.{IsGoodRun, MayGoOn};
 
 use crate::clients::{Client, clients};
 use crate::opening::Opened;
@@ -16,16 +17,12 @@ use tc_desk::{Gate, LogRow};
 use tc_lists::NoMemory;
 
 /// Goes on with a run that has come so far, until each agent has ended, or waits.
-pub fn go_on<G: Gate>(alloc: Global, opened: Opened, gate: &G) -> Result<Opened, NoMemory>
-    requires goes { Goes opened.plan opened.cores.items (rows_of opened.logs.items) }
-    requires none { length opened.plan.agents ≡ 0 → opened.cores.items ≡ [] }
-    ensures plan { IfOk result (λ run. run.plan ≡ opened.plan) }
-    ensures good { IfOk result (λ run. IsGood TheFirst run.plan (histories run.plan run.cores.items)
-        (rows_of run.logs.items)) }
-    ensures goes { IfOk result (λ run. Goes run.plan run.cores.items (rows_of run.logs.items)) }
-    ensures none { IfOk result (λ run. length run.plan.agents ≡ 0 → run.cores.items ≡ []) }
+pub fn go_on<G: Gate>(alloc: Global, mut run: Opened, gate: &G) -> Result<Opened, NoMemory>
+    requires { MayGoOn run }
+    ensures plan { IfOk result (λ left. left.plan ≡ run.plan) }
+    ensures good { IfOk result IsGoodRun }
+    ensures goes { IfOk result MayGoOn }
 {
-    let mut run = opened;
     finish(alloc, &run.plan, &mut run.cores, &mut run.logs, gate)?;
     Ok(run)
 }

@@ -38,8 +38,7 @@ pub(crate) fn drive_all<R: Threads + Wait + Sync, G: Gate + Sync>(
     ensures ended { IfOk result (λ r.
         AreLeft ⟦<Roles as Warden>⟧.permits site.now agents.items r.1.items) }
 {
-    let (agents, crew) = at_desks(alloc, site, kits, agents)?;
-    let mut crew = crew;
+    let (agents, mut crew) = at_desks(alloc, site, kits, agents)?;
     drive(rt, &mut crew, alloc, names, workers, gate)?;
     end_all(alloc, crew, agents)
 }
@@ -49,7 +48,7 @@ fn at_desks<'a>(
     alloc: Global,
     site: &'a Site<Roles>,
     kits: Vec<DeskKit<Roles>>,
-    agents: Vec<AgentConf>,
+    mut agents: Vec<AgentConf>,
 ) -> Result<(Vec<AgentConf>, Vec<Actor<AgentDesk<'a, Roles>>>), NoMemory>
     requires kits { AreOfSite (λ (k : KitState (List Grant)). k.site)
         (λ (k : KitState (List Grant)). k.agent) site.now kits.items }
@@ -59,7 +58,6 @@ fn at_desks<'a>(
     ensures crew { IfOk result (λ r.
         AreAtDesks ⟦<Roles as Warden>⟧.permits site.now agents.items r.1.items) }
 {
-    let mut agents = agents;
     let mut crew = Vec::with_capacity(alloc, kits.len())?;
     for kit in kits {
         let agent = crew.len();
@@ -74,7 +72,7 @@ fn at_desks<'a>(
 fn end_all<'a>(
     alloc: Global,
     crew: Vec<Actor<AgentDesk<'a, Roles>>>,
-    agents: Vec<AgentConf>,
+    mut agents: Vec<AgentConf>,
 ) -> Result<(Vec<AgentConf>, Vec<EndedDesk<Roles>>), NoMemory>
     requires whole { length agents.items ≡ length crew.items }
     requires free { All (λ (c : Client (AgentState (List Grant))). (desk_of c.desk).free ≡ true)
@@ -83,7 +81,6 @@ fn end_all<'a>(
     ensures ended { IfOk result (λ r. r.1.items ≡ map ended_of crew.entry.items) }
     ensures rows { IfOk result (λ _. All HasRows crew.entry.items) }
 {
-    let mut agents = agents;
     let mut ended = Vec::with_capacity(alloc, crew.len())?;
     for member in crew {
         let agent = ended.len();

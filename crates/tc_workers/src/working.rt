@@ -1,10 +1,6 @@
 //! A run of a configuration on many threads.
-ghost use Rattle.std.specs.Prelude.{◌≡◌, ◌<◌, [], length, IfOk};
-ghost use Rattle.tc_config.specs.Good.{IsGood};
-ghost use Rattle.tc_model.specs.Choices.{TheFirst};
-ghost use Rattle.tc_desk.specs.Logs.{rows_of};
-ghost use Rattle.tc_runner.specs.Cores.{Goes, histories};
-ghost use Rattle.tc_runner.specs.Plans.{IsFresh};
+ghost use Rattle.std.specs.Prelude.{◌≡◌, ◌<◌, length, IfOk};
+ghost use Rattle.tc_runner.specs.Runs.{IsFresh, IsGoodRun, MayGoOn};
 
 use crate::crew::drive_all;
 use std::alloc::Global;
@@ -29,13 +25,10 @@ pub fn work<R: Threads + Wait + Sync, G: Gate + Sync>(
     gate: &G,
 ) -> Result<Opened, NoMemory>
     requires workers { 0 < workers }
-    requires fresh { IsFresh opened.plan opened.cores.items (rows_of opened.logs.items) }
-    requires none { length opened.plan.agents ≡ 0 → opened.cores.items ≡ [] }
+    requires fresh { IsFresh opened }
     ensures plan { IfOk result (λ run. run.plan ≡ opened.plan) }
-    ensures good { IfOk result (λ run. IsGood TheFirst run.plan (histories run.plan run.cores.items)
-        (rows_of run.logs.items)) }
-    ensures goes { IfOk result (λ run. Goes run.plan run.cores.items (rows_of run.logs.items)) }
-    ensures none { IfOk result (λ run. length run.plan.agents ≡ 0 → run.cores.items ≡ []) }
+    ensures good { IfOk result IsGoodRun }
+    ensures goes { IfOk result MayGoOn }
 {
     if opened.plan.agents().is_empty() {
         return go_on(alloc, opened, &NoGate);
@@ -54,9 +47,9 @@ fn shared<R: Threads + Wait + Sync, G: Gate + Sync>(
 ) -> Result<Opened, NoMemory>
     requires workers { 0 < workers }
     requires some { 0 < length opened.plan.agents }
-    requires fresh { IsFresh opened.plan opened.cores.items (rows_of opened.logs.items) }
+    requires fresh { IsFresh opened }
     ensures plan { IfOk result (λ left. left.plan ≡ opened.plan) }
-    ensures goes { IfOk result (λ left. Goes left.plan left.cores.items (rows_of left.logs.items)) }
+    ensures goes { IfOk result MayGoOn }
 {
     let Opened { plan, cores, .. } = opened;
     let (centres, roles, agents, config) = plan.into_parts();

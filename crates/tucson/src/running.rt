@@ -1,15 +1,12 @@
 //! A configuration, read to its end and run.
-ghost use Rattle.std.specs.Prelude.{◌≡◌, ◌<◌, ◌≤◌, [], ℕ, IfOk, IfSome, length};
+ghost use Rattle.std.specs.Prelude.{◌≡◌, ◌<◌, ◌≤◌, ℕ, IfOk, IfSome};
 ghost use Rattle.tc_io.specs.Faults.{Counts};
 ghost use Rattle.tc_io.specs.Sinks.{sink_of};
 ghost use Rattle.tc_io.specs.Sources.{source_of};
-ghost use Rattle.tc_model.specs.Choices.{TheFirst};
 ghost use Rattle.tc_config.specs.Configurations.{Configuration};
-ghost use Rattle.tc_config.specs.Good.{IsGood};
 ghost use Rattle.tc_config.specs.Texts.{IsRefused, Spells};
 ghost use Rattle.tc_config.specs.declared.faults.ConfigCause.{ConfigCause};
-ghost use Rattle.tc_desk.specs.Logs.{rows_of};
-ghost use Rattle.tc_runner.specs.Cores.{Goes, histories};
+ghost use Rattle.tc_runner.specs.Runs.{IsGoodRun, MayGoOn};
 ghost use Rattle.tucson.specs.Answer.{IsDueForInput, IsOutcome};
 ghost use Rattle.tucson.specs.Commands.{run_words};
 ghost use Rattle.tucson.specs.Ending.{Ends, IsEndOfRun, IsUnlessStopped, WritesDue};
@@ -127,10 +124,8 @@ fn ran<R: Threads + Wait + Sync, G: Gate + Sync>(
 ) -> Result<Opened, NoMemory>
     requires { 0 < workers }
     ensures plan { IfOk result (λ run. run.plan ≡ config) }
-    ensures good { IfOk result (λ run. IsGood TheFirst run.plan (histories run.plan run.cores.items)
-        (rows_of run.logs.items)) }
-    ensures goes { IfOk result (λ run. Goes run.plan run.cores.items (rows_of run.logs.items)) }
-    ensures none { IfOk result (λ run. length run.plan.agents ≡ 0 → run.cores.items ≡ []) }
+    ensures good { IfOk result IsGoodRun }
+    ensures goes { IfOk result MayGoOn }
 {
     let opened = open(alloc, config)?;
     if workers == 1 {

@@ -3,12 +3,11 @@ ghost use Rattle.std.specs.Prelude.{◌≡◌, ◌<◌, [], All, OnOk, Some, len
 ghost use Rattle.tc_model.specs.Calls.{id_of};
 ghost use Rattle.tc_io.specs.Faults.{Counts};
 ghost use Rattle.tc_io.specs.Sinks.{sink_of};
-ghost use Rattle.tc_model.specs.Choices.{TheFirst};
 ghost use Rattle.tc_config.specs.Configurations.{agent_names, centre_names};
-ghost use Rattle.tc_config.specs.Good.{IsGood};
 ghost use Rattle.tc_desk.specs.Logs.{is_blocked, rows_of};
 ghost use Rattle.tc_desk.specs.Text.{One, histories_text, logs_text, run_text};
-ghost use Rattle.tc_runner.specs.Cores.{AreCores, Goes, histories};
+ghost use Rattle.tc_runner.specs.Cores.{AreCores, histories};
+ghost use Rattle.tc_runner.specs.Runs.{IsGoodRun, MayGoOn};
 ghost use Rattle.tc_writing.specs.Flow.{HandsOn, flow};
 ghost use Rattle.tucson.specs.Answer.{IsOutcome};
 ghost use Rattle.tucson.specs.Ending.{IsEndOfRun, IsStopped, IsUnlessStopped, WritesDue, Writes};
@@ -43,10 +42,8 @@ pub fn written<K: Sink>(status: Status, text: &[u8], sink: &mut K) -> Status
 
 /// Writes the histories and the logs of a run that has come to its end.
 pub fn write_run<K: Sink>(alloc: Global, run: &Opened, sink: &mut K) -> Status
-    requires good { IsGood TheFirst run.now.plan (histories run.now.plan run.now.cores.items)
-        (rows_of run.now.logs.items) }
-    requires goes { Goes run.now.plan run.now.cores.items (rows_of run.now.logs.items) }
-    requires none { length run.now.plan.agents ≡ 0 → run.now.cores.items ≡ [] }
+    requires good { IsGoodRun run.now }
+    requires goes { MayGoOn run.now }
     ensures tells { WritesDue (IsOutcome run.now.plan) (sink_of K.taken K.write_faults K.sure sink.old)
         (sink_of K.taken K.write_faults K.sure sink.new) result }
     ensures writes { Counts (result ≡ Status.WriteFault)
@@ -83,8 +80,7 @@ fn write_text<K: Sink>(
     kept: &mut Vec<u8>,
 ) -> Result<(), SinkFault>
     requires blocked { blocked ≡ is_blocked (rows_of run.now.logs.items) }
-    requires goes { Goes run.now.plan run.now.cores.items (rows_of run.now.logs.items) }
-    requires none { length run.now.plan.agents ≡ 0 → run.now.cores.items ≡ [] }
+    requires goes { MayGoOn run.now }
     ensures hands { HandsOn (run_text One (centre_names run.now.plan) (agent_names run.now.plan)
         (histories run.now.plan run.now.cores.items) (rows_of run.now.logs.items))
         (flow K.taken K.write_faults K.sure sink.old kept.old.items)

@@ -1,4 +1,4 @@
-use Rattle.std.proofs.Common.{◌≡◌, ◌∙◌, ℕ, List, [], All, Vec, length, map, ap, sym, subst, ap₂, arith}
+use Rattle.std.proofs.Common.{◌≡◌, ◌∙◌, ℕ, List, [], All, Vec, length, map, ap, sym, subst, ap₂, arith, rules}
 use Rattle.std.specs.Global.{Global}
 use Rattle.std.proofs.lemmas.List.{length-map}
 use Rattle.tc_centre.specs.Centre.{Centre}
@@ -7,9 +7,9 @@ use Rattle.tc_config.specs.declared.configs.AgentConf.{AgentConf}
 use Rattle.tc_config.specs.declared.configs.CentreConf.{CentreConf}
 use Rattle.tc_desk.specs.declared.rows.LogRow.{LogRow}
 use Rattle.tc_desk.specs.Logs.{rows_of}
-use Rattle.tc_runner.specs.Cores.{AreCores}
+use Rattle.tc_runner.specs.Cores.{AreCores, Goes}
 use Rattle.tc_runner.specs.Plans.{AreAgentNames, fresh_cores, names_of}
-use Rattle.tc_runner.proofs.Fresh.{AreAgentNames-config, AreCores-fresh, IsFresh-opened, fresh-none, unserved-fresh}
+use Rattle.tc_runner.proofs.Fresh.{AreAgentNames-config, AreCores-fresh, Goes-fresh, fresh-none, unserved-fresh}
 use Rattle.tc_runner.proofs.opening.open.Goals as goal
 
 pub cores-requires-clause-names : goal.cores-requires-clause-names
@@ -41,15 +41,19 @@ returns-clause-fresh c =
     c.in_ok-cores.ensures ∙ ap₂ fresh_cores agents centres in
     let logs : List (Vec LogRow Global) = c.in_ok-logs.logs.items in
     let many = ap length (ap (λ (x : Configuration). x.agents) parts) in
-    IsFresh-opened c.args.config c.in_ok-cores.cores.items (rows_of logs)
-    (subst (AreCores c.args.config) (sym fresh) (AreCores-fresh c.args.config))
-    (subst (All (λ (x : Centre). x.history ≡ [])) (sym fresh) (unserved-fresh c.args.config.agents c.args.config.centres))
+    let same : c.new-plan.result ≡ c.args.config = search rules in
+    let unserved = subst (All (λ (x : Centre). x.history ≡ [])) (sym fresh) (unserved-fresh c.args.config.agents c.args.config.centres) in
+    let goes =
+    Goes-fresh c.args.config c.in_ok-cores.cores.items (rows_of logs)
+    (subst (AreCores c.args.config) (sym fresh) (AreCores-fresh c.args.config)) unserved
     (omega (arith, many, c.len.ensures, c.in_ok-logs.ensures.count, length-map logs (λ (v : Vec LogRow Global). v.items)))
-    c.in_ok-logs.ensures.empty
-
-pub returns-clause-none : goal.returns-clause-none
-returns-clause-none c = λ none.
-    let parts = c.into_parts-centres.ensures.parts in
-    let agents : c.deref-2.result.now ≡ c.args.config.agents =
-    c.deref-2.ensures.value ∙ sym (ap (λ (x : Configuration). x.agents) parts) in
-    c.in_ok-cores.ensures ∙ fresh-none c.deref-2.result.now c.into_parts-centres.result.0.items (ap length agents ∙ none)
+    c.in_ok-logs.ensures.empty in
+    record {
+      may = record {
+        goes = subst (λ (p : Configuration). Goes p c.in_ok-cores.cores.items (rows_of logs)) (sym same) goes;
+        none = λ no_agent.
+            fresh ∙ fresh-none c.args.config.agents c.args.config.centres (ap (λ (p : Configuration). length p.agents) (sym same) ∙ no_agent);
+      };
+      unserved = unserved;
+      unasked = c.in_ok-logs.ensures.empty;
+    }

@@ -11,7 +11,6 @@ use Rattle.tc_workers.proofs.Grants.{Driven, Member, permits_by}
 use Rattle.tc_workers.proofs.Driven.{driven-agents, driven-free, driven-left, driven-whole, ready}
 use Rattle.tc_workers.proofs.Sends.{roles_desk_send}
 use Rattle.tc_workers.proofs.crew.drive_all.Goals as goal
-use Rattle.tc_workers.proofs.crew.drive_all.Lts as lts
 
 pub drive-requires-clause-ready : goal.drive-requires-clause-ready
 drive-requires-clause-ready g c κs within =

@@ -1,4 +1,4 @@
-use Rattle.std.proofs.Common.{◌≡◌, ◌∙◌, ◌+◌, ◌<◌, ◌++◌, ◌∷◌, [], List, length, get_or, set, sym, ap, subst, rules, vec_len}
+use Rattle.std.proofs.Common.{◌≡◌, ◌∙◌, ◌<◌, ◌++◌, ◌∷◌, [], List, length, get_or, set, sym, ap, subst, rules, vec_len}
 use Rattle.tc_config.specs.declared.configs.AgentConf.{AgentConf}
 use Rattle.tc_model.specs.Scripts.{Lines}
 use Rattle.tc_policy.specs.declared.grants.Grant.{Grant}

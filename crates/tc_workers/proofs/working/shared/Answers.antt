@@ -1,4 +1,4 @@
-use Rattle.std.proofs.Common.{◌∙◌, List, sym, subst}
+use Rattle.std.proofs.Common.{◌∙◌, List, ap, arith, length, sym, subst}
 use Rattle.tc_config.specs.Configurations.{Configuration}
 use Rattle.tc_config.specs.declared.configs.AgentConf.{AgentConf}
 use Rattle.tc_desk.specs.Logs.{rows_of}
@@ -13,7 +13,7 @@ of_cores-requires g c =
     let parts = c.into_parts-centres.ensures.parts in
     record {
       fresh =
-          fresh-cores plan parts.config c.requires.some c.args.opened.cores.items c.requires.fresh.goes.are c.in_ok-names.names.items c.deref-2.result.now
+          fresh-cores plan parts.config c.requires.some c.args.opened.cores.items c.requires.fresh.may.goes.are c.in_ok-names.names.items c.deref-2.result.now
           (c.in_ok-names.ensures ∙ c.deref.ensures.value ∙ parts.centres_are) (c.deref-2.ensures.value ∙ parts.agents_are) c.requires.fresh.unserved;
     }
 
@@ -36,8 +36,14 @@ returns-clause-goes g c =
     let cores = c.in_ok-cores.field-0.cores.items in
     let logs = rows_of c.in_ok-cores.field-0.logs.items in
     let site = subst (λ (xs : List AgentConf). IsSiteOf copied fresh xs c.in_ok-copy.field-0 c.in_ok-site.site) c.deref-2.ensures.value c.in_ok-site.ensures.site in
-    subst (λ (p : Configuration). Goes p cores logs) (sym (c.new-plan.ensures ∙ c.into_parts-centres.ensures.config))
-    (closed-goes plan parts.config c.requires.some c.in_ok-site.site copied fresh cores agents c.in_ok-copy.field-0
-    (c.in_ok-names.ensures ∙ c.deref.ensures.value ∙ parts.centres_are) parts.agents_are (c.in_ok-copy.ensures ∙ parts.roles_are)
-    site c.requires.fresh.goes.are c.in_ok-cores.ensures.closed logs c.in_ok-agents.ended.items c.in_ok-agents.ensures.ended
-    c.in_ok-cores.ensures.logs c.in_ok-cores.ensures.agree)
+    let config = c.new-plan.ensures ∙ c.into_parts-centres.ensures.config in
+    record {
+      goes =
+          subst (λ (p : Configuration). Goes p cores logs) (sym config)
+          (closed-goes plan parts.config c.requires.some c.in_ok-site.site copied fresh cores agents c.in_ok-copy.field-0
+          (c.in_ok-names.ensures ∙ c.deref.ensures.value ∙ parts.centres_are) parts.agents_are (c.in_ok-copy.ensures ∙ parts.roles_are)
+          site c.requires.fresh.may.goes.are c.in_ok-cores.ensures.closed logs c.in_ok-agents.ended.items c.in_ok-agents.ensures.ended
+          c.in_ok-cores.ensures.logs c.in_ok-cores.ensures.agree);
+      none = λ no_agent.
+          absurd (omega (arith, c.requires.some, ap (λ (p : Configuration). length p.agents) (sym config) ∙ no_agent));
+    }
