@@ -138,7 +138,7 @@ fn end_all<R: Wait>(
     rt: &R,
     alloc: Global,
     turnstile: &Turnstile<Owners>,
-    passes: Vec<Pass<Owners>>,
+    mut passes: Vec<Pass<Owners>>,
     total: u64,
 ) -> Result<(bool, Vec<Ended<Owners>>), AllocError>
     requires free { All (IsFree turnstile.now) passes.items }
@@ -146,11 +146,9 @@ fn end_all<R: Wait>(
     ensures numbers { IfOk result (λ r. (n : ℕ)
         → ended_count n r.1.items ≡ sum_by (λ p. one_if_same p.number n) passes.items) }
 {
-    let mut passes = passes;
     let mut ended = Vec::with_capacity(alloc, passes.len())?;
     let mut done = true;
-    while let Some(one) = passes.pop() {
-        let mut pass = one;
+    while let Some(mut pass) = passes.pop() {
         done = is_done(rt, turnstile, &mut pass, total) && done;
         ended.push_reserved(turnstile.end(pass));
     }

@@ -40,13 +40,12 @@ pub fn play<R: Wait>(
     alloc: Global,
     centre: &SharedCentre,
     stage: &Stage,
-    pass: CentrePass,
+    mut pass: CentrePass,
     moves: &[Vec<Move>],
 ) -> Played
     requires { IsFreshPassOf centre.now pass }
     ensures { IsPlayed centre.now pass result }
 {
-    let mut pass = pass;
     let moves = moves_of(moves, pass.number());
     let notes = make_all(rt, alloc, centre, stage, &mut pass, moves);
     Played {

@@ -142,8 +142,7 @@ fn last_steps<'a, R: Wait>(
     requires { All (IsReady desk_of 1 names.now) crew.items }
 {
     let mut text = Vec::new(alloc);
-    for member in crew {
-        let mut member = member;
+    for mut member in crew {
         let step = member.step(rt, alloc, names, &NoGate)?;
         let (desk, _) = member.finish();
         append_log(alloc, desk.log(), &mut text)?;

@@ -13,14 +13,13 @@ use tc_site::{AgentDesk, DeskKit, Site};
 pub fn two_desks<'a>(
     alloc: Global,
     site: &'a Site<Roles>,
-    kits: Vec<DeskKit<Roles>>,
+    mut kits: Vec<DeskKit<Roles>>,
 ) -> anyhow::Result<(AgentDesk<'a, Roles>, AgentDesk<'a, Roles>)>
     requires { AreOfSite (λ (k : KitState (List Grant)). k.site)
         (λ (k : KitState (List Grant)). k.agent) site.now kits.items }
     ensures first { IfOk result (λ d. IsNewDesk site.now.names (desk_of d.0)) }
     ensures second { IfOk result (λ d. IsNewDesk site.now.names (desk_of d.1)) }
 {
-    let mut kits = kits;
     let Some(second) = kits.pop() else {
         bail!("there is no second kit");
     };

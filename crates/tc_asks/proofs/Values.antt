@@ -1,5 +1,5 @@
 -- Under equations of templates and tuples each variable has a value or has none.
-use Rattle.std.proofs.Common.{◌≡◌, ◌<◌, ◌+◌, ◌⊎◌, inl, inr, ℕ, suc, IsTrue, List, [], ◌∷◌, ◌++◌, Option, Some, None, Contains, length, map, get_or, set, All, refl, sym, ◌∙◌, subst, arith}
+use Rattle.std.proofs.Common.{◌≡◌, ◌<◌, ◌⊎◌, inl, inr, ℕ, suc, IsTrue, List, [], ◌∷◌, ◌++◌, Option, Some, None, Contains, length, map, get_or, set, All, refl, sym, ◌∙◌, subst, arith}
 use Rattle.std.specs.List.{range_with_len, slice_get}
 use Rattle.std.proofs.lemmas.Bool.{cases_lt}
 use Rattle.std.proofs.lemmas.List.{get_or-set_other, get_or-set_same, length-set}

@@ -40,7 +40,7 @@ impl Model for Asker {
 }
 
 impl Asker {
-    ghost use Rattle.std.specs.Prelude.{◌≡◌, ◌≢◌, ◌<◌, ◌≤◌, ◌+◌, ◌^◌, [], false, List, length};
+    ghost use Rattle.std.specs.Prelude.{◌≡◌, ◌≢◌, ◌<◌, ◌≤◌, ◌+◌, ◌^◌, false, List, length};
     ghost use Rattle.std.specs.Prelude.{IfNone, IfOk, IfSome, OnErr, OnOk, Some, slice_get};
     ghost use Rattle.tc_model.specs.Asks.{operand_of};
     ghost use Rattle.tc_model.specs.Scripts.{Lines};

@@ -88,11 +88,10 @@ impl Queue {
 
     /// Adds the clauses of these numbers, triggered by the event, while fewer are left than there is
     /// room for.
-    pub fn add(&mut self, event: Event, numbers: Vec<u32>, room: usize) -> Result<(), NoMemory>
+    pub fn add(&mut self, event: Event, mut numbers: Vec<u32>, room: usize) -> Result<(), NoMemory>
         ensures { OnOk result
             (self.new ≡ self.old ++ take (room - length self.old) (members event numbers.items)) }
     {
-        let mut numbers = numbers;
         numbers.truncate(room.saturating_sub(self.len));
         if numbers.is_empty() {
             return Ok(());

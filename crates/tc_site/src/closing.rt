@@ -45,8 +45,8 @@ pub(crate) fn take_apart<W: Warden + Drop>(
 /// Closes each centre, from the last one to the first. The columns have the passes of the agents.
 pub(crate) fn close_all(
     alloc: Global,
-    centres: Vec<SharedCentre>,
-    columns: Vec<Vec<CentrePass>>,
+    mut centres: Vec<SharedCentre>,
+    mut columns: Vec<Vec<CentrePass>>,
 ) -> Result<Vec<Core>, NoMemory>
     requires whole { All (HasPasses (length columns.items)) centres.items }
     requires are { AreColumns centres.items (columns_of columns.items) }
@@ -54,8 +54,6 @@ pub(crate) fn close_all(
         AreClosedFrom (columns_of columns.items) 0 centres.items cores.items) }
 {
     let mut cores = Vec::with_capacity(alloc, centres.len())?;
-    let mut centres = centres;
-    let mut columns = columns;
     while let Some(centre) = centres.pop() {
         cores.push(close_last(alloc, centre, &mut columns)?)?;
     }

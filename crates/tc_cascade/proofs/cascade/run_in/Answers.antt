@@ -1,4 +1,4 @@
-use Rattle.std.proofs.Common.{◌+◌, ◌-◌, [], ◌∷◌, List, length, drop, refl, sym, ap, subst, ◌∙◌, arith, length-append, true}
+use Rattle.std.proofs.Common.{◌+◌, ◌-◌, [], ◌∷◌, List, length, drop, refl, sym, ap, subst, ◌∙◌, arith, length-append}
 use Rattle.std.proofs.lemmas.List.{nil_from_length}
 use Rattle.tc_lists.proofs.Bools.{none_from_test}
 use Rattle.tc_model.specs.Reactions.{Rule}
