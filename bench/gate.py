@@ -25,7 +25,7 @@ TICKS = os.sysconf("SC_CLK_TCK")
 
 
 def processes():
-    """Each process: its parent, and the processor time that it has used, in seconds."""
+    """Each process: its parent, the processor time that it has used, in seconds, and when it began."""
     found = {}
     for entry in os.listdir("/proc"):
         if not entry.isdigit():
@@ -34,7 +34,7 @@ def processes():
             fields = pathlib.Path(f"/proc/{entry}/stat").read_text().rpartition(")")[2].split()
         except OSError:
             continue
-        found[int(entry)] = int(fields[1]), (int(fields[11]) + int(fields[12])) / TICKS
+        found[int(entry)] = int(fields[1]), (int(fields[11]) + int(fields[12])) / TICKS, int(fields[19])
     return found
 
 
@@ -54,18 +54,19 @@ def work_of(process):
 
 
 def add_sample(root, kinds, used):
-    """Notes what the provers below this process have used so far."""
+    """Notes what the provers below this process have used so far. Numbers of processes come again."""
     alive = processes()
-    for process, (parent, seconds) in alive.items():
+    for process, (parent, seconds, began) in alive.items():
         above = process
         while above in alive and above != root:
             above = alive[above][0]
         if above != root:
             continue
-        if process not in kinds:
-            kinds[process] = work_of(process) or kinds.get(parent)
-        if kinds[process]:
-            used[process] = kinds[process], seconds
+        one = process, began
+        if one not in kinds:
+            kinds[one] = work_of(process) or kinds.get((parent, alive[parent][2]))
+        if kinds[one]:
+            used[one] = kinds[one], seconds
 
 
 def crates_in_order():
