@@ -1,10 +1,24 @@
--- What stands behind a text, as a slice tells it.
-use Rattle.std.proofs.Common.{◌≡◌, ◌≢◌, ℕ, ◌+◌, ◌<◌, Bool, true, false, eqb, nat_eq, cond, List, [], ◌∷◌, length, take, drop, get_or, map, Bor, Option, Some, None, option_map, option_and_then, sym, ap, ◌∙◌, refl, ⊎_elim, eq-eqb, ne_eqb}
+-- What stands behind a text: where it stands, what is taken there, and as a slice tells it.
+use Rattle.std.proofs.Common.{◌≡◌, ◌≢◌, ℕ, ◌+◌, Bool, true, false, eqb, nat_eq, cond, List, [], ◌∷◌, ◌++◌, length, take, drop, Bor, Option, Some, None, option_map, sym, ap, ap₂, ◌∙◌, refl, ⊎_elim, eq-eqb, ne_eqb}
 use Rattle.std.specs.Option.{MatchOption}
 use Rattle.std.specs.Cmp.Lexicographic.{pointwise}
 use Rattle.std.proofs.lemmas.Bool.Decides.{eqb_tells}
-use Rattle.std.proofs.lemmas.List.{at_drop_more}
-use Rattle.tc_lists.specs.Texts.{after, after_all}
+use Rattle.tc_lists.specs.Texts.{after}
+
+-- behind the text stands the rest
+pub after-append : (text rest : List ℕ) → after text (text ++ rest) ≡ Some rest
+after-append [] rest = refl
+after-append (t ∷ ts) rest = rw (eq-eqb t t refl) (after-append ts rest)
+
+-- the bytes are the text and what stands behind it
+pub after-takes : (text bytes rest : List ℕ) → after text bytes ≡ Some rest → bytes ≡ text ++ rest
+after-takes [] bytes rest e = cc
+after-takes (t ∷ ts) [] rest e = cc
+after-takes (t ∷ ts) (b ∷ bs) rest e =
+    ⊎_elim
+    (λ (same : (eqb t b ≡ true) × (t ≡ b)). let more : after ts bs ≡ Some rest = rw same.0 at e in ap₂ (λ (c : ℕ) (cs : List ℕ). c ∷ cs) (sym same.1) (after-takes ts bs rest more))
+    (λ (other : (eqb t b ≡ false) × (t ≢ b)). let none : None ≡ Some rest = rw other.0 at e in cc)
+    (eqb_tells t b)
 
 -- the bytes have this text as their front
 abbrev is_front : List ℕ → List ℕ → Bool
@@ -26,7 +40,3 @@ lent text = text.now
 pub strip_prefix-after : (r : Option (Bor (List ℕ))) (text bytes : List ℕ) → MatchOption r (is_front text bytes ≡ false) (λ x. (is_front text bytes ≡ true) × (x.now ≡ drop (length text) bytes) × (length x.now + length text ≡ length bytes)) → option_map lent r ≡ after text bytes
 strip_prefix-after None text bytes cases = sym (after-is_front text bytes ∙ rw cases refl)
 strip_prefix-after (Some x) text bytes cases = ap Some cases.1 ∙ sym (after-is_front text bytes ∙ rw cases.0 refl)
-
--- the next text, and then those that are left
-pub after_all-next : (texts : List (Bor (List ℕ))) (i : ℕ) (d : Bor (List ℕ)) (rest : List ℕ) → i < length texts → after_all (map lent (drop i texts)) rest ≡ option_and_then (after_all (map lent (drop (i + 1) texts))) (after (get_or texts i d).now rest)
-after_all-next texts i d rest within = at_drop_more (λ (ts : List (Bor (List ℕ))). after_all (map lent ts) rest) texts i d within
