@@ -16,7 +16,8 @@ pub fn parts(term: &Term) -> (&[u8], &[Term]) {
     }
 }
 
-/// The texts that the terms stand for, one behind another.
+/// The texts that the terms stand for, one behind another: an atom's name; `P*N`, the text P so many
+/// times; `count(P,M,N)`, the text P before each number from M up to N, without N.
 pub fn text_of(alloc: Global, terms: &[Term]) -> anyhow::Result<Vec<u8>> {
     let mut text = Vec::new(alloc);
     for term in terms {
@@ -40,7 +41,7 @@ fn append_part(term: &Term, into: &mut Vec<u8>) -> anyhow::Result<()> {
     }
 }
 
-/// Appends the text so many times.
+/// Appends the text so many times, which are at most a million.
 pub fn repeat(part: &[u8], times: i64, into: &mut Vec<u8>) -> anyhow::Result<()> {
     if times > MOST_TIMES {
         return Err(anyhow!("a text is too long"));
