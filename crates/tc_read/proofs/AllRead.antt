@@ -1,12 +1,11 @@
 -- No text is without a reading.
-use Rattle.std.proofs.Common.{◌≡◌, ◌<◌, ◌≤◌, ◌+◌, ◌⊎◌, ℕ, zero, suc, Bool, true, false, nat_lt, List, [], ◌∷◌, ◌++◌, length, Option, Some, None, MatchOption, inl, inr, refl, sym, ap, subst, ⊎_elim, length-append, arith}
+use Rattle.std.proofs.Common.{◌≡◌, ◌<◌, ◌≤◌, ◌+◌, ◌⊎◌, ℕ, zero, suc, Bool, true, false, nat_lt, List, [], ◌∷◌, ◌++◌, length, Option, Some, None, MatchOption, inl, inr, refl, ap, subst, ⊎_elim, length-append, arith}
 use Rattle.std.proofs.lemmas.Bool.{cases_lt}
-use Rattle.tc_term.specs.Grammar.{IsTerm}
 use Rattle.tc_term.specs.Layouts.{At, Layout, Scan, Stop, TextEnd, ClauseEnd, NoToken, at_clause_end, at_no_token, at_text_end, layout, no_layout, token}
 use Rattle.tc_term.specs.Limits.{most_brackets, most_variables}
 use Rattle.tc_term.specs.Tokens.{BeginsNone, Lexeme, Longest, SpellsToken}
 use Rattle.tc_term.specs.Tree.{Fits}
-use Rattle.tc_term.specs.Faults.{Answer, AnswersTokens, Ended, Found, Judged, Nothing, Parsed, Reading, ReadsAs, Stopped, Syntax, TooBig, TooMany, WideInt, When, all_known, first_place, first_wide, most_open, numbered, place_behind, reading}
+use Rattle.tc_term.specs.Faults.{Answer, AnswersTokens, Ended, Found, Judged, Nothing, Parsed, Reading, ReadsAs, Stopped, Syntax, TooBig, TooMany, WideInt, When, all_known, first_place, first_wide, most_open, place_behind}
 use Rattle.tc_read.proofs.Blanks.{layout_shorter, piece_shorter}
 use Rattle.tc_read.proofs.Found.{front_some}
 

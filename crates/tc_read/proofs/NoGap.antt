@@ -1,9 +1,9 @@
 -- No text of clauses is without an end, where no clause neither leads anywhere nor is refused.
-use Rattle.std.proofs.Common.{◌≡◌, ◌<◌, ◌≤◌, ◌+◌, ◌-◌, ◌⊎◌, ℕ, zero, suc, Bool, true, false, nat_lt, List, [], ◌∷◌, Option, Some, None, MatchOption, inl, inr, drop, length, refl, sym, ap, subst, ◌∙◌, length-drop, arith}
+use Rattle.std.proofs.Common.{◌≡◌, ◌<◌, ◌≤◌, ◌+◌, ◌-◌, ◌⊎◌, ℕ, zero, suc, Bool, true, false, nat_lt, List, [], ◌∷◌, Option, Some, None, MatchOption, inl, inr, drop, length, refl, length-drop, arith}
 use Rattle.tc_term.specs.Layouts.{At, Scan, Stop, TextEnd, ClauseEnd, NoToken}
 use Rattle.tc_term.specs.Limits.{most_brackets, most_variables}
 use Rattle.tc_term.specs.Tree.{Fits, Tree}
-use Rattle.tc_term.specs.Faults.{Answer, Found, Nothing, Parsed, Reading, Stopped, TooBig, TooMany, Unended, WideInt, When, all_known, first_place, first_wide, most_open, place_behind}
+use Rattle.tc_term.specs.Faults.{Answer, Found, Nothing, Parsed, Reading, Stopped, TooBig, TooMany, Unended, WideInt, When, all_known, first_place, first_wide, most_open}
 use Rattle.tc_term.specs.Faults as answer
 use Rattle.tc_read.specs.Clauses.{AnswersAt, HasFaultyClause, HasNoGap, IsFaultyAt, Language, LeadsTo, LeadsToEnd}
 use Rattle.tc_read.specs.declared.clauses.Unread.TheVariants.{Syntax, Size}

@@ -1,6 +1,6 @@
 -- A text of clauses has one end: the state that it leads to, or its first faulty clause with its first
 -- cause.
-use Rattle.std.proofs.Common.{◌≡◌, ◌⊎◌, ℕ, List, [], ◌∷◌, Option, Some, None, true, drop, length, inl, inr, refl, ap, sym, subst, ◌∙◌, arith}
+use Rattle.std.proofs.Common.{◌≡◌, ℕ, List, [], ◌∷◌, Option, Some, None, true, drop, length, inl, inr, refl, ap, sym, subst, ◌∙◌, arith}
 use Rattle.tc_term.specs.Faults.{Answer, Found, Nothing, TooBig, TooMany, WideInt}
 use Rattle.tc_term.specs.Faults as answer
 use Rattle.tc_term.specs.Tree.{Tree}

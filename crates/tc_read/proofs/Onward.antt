@@ -1,5 +1,5 @@
 -- Texts of clauses that are read one behind another, up to a place.
-use Rattle.std.proofs.Common.{◌≡◌, ◌<◌, ◌≤◌, ◌+◌, ℕ, List, [], ◌∷◌, ◌++◌, length, length-append, refl, sym, subst, arith}
+use Rattle.std.proofs.Common.{◌≡◌, ◌<◌, ◌≤◌, ◌+◌, ℕ, List, [], ◌∷◌, ◌++◌, length, length-append, refl, subst, arith}
 use Rattle.tc_term.specs.Faults.{Found, Nothing}
 use Rattle.tc_term.specs.Tree.{Tree}
 use Rattle.tc_read.specs.Clauses.{AnswersAt, HasFaultyClause, IsFaultyAt, Language, LeadsTo, LeadsToEnd}

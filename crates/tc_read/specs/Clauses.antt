@@ -75,7 +75,7 @@ module _ {S C : Type 0} (l : Language S C) where
     pub counted : number ≡ length terms + 1
     pub faulty : IsFaultyAt text from before why
 
--- the fault of the reader is why it finds no clause here, or memory has run out
+-- this is why the reader finds no clause here; nothing is told where memory has run out
 abbrev pub IsUnreadOr : List ℕ → ℕ → Option Unread → Type 0
 IsUnreadOr text from (Some u) = IsUnread text from u
 IsUnreadOr text from None = Unit {0}
