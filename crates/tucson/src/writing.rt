@@ -9,7 +9,7 @@ ghost use Rattle.tc_histtext.specs.Text.{histories_text, logs_text, run_text};
 ghost use Rattle.tc_histtext.specs.declared.versions.Version.TheVariants.{One};
 ghost use Rattle.tc_runner.specs.Cores.{AreCores, histories};
 ghost use Rattle.tc_runner.specs.Runs.{IsGoodRun, MayGoOn};
-ghost use Rattle.tc_writing.specs.Flow.{HandsOn, flow};
+ghost use Rattle.tc_io.specs.Flow.{HandsOn, flow};
 ghost use Rattle.tucson.specs.Answer.{IsOutcome};
 ghost use Rattle.tucson.specs.Ending.{IsEndOfRun, IsStopped, IsUnlessStopped, WritesDue, Writes};
 ghost use Rattle.tucson.specs.Status.{status_of_run};

@@ -12,7 +12,8 @@ pub record Flow : Type 0 where
   pub kept : List ℕ
 
 -- the flow to a sink, of which this is what it has taken, its write faults, and whether it is sure
-abbrev pub flow : {S : Type 0} → (S → Option (List ℕ)) → (S → ℕ) → (S → Bool) → S → List ℕ → Flow
+abbrev pub flow : {S : Type 0} → (S → Option (List ℕ)) → (S → ℕ) → (S → Bool) → S → List ℕ
+    → Flow
 flow taken write_faults sure s kept =
     record { sink = sink_of taken write_faults sure s; kept = kept }
 
@@ -20,8 +21,10 @@ flow taken write_faults sure s kept =
 abbrev pub handed : Flow → Option (List ℕ)
 handed f = appended f.sink.taken f.kept
 
--- a text was handed on, or a fault came amid it: then a front of what was kept and of the text was taken
-pub record HandsOn (text : List ℕ) (old new : Flow) (result : Result (Unit {0}) SinkFault) : Type 0 where
+-- a text was handed on, or a fault came amid it: then a front of what was kept and of the text was
+-- taken
+pub record HandsOn (text : List ℕ) (old new : Flow) (result : Result (Unit {0}) SinkFault)
+    : Type 0 where
   pub all : OnOk result (handed new ≡ appended (handed old) text)
   pub front : AppendsFront old.sink.taken new.sink.taken (old.kept ++ text)
   pub counted : Counts (IsErrOf result Failed) old.sink.write_faults new.sink.write_faults

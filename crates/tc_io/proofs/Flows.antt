@@ -7,7 +7,7 @@ use Rattle.tc_io.specs.Sinks.{appended, AppendsFront}
 use Rattle.tc_io.specs.declared.sinks.SinkFault.{SinkFault}
 use Rattle.tc_io.specs.declared.sinks.SinkFault.TheVariants.{Failed, NoMemory}
 use Rattle.tc_io.proofs.Outputs.{appended-append}
-use Rattle.tc_writing.specs.Flow.{Flow, HandsOn, handed}
+use Rattle.tc_io.specs.Flow.{Flow, HandsOn, handed}
 
 -- nothing behind what was taken
 pub appended-nil : (taken : Option (List ℕ)) → appended taken [] ≡ taken
