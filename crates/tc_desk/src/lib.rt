@@ -1,7 +1,8 @@
 //! What an agent asks, and what becomes of it: the rows of logs.
 //!
-//! Here are types and definitions: which ask a script makes next, which operation an ask is, and what
-//! it may have come to. Nothing here knows how a centre serves a call, or how all that is written.
+//! Here are types and definitions: which ask a script makes next, which operation an ask is, and
+//! what it may have come to. Nothing here knows how a centre serves a call, or how all that is
+//! written.
 //!
 //! ```
 //! let centre = Name::new(alloc, b"c")?;

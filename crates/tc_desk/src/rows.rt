@@ -31,8 +31,8 @@ pub enum Refusal {
     /// The agent has no turn left at the centre.
     #[error("no turn is left at the centre")]
     TurnsSpent,
-    /// The centre's history is so heavy that it takes no further call: what it weighed, and how many
-    /// requests were pending.
+    /// The centre's history is so heavy that it takes no further call: what it weighed, and how
+    /// many requests were pending.
     #[error("the centre is full: its history weighed {weight}, and {pending} requests were pending")]
     Full { weight: u64, pending: u64 },
     /// Memory has run out. It never stands in a row.
@@ -51,8 +51,8 @@ pub enum LogResult {
     Polled(Option<Reply>),
 }
 
-/// A row of an agent's log: what it asked of which centre, and what became of that. Rows are numbered
-/// from 1 on. One that polls has no ask.
+/// A row of an agent's log: what it asked of which centre, and what became of that. Rows are
+/// numbered from 1 on. One that polls has no ask.
 #[derive(Drop)]
 pub struct LogRow {
     pub number: u64,
