@@ -1,7 +1,7 @@
 //! What the rows of a table stand over, and their answers.
 use crate::answers::{print_bad, print_count, print_lines, print_numbers, print_outcome};
 use crate::events::event_of;
-use crate::rows::{bag_of, parts, text_of, tuples_of};
+use crate::rows::{bag_of, tuples_of};
 use anyhow::anyhow;
 use std::alloc::Global;
 use tc_body::execute;
@@ -10,6 +10,7 @@ use tc_read::read_clause;
 use tc_spec::{Spec, SpecFault, print_spec, read_spec};
 use tc_term::{Ground, Name, Pattern};
 use tc_unify::Store;
+use test_texts::{parts, text_of};
 
 /// The tuples, the event and the clauses that were named last.
 #[derive(Drop)]

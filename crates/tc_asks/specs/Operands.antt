@@ -7,8 +7,11 @@ use Rattle.tc_model.specs.declared.asks.Ask.{Ask}
 use Rattle.tc_model.specs.declared.asks.Ask.TheVariants.{Out, In, Rd, Inp, Rdp, SetSpec, GetSpec}
 use Rattle.tc_desk.specs.Operands.{Operand, Faulty, IsBadText, OpOf}
 use Rattle.tc_desk.specs.Operands as operand
+use Rattle.tc_desk.specs.declared.rows.Refusal.{Refusal}
+use Rattle.tc_desk.specs.declared.rows.Refusal.TheVariants as refusal
 use Rattle.tc_asks.specs.declared.operands.OperandFault.{OperandFault}
-use Rattle.tc_asks.specs.declared.operands.OperandFault.TheVariants.{TooBig, NotGround, BadSpec, NoMemory}
+use Rattle.tc_asks.specs.declared.operands.OperandFault.TheVariants.{TooBig, NotGround, BadSpec}
+use Rattle.tc_asks.specs.declared.operands.OperandFault.TheVariants.{NoMemory}
 
 -- the term is an atom within the limits
 pub record IsAtom (t : Tree) : Type 0 where
@@ -34,11 +37,18 @@ IsFaultOf ask (BadSpec bad) = OpOf ask (Faulty bad)
 IsFaultOf ask NoMemory = HasText ask
 
 -- the fault says this of the operand, or memory has run out
-abbrev pub IsThisFault : Operand → OperandFault → Type 0
-IsThisFault o TooBig = o ≡ operand.TooBig
-IsThisFault o NotGround = o ≡ operand.NotGround
-IsThisFault o (BadSpec bad) = o ≡ Faulty bad
-IsThisFault o NoMemory = Unit {0}
+abbrev pub IsOperandFault : Operand → OperandFault → Type 0
+IsOperandFault o TooBig = o ≡ operand.TooBig
+IsOperandFault o NotGround = o ≡ operand.NotGround
+IsOperandFault o (BadSpec bad) = o ≡ Faulty bad
+IsOperandFault o NoMemory = Unit {0}
+
+-- why an ask is refused whose operand has this fault
+abbrev pub refusal_of : OperandFault → Refusal
+refusal_of TooBig = refusal.TooBig
+refusal_of NotGround = refusal.NotGround
+refusal_of (BadSpec bad) = refusal.BadSpec bad
+refusal_of NoMemory = refusal.NoMemory
 
 -- why the term is no tuple
 abbrev pub IsTupleFault : Tree → OperandFault → Type 0

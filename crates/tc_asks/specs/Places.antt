@@ -1,5 +1,6 @@
 -- Places of items in scripts.
-use Rattle.std.specs.Prelude.{◌≡◌, ◌≤◌, ℕ, ◌+◌, IfSome, List, [], length, slice_get, take, Some}
+use Rattle.std.specs.Prelude.{◌≡◌, ◌≤◌, ℕ, ◌+◌, IfSome, List, [], length}
+use Rattle.std.specs.Prelude.{slice_get, take, Some}
 use Rattle.std.proofs.Common.{get_or}
 use Rattle.tc_model.specs.Asks.{operand_of}
 use Rattle.tc_model.specs.Scripts.{Lines}

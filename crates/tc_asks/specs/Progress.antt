@@ -8,16 +8,16 @@ use Rattle.tc_desk.specs.declared.rows.LogRow.{LogRow}
 use Rattle.tc_asks.specs.Bindings.{AreKnown}
 use Rattle.tc_asks.specs.Places.{IsPlaced, script_at}
 
--- what an asker keeps: how many rows of the log it has taken in, which script the next item stands in,
--- behind how many items of it, and what is known of the script's variables
+-- what an asker keeps: how many rows of the log it has taken in, which script the next item stands
+-- in, behind how many items of it, and what is known of the script's variables
 pub record Progress : Type 0 where
   pub rows : ℕ
   pub script : ℕ
   pub item : ℕ
   pub known : Option Equations
 
--- the asker has taken in the first rows of the log, none of them pending, and knows what they say of the
--- script in which the next item stands
+-- the asker has taken in the first rows of the log, none of them pending, and knows what they say
+-- of the script in which the next item stands
 pub record HasTakenIn (scripts : List Lines) (log : List LogRow) (p : Progress) : Type 0 where
   pub rows : p.rows ≤ length log
   pub settled : All (λ row. is_pending row.result ≡ false) (take p.rows log)

@@ -10,11 +10,11 @@ use tc_desk::LogRow;
 use tc_lists::NoMemory;
 use tc_model::{Script, ScriptItem};
 
-/// How far an agent has come in its scripts. It keeps what the rows of the log say of the variables of
-/// the script at hand, so that each row is looked at once.
+/// How far an agent has come in its scripts. It keeps what the rows of the log say of the variables
+/// of the script at hand, so that each row is looked at once.
 ///
-/// The scripts and the log are handed in at each call: they have to be those of the calls before, the
-/// log with what has come since.
+/// The scripts and the log are handed in at each call: they have to be those of the calls before,
+/// the log with what has come since.
 #[derive(Drop)]
 pub struct Asker {
     rows: usize,
@@ -40,7 +40,8 @@ impl Model for Asker {
 }
 
 impl Asker {
-    ghost use Rattle.std.specs.Prelude.{◌≡◌, ◌≢◌, ◌<◌, ◌≤◌, ◌+◌, ◌^◌, false, List, length};
+    ghost use Rattle.std.specs.Prelude.{◌≡◌, ◌≢◌, ◌<◌, ◌≤◌, ◌+◌, ◌^◌};
+    ghost use Rattle.std.specs.Prelude.{false, List, length};
     ghost use Rattle.std.specs.Prelude.{IfNone, IfOk, IfSome, OnErr, OnOk, Some, slice_get};
     ghost use Rattle.tc_model.specs.Asks.{operand_of};
     ghost use Rattle.tc_model.specs.Scripts.{Lines};
@@ -65,11 +66,11 @@ impl Asker {
     }
 
     /// What the agent asks next: the first item of its scripts that has no row, with each variable
-    /// replaced that has a value by the tuples that came in the same script. `None` where each item has
-    /// its row.
+    /// replaced that has a value by the tuples that came in the same script. `None` where each item
+    /// has its row.
     ///
-    /// Whatever is answered, the asker can be asked again. Takes the time of the rows that have come
-    /// since the last call and of what is asked.
+    /// Whatever is answered, the asker can be asked again. Takes the time of the rows that have
+    /// come since the last call and of what is asked.
     pub fn next_ask(
         &mut self,
         alloc: Global,
@@ -128,7 +129,8 @@ impl Asker {
         requires placed { IsPlaced scripts.now place.script place.item self.old.rows }
         requires same { place.script ≡ self.old.script → place.item ≡ self.old.item }
         requires first { place.script ≢ self.old.script → place.item ≡ 0 }
-        ensures place { OnOk result ((self.new.script ≡ place.script) × (self.new.item ≡ place.item)) }
+        ensures place { OnOk result ((self.new.script ≡ place.script)
+            × (self.new.item ≡ place.item)) }
         ensures taken { (log : List LogRow) → HasTakenIn scripts.now log self.old
             → HasTakenIn scripts.now log self.new }
         ensures rows { self.new.rows ≡ self.old.rows }

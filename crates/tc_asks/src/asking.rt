@@ -14,8 +14,10 @@ use tc_model::Ask;
 /// The ask with each variable replaced that has a value.
 pub(crate) fn filled_ask(alloc: Global, bindings: &Bindings, ask: &Ask) -> Result<Ask, NoMemory>
     requires { IfSome (operand_of ask.now) (HasBounds bindings.now) }
-    ensures { IfOk result (λ filled. (vars : ℕ) (es : List Equation) (values : List (Option Tree))
-        → AreKnown vars es bindings.now → AreValues vars es values → IsFilled values ask.now filled) }
+    ensures { IfOk result (λ filled. (vars : ℕ) (es : List Equation)
+        (values : List (Option Tree))
+        → AreKnown vars es bindings.now → AreValues vars es values
+        → IsFilled values ask.now filled) }
 {
     match ask {
         Ask::Out(t) => Ok(Ask::Out(bindings.fill(alloc, t)?)),

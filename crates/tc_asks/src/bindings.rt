@@ -31,7 +31,8 @@ impl Model for Bindings {
 }
 
 impl Bindings {
-    ghost use Rattle.std.specs.Prelude.{◌≡◌, ◌++◌, ◌∷◌, [], ℕ, List, Option, Some, IfOk, OnErr, OnOk};
+    ghost use Rattle.std.specs.Prelude.{◌≡◌, ◌++◌, ◌∷◌, [], ℕ, List, Option};
+    ghost use Rattle.std.specs.Prelude.{Some, IfOk, OnErr, OnOk};
     ghost use Rattle.tc_desk.specs.Asks.{AreValues, with_values};
     ghost use Rattle.tc_term.specs.Equations.{Equation};
     ghost use Rattle.tc_term.specs.Tree.{Tree};

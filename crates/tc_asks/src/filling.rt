@@ -11,8 +11,8 @@ use tc_lists::NoMemory;
 use tc_term::{Args, Term};
 use tc_unify::{Part, Store};
 
-/// The term with each variable replaced that has a value under the store's equations. Recurses as deep
-/// as the term is.
+/// The term with each variable replaced that has a value under the store's equations. Recurses as
+/// deep as the term is.
 #[cycle(filled)]
 pub(crate) fn filled(alloc: Global, store: &Store, t: &Term) -> Result<Term, NoMemory>
     requires { var_bound (tree_of t.now) ≤ store.now.vars }

@@ -1,7 +1,7 @@
 //! What an agent's script asks next, and which operation an ask is.
 //!
-//! An item of a script is asked with the values of its variables that the tuples before it gave. Here
-//! is nothing of centres or of what is permitted.
+//! An item of a script is asked with the values of its variables that the tuples before it gave.
+//! Here is nothing of centres or of what is permitted.
 //!
 //! ```
 //! let mut asker = Asker::new(alloc, &scripts)?;

@@ -5,10 +5,11 @@ ghost use Rattle.tc_term.specs.TreeView.{tree_of};
 ghost use Rattle.tc_term.specs.Variables.{IsTemplate, renumbered};
 ghost use Rattle.tc_model.specs.declared.calls.Op.TheVariants.{SetSpec};
 ghost use Rattle.tc_desk.specs.Operands.{IsReplacing, OpOf, Operand, Sound};
-ghost use Rattle.tc_asks.specs.Operands.{IsFaultOf, IsTemplateFault, IsTextFault, IsThisFault, IsTupleFault};
+ghost use Rattle.tc_asks.specs.Operands.{IsFaultOf, IsOperandFault, IsTemplateFault, IsTextFault};
+ghost use Rattle.tc_asks.specs.Operands.{IsTupleFault, refusal_of};
 
 use std::alloc::Global;
-use tc_desk::ask_is_one_operation;
+use tc_desk::{Refusal, ask_is_one_operation};
 use tc_model::{Ask, BadSpec, Clauses, Op, SpecCause};
 use tc_spec::{SpecFault, read_spec};
 use tc_term::{Ground, NotPattern, NotTuple, Pattern, Term};
@@ -20,8 +21,8 @@ const NO_ATOM: BadSpec = BadSpec {
     cause: SpecCause::Shape,
 };
 
-/// What is wrong with an operand: the first of these that holds. Memory is taken for the clauses of a
-/// text alone.
+/// What is wrong with an operand: the first of these that holds. Memory is taken for the clauses of
+/// a text alone.
 #[derive(Clone, Copy, Debug, PartialEq, Eq, Error)]
 pub enum OperandFault {
     /// It is beyond the limits of a tuple, a template or a text.
@@ -37,18 +38,32 @@ pub enum OperandFault {
     NoMemory,
 }
 
+impl OperandFault {
+    /// Why an ask is refused whose operand has this fault.
+    pub fn refusal(self) -> Refusal
+        ensures { result ≡ refusal_of self }
+    {
+        match self {
+            OperandFault::TooBig => Refusal::TooBig,
+            OperandFault::NotGround => Refusal::NotGround,
+            OperandFault::BadSpec(bad) => Refusal::BadSpec(bad),
+            OperandFault::NoMemory => Refusal::NoMemory,
+        }
+    }
+}
+
 /// The operation that the ask is.
 ///
 /// A tuple is put as it is. A template's variables are numbered by first appearance. The text of
-/// clauses is an atom's name; its first faulty clause is told with its first cause, counted from 1, and
-/// an operand that is no atom as clause 0.
+/// clauses is an atom's name; its first faulty clause is told with its first cause, counted from 1,
+/// and an operand that is no atom as clause 0.
 pub fn op_of(alloc: Global, ask: Ask) -> Result<Op, OperandFault>
     ensures op { IfOk result (λ op. OpOf ask (Sound op)) }
     ensures fault { IfErr result (IsFaultOf ask) }
 
     // Each answer comes exactly where it is due, but for want of memory.
     ensures same { (o : Operand) → OpOf ask o → IfOk result (λ op. o ≡ Sound op) }
-    ensures first { (o : Operand) → OpOf ask o → IfErr result (IsThisFault o) }
+    ensures first { (o : Operand) → OpOf ask o → IfErr result (IsOperandFault o) }
 {
     ask_is_one_operation();
     let answer = answer_of(alloc, ask);

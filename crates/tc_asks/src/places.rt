@@ -1,5 +1,6 @@
 //! Where an item stands among scripts.
-ghost use Rattle.std.specs.Prelude.{◌≡◌, ◌≢◌, ◌+◌, ◌^◌, ◌<◌, ◌≤◌, ℕ, length, IfNone, IfSome};
+ghost use Rattle.std.specs.Prelude.{◌≡◌, ◌≢◌, ◌+◌, ◌^◌, ◌<◌, ◌≤◌};
+ghost use Rattle.std.specs.Prelude.{ℕ, length, IfNone, IfSome};
 ghost use Rattle.tc_asks.specs.Places.{IsBehindItems, IsItemAt, IsPlaced, script_at};
 
 use tc_model::{Script, ScriptItem};

@@ -1,5 +1,6 @@
 //! What the result of an ask says of its variables.
-ghost use Rattle.std.specs.Prelude.{◌≡◌, ◌++◌, [], ℕ, List, IfNone, IfSome, OnErr, OnOk, Some};
+ghost use Rattle.std.specs.Prelude.{◌≡◌, ◌++◌, [], ℕ, List, IfNone, IfSome, OnErr};
+ghost use Rattle.std.specs.Prelude.{OnOk, Some};
 ghost use Rattle.tc_term.specs.Equations.{Equation};
 ghost use Rattle.tc_term.specs.TreeView.{tree_of};
 ghost use Rattle.tc_model.specs.Asks.{operand_of};
@@ -34,7 +35,8 @@ pub(crate) fn tell(bindings: &mut Bindings, ask: &Ask, came: &LogResult) -> Resu
 
 // The template of an ask, if it has one.
 fn template_in(ask: &Ask) -> Option<&Term>
-    ensures some { IfSome result (λ t. (r : Reply) → told_of ask.now r ≡ told (tree_of t.now) r) }
+    ensures some { IfSome result (λ t. (r : Reply)
+        → told_of ask.now r ≡ told (tree_of t.now) r) }
     ensures operand { IfSome result (λ t. operand_of ask.now ≡ Some (tree_of t.now)) }
     ensures none { IfNone result ((r : Reply) → told_of ask.now r ≡ []) }
 {
@@ -46,7 +48,8 @@ fn template_in(ask: &Ask) -> Option<&Term>
 
 // The tuple that came, if one did.
 fn tuple_in(came: &LogResult) -> Option<&Ground>
-    ensures some { IfSome result (λ u. (ask : Ask) → equation ask came.now ≡ told_of ask (Tuple u.now)) }
+    ensures some { IfSome result (λ u. (ask : Ask)
+        → equation ask came.now ≡ told_of ask (Tuple u.now)) }
     ensures none { IfNone result ((ask : Ask) → equation ask came.now ≡ []) }
 {
     match came {

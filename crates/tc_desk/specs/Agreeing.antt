@@ -43,7 +43,8 @@ pub record IsLastServed (log : List LogRow) (k : ℕ) (row : LogRow) : Type 0 wh
       → is_served other.result ≡ true → ⊥
 
 -- the agent looked what had become of its last ask that was served, and was told this
-pub record HasPolled (history : List Entry) (id : CallId) (log : List LogRow) (k : ℕ) (row : LogRow)
+pub record HasPolled (history : List Entry) (id : CallId) (log : List LogRow) (k : ℕ)
+    (row : LogRow)
     (told : Option Reply) : Type 0 where
   pub earlier : LogRow
   pub last : IsLastServed log k earlier
@@ -52,7 +53,8 @@ pub record HasPolled (history : List Entry) (id : CallId) (log : List LogRow) (k
 
 -- what a refusal of the agent's ask or poll of this id says of the history
 abbrev pub AgreesRefused : Origin → List Entry → CallId → Refusal → Type 0
-AgreesRefused origin history id (refusal.Full weight pending) = WasFull origin history id weight pending
+AgreesRefused origin history id (refusal.Full weight pending) =
+    WasFull origin history id weight pending
 AgreesRefused origin history id refusal.UnknownCentre = Unit {0}
 AgreesRefused origin history id refusal.Waiting = Unit {0}
 AgreesRefused origin history id refusal.Denied = Unit {0}
@@ -65,7 +67,8 @@ AgreesRefused origin history id refusal.NoMemory = ⊥
 -- the row at place k of the log agrees with the history of its centre
 abbrev pub AgreesRow :
     Origin → List Entry → CallId → List LogRow → ℕ → LogRow → LogResult → Type 0
-AgreesRow origin history id log k row (Replied reply) = HasComeTo origin history id row (Replied reply)
+AgreesRow origin history id log k row (Replied reply) =
+    HasComeTo origin history id row (Replied reply)
 AgreesRow origin history id log k row Pending =
     HasComeTo origin history id row Pending × HasWaited history id
 AgreesRow origin history id log k row (Refused why) = AgreesRefused origin history id why
@@ -86,8 +89,8 @@ pub record HasRow (log : List LogRow) (centre : List ℕ) (e : Entry) : Type 0 w
   pub there : row.centre ≡ centre
   pub made : IsMadeBy e row.result
 
--- where a row may stand that came to this: it names one of the centres, and one that was refused as of an
--- unknown centre names none
+-- where a row may stand that came to this: it names one of the centres, and one that was refused as
+-- of an unknown centre names none
 abbrev pub NamesCentre : List (List ℕ) → List ℕ → LogResult → Type 0
 NamesCentre names centre (Replied reply) = Contains names centre
 NamesCentre names centre Pending = Contains names centre
@@ -102,8 +105,9 @@ NamesCentre names centre (Refused (refusal.Full weight pending)) = Contains name
 NamesCentre names centre (Refused refusal.NoMemory) = Contains names centre
 NamesCentre names centre (Polled told) = Contains names centre
 
--- an agent's log agrees with the histories of the centres of these names: the rows are numbered from 1
--- on and name these centres, what each says is so, and whatever the agent has made there has its row
+-- an agent's log agrees with the histories of the centres of these names: the rows are numbered
+-- from 1 on and name these centres, what each says is so, and whatever the agent has made there has
+-- its row
 pub record Agrees (origins : List Origin) (names : List (List ℕ)) (histories : List (List Entry))
     (agent : ℕ) (log : List LogRow) : Type 0 where
   pub numbers : (k : ℕ) (row : LogRow) → slice_get log k ≡ Some row → row.number ≡ k + 1
@@ -136,7 +140,8 @@ HaveRows names histories agent log = (place : ℕ) (centre : List ℕ) (history 
     → All (HasRow log centre) (calls_of agent history)
 
 -- the row that comes behind the log names its centre, and agrees with the history of that
-pub record IsNextRow (origins : List Origin) (names : List (List ℕ)) (histories : List (List Entry))
+pub record IsNextRow (origins : List Origin) (names : List (List ℕ))
+    (histories : List (List Entry))
     (agent : ℕ) (log : List LogRow) (row : LogRow) : Type 0 where
   pub counted : row.number ≡ length log + 1
   pub known : NamesCentre names row.centre row.result

@@ -1,5 +1,6 @@
 -- Which ask a script makes next, after what became of the asks before.
-use Rattle.std.specs.Prelude.{◌≡◌, ℕ, ◌+◌, ◌==◌, if◌then◌else◌, List, [], ◌∷◌, ◌++◌}
+use Rattle.std.specs.Prelude.{◌≡◌, ℕ, ◌+◌, ◌==◌, if◌then◌else◌, List, []}
+use Rattle.std.specs.Prelude.{◌∷◌, ◌++◌}
 use Rattle.std.specs.Prelude.{map, length, take, slice_get, Option, Some, None}
 use Rattle.std.proofs.Common.{get_or}
 use Rattle.tc_term.specs.Tree.{Tree, Variable}
@@ -23,7 +24,8 @@ pub record ScriptStep : Type 0 where
 
 -- the items of a script at this place
 abbrev pub steps_at : ℕ → Lines → List ScriptStep
-steps_at place s = map (λ (i : ScriptItem). record { script = place; vars = s.vars; item = i }) s.items
+steps_at place s =
+    map (λ (i : ScriptItem). record { script = place; vars = s.vars; item = i }) s.items
 
 -- the items of scripts whose places are counted from this one
 abbrev pub steps_from : ℕ → List Lines → List ScriptStep
@@ -66,10 +68,12 @@ equations place (s ∷ ss) [] = []
 equations place (s ∷ ss) (r ∷ rs) =
     (if s.script == place then equation s.item.ask r else []) ++ equations place ss rs
 
--- for each of so many variables the value that it has under the equations, or none where it has none
+-- for each of so many variables the value that it has under the equations, or none where it has
+-- none
 pub record AreValues (vars : ℕ) (es : List Equation) (values : List (Option Tree)) : Type 0 where
   pub whole : length values ≡ vars
-  pub some : (n : ℕ) (v : Tree) → slice_get values n ≡ Some (Some v) → HasValue vars es (Variable n) v
+  pub some : (n : ℕ) (v : Tree) → slice_get values n ≡ Some (Some v)
+      → HasValue vars es (Variable n) v
   pub none : (n : ℕ) → slice_get values n ≡ Some None → (v : Tree)
       → HasValue vars es (Variable n) v → ⊥
 
@@ -93,8 +97,8 @@ IsFilled values (SetSpec t) (SetSpec u) = tree_of u ≡ with_values values (tree
 IsFilled values GetSpec GetSpec = Unit {0}
 IsFilled values written filled = ⊥
 
--- the item at place k of an agent's scripts, and what it asks after the items before it have come to
--- these results
+-- the item at place k of an agent's scripts, and what it asks after the items before it have come
+-- to these results
 pub record IsAsk
     (scripts : List Lines) (k : ℕ) (results : List LogResult) (step : ScriptStep) (ask : Ask)
     : Type 0 where

@@ -33,7 +33,8 @@ IsReadAs ask (Polled told) = ⊥
 
 -- each row that has an ask is refused for its operand exactly where this is faulty
 abbrev pub IsRead : List LogRow → Type 0
-IsRead log = (k : ℕ) (row : LogRow) (ask : Ask) → slice_get log k ≡ Some row → row.ask ≡ Some ask
+IsRead log =
+    (k : ℕ) (row : LogRow) (ask : Ask) → slice_get log k ≡ Some row → row.ask ≡ Some ask
     → IsReadAs ask row.result
 
 -- the ask is denied exactly where nothing permits it, if it came so far
@@ -43,10 +44,11 @@ IsDecidedAs permits (Refused refusal.Waiting) = Unit {0}
 IsDecidedAs permits (Refused refusal.Denied) = permits → ⊥
 IsDecidedAs permits result = permits
 
--- each row that has an ask is denied exactly where an agent of the role may not use its primitive on
--- its centre, and refused for its operand exactly where this is faulty
+-- each row that has an ask is denied exactly where an agent of the role may not use its primitive
+-- on its centre, and refused for its operand exactly where this is faulty
 pub record IsDecided
-    (permits : ℕ → Primitive → Type 0) (names : List (List ℕ)) (log : List LogRow) : Type 0 where
+    (permits : ℕ → Primitive → Type 0) (names : List (List ℕ)) (log : List LogRow)
+    : Type 0 where
   pub read : IsRead log
   pub decided : (k : ℕ) (row : LogRow) (ask : Ask) (place : ℕ) → slice_get log k ≡ Some row
       → row.ask ≡ Some ask → slice_get names place ≡ Some row.centre

@@ -1,5 +1,6 @@
 -- What a log says.
-use Rattle.std.specs.Prelude.{◌≡◌, ℕ, ◌+◌, Bool, true, false, List, Vec, map, length, Some, slice_get}
+use Rattle.std.specs.Prelude.{◌≡◌, ℕ, ◌+◌, Bool, true, false, List, Vec, map, length}
+use Rattle.std.specs.Prelude.{Some, slice_get}
 use Rattle.std.specs.Global.{Global}
 use Rattle.std.specs.List.{list_any}
 use Rattle.tc_desk.specs.declared.rows.LogRow.{LogRow}

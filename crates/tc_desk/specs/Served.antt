@@ -1,5 +1,6 @@
 -- What an ask may have come to, by the history of the centre that it went to.
-use Rattle.std.specs.Prelude.{◌≡◌, ℕ, ◌<◌, ◌≤◌, List, Some, All, Contains, length, take, drop}
+use Rattle.std.specs.Prelude.{◌≡◌, ℕ, ◌<◌, ◌≤◌, List, Some, All, Contains, length}
+use Rattle.std.specs.Prelude.{take, drop}
 use Rattle.tc_model.specs.Calls.{id_of, calls_of}
 use Rattle.tc_model.specs.Entries.{IsFull, weight, pending_after}
 use Rattle.tc_model.specs.Replies.{reply_in}
@@ -28,8 +29,8 @@ pub record IsCalled (history : List Entry) (id : CallId) (ask : Ask) : Type 0 wh
   pub is : OpOf ask (Sound op)
   pub called : HasCalled id op history
 
--- the centre was full when the agent came to the ask of this number: behind the first n entries, with
--- this weight and so many requests that waited
+-- the centre was full when the agent came to the ask of this number: behind the first n entries,
+-- with this weight and so many requests that waited
 pub record WasFull
     (origin : Origin) (history : List Entry) (id : CallId) (heavy waiting : ℕ) : Type 0 where
   pub n : ℕ
@@ -43,14 +44,16 @@ pub record WasFull
 
 -- the ask is an operation, and the centre was too full for it
 pub record IsTurnedAway
-    (origin : Origin) (history : List Entry) (id : CallId) (ask : Ask) (heavy waiting : ℕ) : Type 0 where
+    (origin : Origin) (history : List Entry) (id : CallId) (ask : Ask) (heavy waiting : ℕ)
+    : Type 0 where
   pub op : Op
   pub is : OpOf ask (Sound op)
   pub full : WasFull origin history id heavy waiting
 
 -- what an ask that was permitted may have come to
 abbrev pub IsServedAs : Origin → List Entry → CallId → Ask → LogResult → Type 0
-IsServedAs origin history id ask (Replied r) = IsCalled history id ask × (reply_in history id ≡ Some r)
+IsServedAs origin history id ask (Replied r) =
+    IsCalled history id ask × (reply_in history id ≡ Some r)
 IsServedAs origin history id ask Pending = IsCalled history id ask
 IsServedAs origin history id ask (Refused refusal.TooBig) = OpOf ask TooBig
 IsServedAs origin history id ask (Refused refusal.NotGround) = OpOf ask NotGround

@@ -1,7 +1,7 @@
 //! Gates: what every call of an agent passes before it is made.
 
-/// What is passed before each call, by the agent's place and the call's number. A test holds up agents
-/// here; no answer depends on it.
+/// What is passed before each call, by the agent's place and the call's number. A test holds up
+/// agents here; no answer depends on it.
 pub trait Gate {
     fn pass(&self, agent: u32, number: u64);
 }

@@ -1,5 +1,6 @@
-//! What holds of asks, of rows and of their text, for callers to cite.
-ghost use Rattle.std.specs.Prelude.{◌≡◌, ◌<◌, ◌++◌, ◌∷◌, [], ℕ, None, List, All, length};
+//! What holds of asks and of rows, for callers to cite.
+ghost use Rattle.std.specs.Prelude.{◌≡◌, ◌<◌, ◌++◌, ◌∷◌, [], ℕ, None, List};
+ghost use Rattle.std.specs.Prelude.{All, length};
 ghost use Rattle.tc_model.specs.Asks.{primitive_of};
 ghost use Rattle.tc_model.specs.Calls.{id_of, calls_of};
 ghost use Rattle.tc_model.specs.Replies.{reply_in};
@@ -16,8 +17,6 @@ ghost use Rattle.tc_desk.specs.Desks.{replied};
 ghost use Rattle.tc_desk.specs.Fits.{FitsAsk};
 ghost use Rattle.tc_desk.specs.Operands.{Operand, OpOf};
 ghost use Rattle.tc_desk.specs.Served.{IsServedAs};
-ghost use Rattle.tc_desk.specs.Text.{Version, agent_heading, centre_heading, entry_text, histories_text};
-ghost use Rattle.tc_desk.specs.Text.{history_text, log_text, logs_text, row_text};
 ghost use Rattle.tc_desk.specs.declared.rows.LogResult.{LogResult};
 ghost use Rattle.tc_desk.specs.declared.rows.LogResult.TheVariants.{Pending, Replied};
 ghost use Rattle.tc_desk.specs.declared.rows.LogRow.{LogRow};
@@ -29,17 +28,22 @@ pub fn ask_is_one_operation()
 
 /// Scripts ask one thing at each place.
 pub fn scripts_ask_one_thing()
-    ensures step { (scripts : List Lines) (k : ℕ) (results : List LogResult) (step other : ScriptStep)
-        (ask asked : Ask) → IsAsk scripts k results step ask → IsAsk scripts k results other asked
+    ensures step { (scripts : List Lines) (k : ℕ) (results : List LogResult)
+        (step other : ScriptStep)
+        (ask asked : Ask) → IsAsk scripts k results step ask
+        → IsAsk scripts k results other asked
         → step ≡ other }
-    ensures ask { (scripts : List Lines) (k : ℕ) (results : List LogResult) (step other : ScriptStep)
-        (ask asked : Ask) → IsAsk scripts k results step ask → IsAsk scripts k results other asked
+    ensures ask { (scripts : List Lines) (k : ℕ) (results : List LogResult)
+        (step other : ScriptStep)
+        (ask asked : Ask) → IsAsk scripts k results step ask
+        → IsAsk scripts k results other asked
         → ask ≡ asked }
 {}
 
 /// What has to be permitted for an ask, the script alone says.
 pub fn scripts_fix_what_they_need()
-    ensures { (scripts : List Lines) (k : ℕ) (results : List LogResult) (step : ScriptStep) (ask : Ask)
+    ensures { (scripts : List Lines) (k : ℕ) (results : List LogResult) (step : ScriptStep)
+        (ask : Ask)
         → IsAsk scripts k results step ask → primitive_of ask ≡ primitive_of step.item.ask }
 {}
 
@@ -49,13 +53,15 @@ pub fn results_stay()
     ensures { (origin : Origin) (history more : List Entry) (id : CallId) (ask : Ask)
         (result : LogResult)
         → All (λ e. id.number < (id_of e).number) (calls_of id.agent more)
-        → IsServedAs origin history id ask result → IsServedAs origin (history ++ more) id ask result }
+        → IsServedAs origin history id ask result
+        → IsServedAs origin (history ++ more) id ask result }
 {}
 
-/// In a run of first choices the reply to an ask is one that fits it, and an ask that has none yet is one
-/// that may have to wait.
+/// In a run of first choices the reply to an ask is one that fits it, and an ask that has none yet
+/// is one that may have to wait.
 pub fn results_fit_their_asks()
-    ensures reply { (origin : Origin) (history : List Entry) (id : CallId) (ask : Ask) (reply : Reply)
+    ensures reply { (origin : Origin) (history : List Entry) (id : CallId) (ask : Ask)
+        (reply : Reply)
         → IsFirstRun origin history → IsServedAs origin history id ask (Replied reply)
         → FitsAsk ask (Replied reply) }
     ensures pending { (origin : Origin) (history : List Entry) (id : CallId) (ask : Ask)
@@ -63,10 +69,11 @@ pub fn results_fit_their_asks()
         → reply_in history id ≡ None → FitsAsk ask Pending }
 {}
 
-/// A log that agrees goes on agreeing: as the histories go on, with one row more that agrees, and with
-/// its reply for a pending row.
+/// A log that agrees goes on agreeing: as the histories go on, with one row more that agrees, and
+/// with its reply for a pending row.
 pub fn logs_go_on_agreeing()
-    ensures longer { (origins : List Origin) (names : List (List ℕ)) (olds news : List (List Entry))
+    ensures longer { (origins : List Origin) (names : List (List ℕ))
+        (olds news : List (List Entry))
         (agent : ℕ) (log : List LogRow) → Agrees origins names olds agent log
         → AreLonger agent (length log) olds news → HaveRows names news agent log
         → Agrees origins names news agent log }
@@ -75,31 +82,10 @@ pub fn logs_go_on_agreeing()
         → AreLonger agent (length log) olds news → IsNextRow origins names news agent log row
         → HaveRows names news agent (log ++ row ∷ [])
         → Agrees origins names news agent (log ++ row ∷ []) }
-    ensures answered { (origins : List Origin) (names : List (List ℕ)) (histories : List (List Entry))
+    ensures answered { (origins : List Origin) (names : List (List ℕ))
+        (histories : List (List Entry))
         (agent : ℕ) (front : List LogRow) (row : LogRow) (back : List LogRow) (reply : Reply)
         → Agrees origins names histories agent (front ++ row ∷ back)
         → HasReply names histories agent (length front) row reply
         → Agrees origins names histories agent (front ++ replied row reply ∷ back) }
-{}
-
-/// The text of histories goes on with a heading, and then with one entry after another; and so does
-/// that of logs, with rows.
-pub fn text_grows_by_parts()
-    ensures history { (agents : List (List ℕ)) (name : List ℕ)
-        → history_text agents name [] ≡ centre_heading name }
-    ensures entry { (agents : List (List ℕ)) (name : List ℕ) (history : List Entry) (e : Entry)
-        → history_text agents name (history ++ e ∷ [])
-        ≡ history_text agents name history ++ entry_text agents e }
-    ensures histories { (agents names : List (List ℕ)) (histories : List (List Entry))
-        (name : List ℕ) (history : List Entry) → length names ≡ length histories
-        → histories_text agents (names ++ name ∷ []) (histories ++ history ∷ [])
-        ≡ histories_text agents names histories ++ history_text agents name history }
-
-    ensures log { (v : Version) (name : List ℕ) → log_text v name [] ≡ agent_heading name }
-    ensures row { (v : Version) (name : List ℕ) (log : List LogRow) (r : LogRow)
-        → log_text v name (log ++ r ∷ []) ≡ log_text v name log ++ row_text v r }
-    ensures logs { (v : Version) (names : List (List ℕ)) (logs : List (List LogRow)) (name : List ℕ)
-        (log : List LogRow) → length names ≡ length logs
-        → logs_text v (names ++ name ∷ []) (logs ++ log ∷ [])
-        ≡ logs_text v names logs ++ log_text v name log }
 {}

@@ -1,5 +1,6 @@
-//! The rows of an agent's log.
-ghost use Rattle.std.specs.Prelude.{◌≡◌};
+//! The rows of an agent's log, and what is done to a log.
+ghost use Rattle.std.specs.Prelude.{◌≡◌, ◌<◌, vec_len, vec_capacity};
+ghost use Rattle.tc_desk.specs.Desks.{PutsReply, with_row};
 ghost use Rattle.tc_desk.specs.Logs.{any_pending, is_pending};
 
 use tc_model::{Ask, BadSpec, Reply};
@@ -30,8 +31,8 @@ pub enum Refusal {
     /// The agent has no turn left at the centre.
     #[error("no turn is left at the centre")]
     TurnsSpent,
-    /// The centre's history is so heavy that it takes no further call: what it weighed, and how many
-    /// requests were pending.
+    /// The centre's history is so heavy that it takes no further call: what it weighed, and how
+    /// many requests were pending.
     #[error("the centre is full: its history weighed {weight}, and {pending} requests were pending")]
     Full { weight: u64, pending: u64 },
     /// Memory has run out. It never stands in a row.
@@ -50,8 +51,8 @@ pub enum LogResult {
     Polled(Option<Reply>),
 }
 
-/// A row of an agent's log: what it asked of which centre, and what became of that. Rows are numbered
-/// from 1 on. One that polls has no ask.
+/// A row of an agent's log: what it asked of which centre, and what became of that. Rows are
+/// numbered from 1 on. One that polls has no ask.
 #[derive(Drop)]
 pub struct LogRow {
     pub number: u64,
@@ -60,19 +61,54 @@ pub struct LogRow {
     pub result: LogResult,
 }
 
+impl LogRow {
+    /// Whether the row's ask waits for a tuple.
+    pub fn is_pending(&self) -> bool
+        ensures { result ≡ is_pending self.now.result }
+    {
+        match self.result {
+            LogResult::Pending => true,
+            LogResult::Replied(_) | LogResult::Refused(_) | LogResult::Polled(_) => false,
+        }
+    }
+}
+
 /// Whether some row is pending.
 pub fn has_pending(log: &[LogRow]) -> bool
     ensures { result ≡ any_pending log.now }
 {
-    log.iter().any(|row| row_is_pending(row))
+    log.iter().any(|row| row.is_pending())
 }
 
-// Whether the row is pending.
-fn row_is_pending(row: &LogRow) -> bool
-    ensures { result ≡ is_pending row.now.result }
+/// Puts a row behind the others, with the next number. There is room.
+pub fn push_row(log: &mut Vec<LogRow>, centre: Name, ask: Option<Ask>, became: LogResult)
+    requires { vec_len log.old < vec_capacity log.old }
+    ensures { log.new.items ≡ with_row log.old.items centre ask became }
 {
-    match row.result {
-        LogResult::Pending => true,
-        LogResult::Replied(_) | LogResult::Refused(_) | LogResult::Polled(_) => false,
+    let number = log.len() as u64 + 1;
+    let row = LogRow {
+        number,
+        centre,
+        ask,
+        result: became,
+    };
+    match log.push(row) {
+        Ok(()) => {}
+        Err(_) => unreachable!(),
     }
+}
+
+/// Puts the reply into the row at this place, from 0.
+pub fn put_reply(log: &mut Vec<LogRow>, place: usize, reply: Reply)
+    requires { place < vec_len log.old }
+    ensures { PutsReply log.old.items place reply log.new.items }
+{
+    answer(&mut log[place], reply);
+}
+
+// Puts the reply into the row.
+fn answer(row: &mut LogRow, reply: Reply)
+    ensures { row.new ≡ record row.old { result = LogResult.Replied reply } }
+{
+    row.result = LogResult::Replied(reply);
 }

@@ -1,2 +1,4 @@
+pub mod Flows
 pub mod Inputs
+pub mod Openings
 pub mod Outputs

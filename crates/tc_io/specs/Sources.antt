@@ -1,5 +1,6 @@
 -- What a source has left, and what reading takes of it.
-use Rattle.std.specs.Prelude.{◌≡◌, ℕ, ◌+◌, ◌<◌, ◌≤◌, ◌↔◌, Bool, List, [], length, take, drop, Some, None}
+use Rattle.std.specs.Prelude.{◌≡◌, ℕ, ◌+◌, ◌<◌, ◌≤◌, ◌↔◌, Bool, Some, None}
+use Rattle.std.specs.Prelude.{List, [], ◌++◌, length, take, drop}
 use Rattle.std.specs.declared.option.Option.{Option}
 
 -- what an object keeps as a source
@@ -8,7 +9,8 @@ pub record SourceState : Type 0 where
   pub read_faults : ℕ
   pub sure : Bool
 
--- what the object s keeps as a source: what is left of it, its read faults, and whether it is sure
+-- what the object s keeps as a source: what is left of it, its read faults, and whether it is
+-- sure
 abbrev pub source_of : {S : Type 0} → (S → Option (List ℕ)) → (S → ℕ) → (S → Bool) → S
     → SourceState
 source_of left read_faults sure s =
@@ -24,6 +26,11 @@ pub record GivesFront (bytes : List ℕ) (n : ℕ) (buffer : List ℕ) : Type 0 
 abbrev pub Reads : Option (List ℕ) → Option (List ℕ) → ℕ → List ℕ → Type 0
 Reads None new n buffer = new ≡ None
 Reads (Some bytes) new n buffer = GivesFront bytes n buffer × (new ≡ Some (drop n bytes))
+
+-- these bytes were read from the front of what was left, and the rest is left
+abbrev pub ReadsBytes : Option (List ℕ) → Option (List ℕ) → List ℕ → Type 0
+ReadsBytes None new bytes = new ≡ None
+ReadsBytes (Some left) new bytes = (rest : List ℕ) × (left ≡ bytes ++ rest) × (new ≡ Some rest)
 
 -- these bytes, no more than the limit, are all that was left, and nothing is left
 abbrev pub ReadsAll : Option (List ℕ) → Option (List ℕ) → ℕ → List ℕ → Type 0

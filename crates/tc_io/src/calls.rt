@@ -1,6 +1,7 @@
 //! The calls of an object in memory, and which of them fail.
 ghost use Rattle.std.specs.Prelude.{◌≡◌, IsTrue};
-ghost use Rattle.tc_io.specs.Memory.{Calls, MakesCall, no_call};
+ghost use Rattle.tc_io.specs.Faults.{CountRises};
+ghost use Rattle.tc_io.specs.Memory.{Calls, MakesCall, never_fails, no_call};
 
 use std::marker::Model;
 
@@ -36,8 +37,24 @@ impl NumberedCalls {
         self.made = self.made.saturating_add(1);
         let fails = self.failing.contains(&self.made);
         if fails {
-            self.failed = self.failed.saturating_add(1);
+            self.fail();
         }
         fails
+    }
+
+    // Counts a failure of the call that was counted last.
+    pub(crate) fn fail(&mut self)
+        ensures failed { CountRises self.old.failed self.new.failed }
+        ensures made { self.new.made ≡ self.old.made }
+        ensures failing { self.new.failing ≡ self.old.failing }
+    {
+        self.failed = self.failed.saturating_add(1);
+    }
+
+    // Whether no call fails by its number.
+    pub(crate) fn never_fail(&self) -> bool
+        ensures { result ≡ never_fails self.now }
+    {
+        self.failing.is_empty()
     }
 }

@@ -12,15 +12,21 @@
 #![tactic(auto)]
 
 mod calls;
+mod doors;
+mod links;
 mod memory;
 mod outside;
+mod pieces;
 mod sinks;
 mod sources;
 mod sure;
 mod whole;
 
+pub use doors::{MemDoor, MemLink};
+pub use links::{Door, Link};
 pub use memory::{MemSink, MemSource};
 pub use outside::{StdSink, StdSource};
+pub use pieces::write_kept;
 pub use sinks::{Sink, SinkFault};
 pub use sources::{Failed, Source};
 pub use sure::{SureSink, SureSource};

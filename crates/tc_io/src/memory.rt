@@ -45,6 +45,20 @@ impl MemSource {
             calls: NumberedCalls::new(failing),
         }
     }
+
+    /// The bytes not yet read.
+    pub fn left(&self) -> &[u8]
+        ensures { ⟦<MemSource as Source>⟧.left self.now ≡ Some result.now }
+    {
+        &self.bytes[self.at..]
+    }
+
+    /// Whether no read fails.
+    pub fn is_sure(&self) -> bool
+        ensures { result ≡ ⟦<MemSource as Source>⟧.sure self.now }
+    {
+        self.calls.never_fail()
+    }
 }
 
 impl Source for MemSource {
@@ -67,7 +81,7 @@ impl Source for MemSource {
         if self.calls.next_fails() {
             return Err(Failed);
         }
-        let left = &self.bytes[self.at..];
+        let left = self.left();
         let n = left.len().min(self.piece).min(into.len());
         into[..n].copy_from_slice(&left[..n]);
         self.at += n;
@@ -113,6 +127,13 @@ impl MemSink {
         ensures { ⟦<MemSink as Sink>⟧.taken self.now ≡ Some result.now }
     {
         &self.bytes
+    }
+
+    /// Whether no write fails.
+    pub fn is_sure(&self) -> bool
+        ensures { result ≡ ⟦<MemSink as Sink>⟧.sure self.now }
+    {
+        self.calls.never_fail()
     }
 }
 

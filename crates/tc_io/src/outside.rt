@@ -2,9 +2,10 @@
 //!
 //! Nothing is told of the bytes: what the process is connected to is trusted.
 ghost use Rattle.std.specs.Prelude.{◌≡◌, ◌<◌, ◌≤◌, length, take, true, false, not};
-ghost use Rattle.std.specs.Prelude.{IfOk, IfErr, IsErr, OnOk, None};
-ghost use Rattle.std.specs.Io.KnownBytes.{ReadConsumes, Appends, Keeps};
+ghost use Rattle.std.specs.Prelude.{IfOk, IfErr, IsErr, OnOk, OnErr, None};
+ghost use Rattle.std.specs.Io.KnownBytes.{ReadConsumes, WriteAppends, Appends, Keeps};
 ghost use Rattle.tc_io.specs.Faults.{Counts};
+ghost use Rattle.tc_io.specs.Sinks.{AppendsAtMost};
 
 use crate::{Failed, Sink, SinkFault, Source};
 use std::io;
@@ -77,8 +78,8 @@ impl<W: Write> StdSink<W> {
     // Writes a front of the piece.
     fn put(&mut self, piece: &[u8]) -> Result<usize, io::Error>
         ensures count { IfOk result (λ n. n ≤ length piece.now) }
-        ensures written { IfOk result (λ n. Appends
-            (W.contents self.old.writer) (W.contents self.new.writer) (take n piece.now)) }
+        ensures written { WriteAppends
+            (W.contents self.old.writer) (W.contents self.new.writer) result piece.now }
         ensures unflushed { self.new.unflushed ≡ true }
         ensures faults { self.new.faults ≡ self.old.faults }
     {
@@ -115,6 +116,10 @@ impl<W: Write> Sink for StdSink<W> {
         ensures written { IfOk result (λ n. Appends
             (W.contents self.old.writer) (W.contents self.new.writer) (take n piece.now)) }
         ensures flushed { OnOk result (self.new.unflushed ≡ false) }
+
+        // After a fault the writer holds what it held, or a front of the piece behind it, once.
+        ensures kept { OnErr result (AppendsAtMost
+            (W.contents self.old.writer) (W.contents self.new.writer) piece.now) }
     {
         match self.put(piece) {
             Ok(n) if n > 0 && self.flush() => Ok(n),

@@ -1,5 +1,6 @@
 //! A source and a sink in memory that never fail.
-ghost use Rattle.std.specs.Prelude.{◌≡◌, ◌≤◌, ℕ, List, [], length, drop, Some, None, true};
+ghost use Rattle.std.specs.Prelude.{◌≡◌, ◌≤◌, ℕ, List, [], ◌++◌, length, drop, Some, None, true};
+ghost use Rattle.std.specs.Prelude.{IfOk, IfErr, OnOk, OnErr};
 
 use crate::{Failed, Sink, SinkFault, Source};
 use std::alloc::Global;
@@ -48,7 +49,7 @@ impl Source for SureSource {
     }
 }
 
-/// A sink in memory that takes all bytes, as long as memory lasts.
+/// A sink in memory that takes each piece whole, as long as memory lasts.
 #[derive(Drop)]
 pub struct SureSink {
     bytes: Vec<u8>,
@@ -88,7 +89,12 @@ impl Sink for SureSink {
 
     ghost other = { λ _. None };
 
-    fn write(&mut self, piece: &[u8]) -> Result<usize, SinkFault> {
+    fn write(&mut self, piece: &[u8]) -> Result<usize, SinkFault>
+        ensures whole { IfOk result (λ n. n ≡ length piece.now) }
+        ensures taken { OnOk result (self.new ≡ self.old ++ piece.now) }
+        ensures same { OnErr result (self.new ≡ self.old) }
+        ensures memory { IfErr result (λ fault. fault ≡ SinkFault.NoMemory) }
+    {
         self.bytes.extend_from_slice(piece)?;
         Ok(piece.len())
     }

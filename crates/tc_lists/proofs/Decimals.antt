@@ -1,6 +1,6 @@
 -- Decimal numbers at the front of a text: what is spelled is read again, and what is read is spelled so.
 use Rattle.std.proofs.Common.{◌≡◌, ◌≢◌, ◌⊎◌, ℕ, zero, suc, ◌+◌, ◌-◌, ◌*◌, ◌/◌, ◌%◌, ◌^◌, ◌<◌, ◌≤◌, true, false, ◌&&◌, nat_le, eqb, ℤ, pos, negsuc, List, [], ◌∷◌, ◌++◌, length, take, get_or, FitsSigned, Option, Some, None, option_map, option_and_then, sym, ap, ◌∙◌, refl, MatchOption, true≢false, eq-zero-or-pos, subst, ap₂, ⊎_elim, length-append, append_assoc, arith}
-use Rattle.std.specs.Char.{is_ascii_digit, is_ascii_lowercase, digit_value}
+use Rattle.std.specs.Char.{is_ascii_digit, digit_value}
 use Rattle.std.specs.Int.{IsInRange}
 use Rattle.std.specs.Fmt.{decimal, signed_decimal}
 use Rattle.std.specs.Str.Parse.{digits_value}
@@ -12,7 +12,7 @@ use Rattle.std.proofs.lemmas.Bool.{cases_lt, cases_Bool}
 use Rattle.std.proofs.lemmas.Int.Digits.{digits_value_more}
 use Rattle.std.proofs.lemmas.Str.{digit_value_digit}
 use Rattle.std.proofs.lemmas.Str.Parse.{digit_at, digits_value-take-le}
-use Rattle.std.proofs.lemmas.Fmt.{decimal_is_IsNumeral, decimal_digit, decimal_step, first_decimal, decimal_injective, decimal_nonempty}
+use Rattle.std.proofs.lemmas.Fmt.{decimal_is_IsNumeral, decimal_digit, decimal_step, first_decimal, decimal_injective}
 use Rattle.tc_lists.proofs.Prefixes.{append-same}
 use mir.Syntax.{w64}
 use Rattle.tc_lists.specs.Decimals.{IsNumberAt, IsLongestNumberAt, IsIntegerAt, IsLongestIntegerAt, StartsWithNoDigit, more_digits, number_at, negative, positive, integer_at}
@@ -295,20 +295,3 @@ pub integer_at-takes : (bytes : List ℕ) (z : ℤ) (rest : List ℕ) → intege
 integer_at-takes bytes z rest e =
     let longest : IsIntegerRead bytes (Some (z, rest)) = subst (λ (read : Option (ℤ × List ℕ)). IsIntegerRead bytes read) e (integer_at-read bytes) in
     longest.stands
-
--- a whole number takes some byte
-pub length-signed_decimal : (z : ℤ) → FitsSigned w64 z → 0 < length (signed_decimal z)
-length-signed_decimal (pos n) fits = let small = fits.sfits in decimal_nonempty n (omega arith)
-length-signed_decimal (negsuc n) fits = omega arith
-
-pub IsIntegerAt-shorter : (bytes : List ℕ) (z : ℤ) (rest : List ℕ) → IsIntegerAt bytes z rest → length rest < length bytes
-IsIntegerAt-shorter bytes z rest at =
-    let some = length-signed_decimal z at.fits in
-    omega (arith, length-append (signed_decimal z) rest, ap length at.text)
-
--- no number begins with a letter
-letter_tests : (b : ℕ) → is_ascii_lowercase b ≡ true → (eqb b 45 ≡ false) × (eqb b 48 ≡ false) × (is_ascii_digit b ≡ false)
-letter_tests b letter = grind arith
-
-pub integer_at-letter : (b : ℕ) (bs : List ℕ) → is_ascii_lowercase b ≡ true → integer_at (b ∷ bs) ≡ None
-integer_at-letter b bs letter = let tests = letter_tests b letter in rw (tests.0, tests.1, tests.2) refl

@@ -1,9 +1,8 @@
 -- What passes a test: of whole lists, of parts, and seen by a function.
-use Rattle.std.proofs.Common.{◌≡◌, ◌⊎◌, ℕ, Bool, true, false, cond, List, [], ◌∷◌, ◌++◌, take, drop, map, filter, All, inl, inr, refl, ap, sym, subst, ◌∙◌, append-nil}
+use Rattle.std.proofs.Common.{◌≡◌, ◌⊎◌, Bool, true, false, cond, List, [], ◌∷◌, ◌++◌, map, filter, All, inl, inr, refl, ap, sym, subst, ◌∙◌}
 use Rattle.std.proofs.lemmas.Bool.{cases_Bool}
-use Rattle.std.proofs.lemmas.List.{map-append, take-append-drop}
+use Rattle.std.proofs.lemmas.List.{map-append}
 use Rattle.std.proofs.lemmas.List.Elements.{All-nil, All-cons, All-head, All-tail, filter-append}
-use Rattle.std.proofs.lemmas.List.Folds.{map_fixed}
 
 -- a test that all pass, that none passes, and that those before a place pass
 pub filter_all : {X : Type 0} (p : X → Bool) (xs : List X) → All (λ x. p x ≡ true) xs → filter p xs ≡ xs
@@ -11,29 +10,6 @@ filter_all p [] all = refl
 filter_all p (x ∷ xs) all =
     ap (λ b. cond b (x ∷ filter p xs) (filter p xs)) (All-head (λ y. p y ≡ true) x xs all)
     ∙ ap (λ ys. x ∷ ys) (filter_all p xs (All-tail (λ y. p y ≡ true) x xs all))
-
-pub filter_none : {X : Type 0} (p : X → Bool) (xs : List X) → All (λ x. p x ≡ false) xs → filter p xs ≡ []
-filter_none p [] none = refl
-filter_none p (x ∷ xs) none =
-    ap (λ b. cond b (x ∷ filter p xs) (filter p xs)) (All-head (λ y. p y ≡ false) x xs none)
-    ∙ filter_none p xs (All-tail (λ y. p y ≡ false) x xs none)
-
-pub filter_front : {X : Type 0} (p : X → Bool) (xs : List X) (i : ℕ) → All (λ x. p x ≡ true) (take i xs)
-    → All (λ x. p x ≡ false) (drop i xs) → filter p xs ≡ take i xs
-filter_front p xs i all none =
-    ap (filter p) (sym (take-append-drop i xs))
-    ∙ filter-append p (take i xs) (drop i xs)
-    ∙ ap (λ ys. ys ++ filter p (drop i xs)) (filter_all p (take i xs) all)
-    ∙ ap (λ ys. take i xs ++ ys) (filter_none p (drop i xs) none)
-    ∙ append-nil (take i xs)
-
--- a function that changes none before a place
-pub map_behind : {X : Type 0} (f : X → X) (xs : List X) (i : ℕ) → All (λ x. f x ≡ x) (take i xs)
-    → map f xs ≡ take i xs ++ map f (drop i xs)
-map_behind f xs i same =
-    ap (map f) (sym (take-append-drop i xs))
-    ∙ map-append f (take i xs) (drop i xs)
-    ∙ ap (λ ys. ys ++ map f (drop i xs)) (map_fixed f (take i xs) same)
 
 module _ {X : Type 0} (p : X → Bool) (P : X → Type 0) where
   -- what holds of each that passes holds of each that passes behind the first
@@ -78,19 +54,6 @@ module _ {X Y : Type 0} (v : X → Y) where
       → map v (filter p (xs ++ x ∷ ys)) ≡ map v (filter p xs) ++ v x ∷ map v (filter p ys)
   map-filter_at p xs ys x passes =
       map-filter-append p xs (x ∷ ys) ∙ ap (λ rest. map v (filter p xs) ++ rest) (map-filter_pass p x ys passes)
-
-  -- an element that the test and the function don't tell from another, in its place
-  pub map-filter_exchanged : (p : X → Bool) (xs ys : List X) (x y : X) → p x ≡ p y → v x ≡ v y
-      → map v (filter p (xs ++ x ∷ ys)) ≡ map v (filter p (xs ++ y ∷ ys))
-  map-filter_exchanged p xs ys x y alike same =
-      let rest : map v (filter p (x ∷ ys)) ≡ map v (filter p (y ∷ ys)) =
-      elim (cases_Bool (p y)) [
-        | inl passes ↦
-            map-filter_pass p x ys (alike ∙ passes) ∙ ap (λ z. z ∷ map v (filter p ys)) same
-            ∙ sym (map-filter_pass p y ys passes)
-        | inr fails ↦ map-filter_fail p x ys (alike ∙ fails) ∙ sym (map-filter_fail p y ys fails)
-      ] in
-      map-filter-append p xs (x ∷ ys) ∙ ap (λ zs. map v (filter p xs) ++ zs) rest ∙ sym (map-filter-append p xs (y ∷ ys))
 
   -- tests that agree on the elements keep the same ones
   pub map-filter_alike : (p q : X → Bool) (xs : List X) → All (λ x. p x ≡ q x) xs

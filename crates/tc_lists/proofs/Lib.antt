@@ -18,8 +18,7 @@ pub mod Positions
 pub mod Gets
 pub mod Sets
 pub mod Marks
-pub mod Texts
-pub mod Behind
-pub mod Items
-pub mod Listing
+pub mod After
 pub mod Decimals
+pub mod AtFront
+pub mod OneReading

@@ -1,17 +1,8 @@
 -- Going back to marks, and numbers that don't fall.
 use Rattle.std.proofs.Common.{◌≡◌, ◌≤◌, ℕ, List, [], ◌∷◌, ◌++◌, All, get_or, refl, arith}
-use Rattle.std.proofs.lemmas.List.{same_from_push}
 use Rattle.std.proofs.lemmas.List.Elements.{All-nil, All-head, All-cons, All-push}
-use Rattle.tc_lists.specs.Marks.{with_mark, IsBack, IsGivenUp, Climbs}
+use Rattle.tc_lists.specs.Marks.{Climbs}
 use Rattle.tc_lists.proofs.Elements.{All-append_left, All-append_right}
-
--- the latest mark, where what is saved is known
-pub IsBack-with_mark : {X : Type 0} (saved : List X) (now : X) → IsBack (with_mark saved now) now saved
-IsBack-with_mark saved now before top split =
-    let same = same_from_push saved before now top split in (same.1, same.0)
-
-pub IsGivenUp-with_mark : {X : Type 0} (saved : List X) (now : X) → IsGivenUp (with_mark saved now) saved
-IsGivenUp-with_mark saved now before top split = (same_from_push saved before now top split).0
 
 -- the oldest mark stays, whatever comes behind it
 pub get_or_first-push : {X : Type 0} (xs : List X) (x d : X) → get_or (xs ++ x ∷ []) 0 d ≡ get_or xs 0 x

@@ -95,12 +95,3 @@ module _ {X : Type 0} where
             let is : top ≡ x = cc in
             (front, split ∙ ap (λ y. front ++ y ∷ []) is)
       ]
-
-  pub nil_from_last : (xs : List X) → slice_get xs (length xs - 1) ≡ None → xs ≡ []
-  nil_from_last xs at =
-      elim (nil_or_push xs) [
-        | inl none ↦ none
-        | inr (front, top, split) ↦
-            let some : Some top ≡ None = sym (slice_get_last front top) ∙ ap (λ ys. slice_get ys (length ys - 1)) (sym split) ∙ at in
-            absurd (cc)
-      ]

@@ -1,8 +1,7 @@
 -- The longest front of a list whose elements pass a test.
 use Rattle.std.proofs.Common.{◌≡◌, suc, ◌+◌, ◌≤◌, Bool, true, false, cond, List, [], ◌∷◌, ◌++◌, length, take, drop, refl, sym, ◌∙◌, ap, subst, arith}
-use Rattle.std.specs.List.{AllByRecursion, prefix_len, list_all}
+use Rattle.std.specs.List.{AllByRecursion, prefix_len}
 use Rattle.std.proofs.Math.Seq.{take-append_seam, drop-append_seam}
-use Rattle.std.proofs.lemmas.Bool.{and_parts}
 
 module _ {X : Type 0} (p : X → Bool) where
   prefix_len_pass : (x : X) (xs : List X) → p x ≡ true → prefix_len p (x ∷ xs) ≡ 1 + prefix_len p xs
@@ -26,14 +25,6 @@ module _ {X : Type 0} (p : X → Bool) where
   pub take-prefix_len_passes : (xs : List X) → AllByRecursion (λ x. p x ≡ true) (take (prefix_len p xs) xs)
   take-prefix_len_passes [] = tt
   take-prefix_len_passes (x ∷ xs) = passes_by x xs (p x) refl (take-prefix_len_passes xs)
-
-  -- it ends where the first element stands that fails
-  pub prefix_len_stop : (xs : List X) (y : X) (more : List X) → list_all p xs ≡ true → p y ≡ false
-      → prefix_len p (xs ++ y ∷ more) ≡ length xs
-  prefix_len_stop [] y more all stop = rw stop refl
-  prefix_len_stop (x ∷ xs) y more all stop =
-      let both = and_parts (p x) (list_all p xs) all in
-      rw both.0 (rw (prefix_len_stop xs y more both.1 stop) (omega arith))
 
   -- a front of this length, and what stands behind it
   pub split-prefix_len : (xs rest : List X) → prefix_len p (xs ++ rest) ≡ length xs

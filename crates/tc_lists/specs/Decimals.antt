@@ -1,5 +1,6 @@
 -- Decimal numbers at the front of a text; their text is what `{}` writes.
-use Rattle.std.specs.Prelude.{◌≡◌, ℕ, zero, suc, ◌+◌, ◌-◌, ◌*◌, ◌^◌, ◌≤◌, ◌==◌, ◌&&◌}
+use Rattle.std.specs.Prelude.{◌≡◌, ℕ, zero, suc, ◌+◌, ◌-◌, ◌*◌, ◌^◌}
+use Rattle.std.specs.Prelude.{◌≤◌, ◌==◌, ◌&&◌}
 use Rattle.std.specs.Prelude.{false, nat_le, if◌then◌else◌, ℤ, pos, negsuc, List}
 use Rattle.std.specs.Prelude.{[], ◌∷◌, ◌++◌, length, FitsSigned, Some, None}
 use Rattle.std.specs.Option.{option_map, option_and_then}
@@ -14,9 +15,11 @@ pub record IsNumberAt (limit : ℕ) (bytes : List ℕ) (n : ℕ) (rest : List �
   pub text : bytes ≡ decimal n ++ rest
 
 -- it stands there, and no longer text of a number within the limit does
-pub record IsLongestNumberAt (limit : ℕ) (bytes : List ℕ) (n : ℕ) (rest : List ℕ) : Type 0 where
+pub record IsLongestNumberAt (limit : ℕ) (bytes : List ℕ) (n : ℕ) (rest : List ℕ)
+    : Type 0 where
   pub stands : IsNumberAt limit bytes n rest
-  pub longest : (m : ℕ) (more : List ℕ) → IsNumberAt limit bytes m more → length rest ≤ length more
+  pub longest : (m : ℕ) (more : List ℕ)
+      → IsNumberAt limit bytes m more → length rest ≤ length more
 
 -- the text of this whole number of 64 bits stands at the front of the bytes, and the rest behind it
 pub record IsIntegerAt (bytes : List ℕ) (z : ℤ) (rest : List ℕ) : Type 0 where
@@ -26,7 +29,8 @@ pub record IsIntegerAt (bytes : List ℕ) (z : ℤ) (rest : List ℕ) : Type 0 w
 -- it stands there, and no longer text of a whole number does
 pub record IsLongestIntegerAt (bytes : List ℕ) (z : ℤ) (rest : List ℕ) : Type 0 where
   pub stands : IsIntegerAt bytes z rest
-  pub longest : (y : ℤ) (more : List ℕ) → IsIntegerAt bytes y more → length rest ≤ length more
+  pub longest : (y : ℤ) (more : List ℕ)
+      → IsIntegerAt bytes y more → length rest ≤ length more
 
 -- the bytes don't begin with a digit
 abbrev pub StartsWithNoDigit : List ℕ → Type 0

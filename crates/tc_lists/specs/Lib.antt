@@ -1,6 +1,7 @@
 pub mod Texts
-pub mod Items
 pub mod Decimals
+pub mod AtFront
+pub mod Seen
 pub mod Firsts
 pub mod Marks
 pub mod Codes

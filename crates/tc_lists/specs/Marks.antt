@@ -8,11 +8,13 @@ with_mark saved now = saved ++ now ∷ []
 -- back at the latest mark: the value that was saved at it, and the marks before it
 abbrev pub IsBack : {X : Type 0} → List X → X → List X → Type 0
 IsBack {X} saved now left =
-    (before : List X) (top : X) → saved ≡ before ++ top ∷ [] → (now ≡ top) × (left ≡ before)
+    (before : List X) (top : X) → saved ≡ before ++ top ∷ []
+    → (now ≡ top) × (left ≡ before)
 
 -- the latest mark is given up: only the marks before it are left
 abbrev pub IsGivenUp : {X : Type 0} → List X → List X → Type 0
-IsGivenUp {X} saved left = (before : List X) (top : X) → saved ≡ before ++ top ∷ [] → left ≡ before
+IsGivenUp {X} saved left =
+    (before : List X) (top : X) → saved ≡ before ++ top ∷ [] → left ≡ before
 
 -- the numbers don't fall, and are at most this one
 abbrev pub Climbs : List ℕ → ℕ → Type 0

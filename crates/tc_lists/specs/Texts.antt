@@ -1,7 +1,6 @@
 -- Texts that are made of pieces, and what stands behind a text.
 use Rattle.std.specs.Prelude.{ℕ, ◌==◌, if◌then◌else◌, List, [], ◌∷◌, Some, None}
 use Rattle.std.specs.List.{concat}
-use Rattle.std.specs.Option.{option_and_then}
 use Rattle.std.specs.declared.option.Option.{Option}
 
 -- these texts, one after another
@@ -13,8 +12,3 @@ abbrev pub after : List ℕ → List ℕ → Option (List ℕ)
 after [] bytes = Some bytes
 after (t ∷ ts) [] = None
 after (t ∷ ts) (b ∷ bs) = if t == b then after ts bs else None
-
--- what stands behind these texts, one after another
-abbrev pub after_all : List (List ℕ) → List ℕ → Option (List ℕ)
-after_all [] bytes = Some bytes
-after_all (text ∷ texts) bytes = option_and_then (after_all texts) (after text bytes)

@@ -12,13 +12,17 @@
 
 mod codes;
 mod cut;
+mod laws;
 mod numbers;
 mod seqs;
+mod words;
 
 pub use codes::{mix, mix_all};
 pub use cut::cut_back;
+pub use laws::texts_have_one_reading;
 pub use numbers::{append_integer, append_number, read_integer, read_number};
 pub use seqs::Seq;
+pub use words::behind;
 
 /// Memory has run out.
 pub use std::alloc::AllocError as NoMemory;

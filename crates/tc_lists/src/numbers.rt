@@ -39,7 +39,8 @@ pub fn read_number(bytes: &[u8], limit: u64) -> Option<(u64, &[u8])>
     requires { 9 ≤ limit }
     ensures exact { option_map (λ r. (r.0, r.1.now)) result ≡ number_at limit bytes.now }
     ensures found { IfSome result (λ r. IsLongestNumberAt limit bytes.now r.0 r.1.now) }
-    ensures none { IfNone result ((n : ℕ) (rest : List ℕ) → IsNumberAt limit bytes.now n rest → ⊥) }
+    ensures none { IfNone result
+        ((n : ℕ) (rest : List ℕ) → IsNumberAt limit bytes.now n rest → ⊥) }
 {
     exact_number(bytes, limit)
 }
@@ -64,7 +65,8 @@ fn exact_number(bytes: &[u8], limit: u64) -> Option<(u64, &[u8])>
 pub fn read_integer(bytes: &[u8]) -> Option<(i64, &[u8])>
     ensures exact { option_map (λ r. (r.0, r.1.now)) result ≡ integer_at bytes.now }
     ensures found { IfSome result (λ r. IsLongestIntegerAt bytes.now r.0 r.1.now) }
-    ensures none { IfNone result ((z : ℤ) (rest : List ℕ) → IsIntegerAt bytes.now z rest → ⊥) }
+    ensures none { IfNone result
+        ((z : ℤ) (rest : List ℕ) → IsIntegerAt bytes.now z rest → ⊥) }
 {
     exact_integer(bytes)
 }

@@ -1,5 +1,5 @@
 -- What a phase of an operation comes to.
-use Rattle.std.specs.Prelude.{◌≡◌, ◌≤◌, ℕ, Bool, if◌then◌else◌, Option, Some, None, List, []}
+use Rattle.std.specs.Prelude.{◌≡◌, ◌≤◌, ℕ, Option, Some, None, List, []}
 use Rattle.tc_lists.specs.Firsts.{NoneOf, IsFirst}
 use Rattle.tc_term.specs.Tree.{Tree}
 use Rattle.tc_term.specs.Variables.{var_bound}
@@ -10,6 +10,8 @@ use Rattle.tc_model.specs.Events.{Occurrence, Setting, IsSetting, success_event,
 use Rattle.tc_model.specs.State.{IsMatch, after_taking}
 use Rattle.tc_model.specs.Tuples.{after_items}
 use Rattle.tc_model.specs.Cascades.{IsWhole, IsOver}
+use Rattle.tc_model.specs.declared.calls.Wants.{Wants}
+use Rattle.tc_model.specs.declared.calls.Wants.TheVariants.{Take, Look}
 use Rattle.tc_model.specs.declared.events.EventOp.{EventOp}
 use Rattle.tc_model.specs.declared.events.EventOp.TheVariants as op
 use Rattle.tc_model.specs.declared.items.Item.{Item}
@@ -27,13 +29,10 @@ pub record IsRegime (regime : Regime) : Type 0 where
   pub setting : IsSetting (setting_in regime)
   pub budget : regime.budget ≤ MOST_BUDGET
 
--- the operation of a request, and of its answer
-abbrev pub asking_op : Bool → EventOp
-asking_op takes = if takes then op.In else op.Rd
-
--- the operation of a search that doesn't wait
-abbrev pub search_op : Bool → EventOp
-search_op takes = if takes then op.Inp else op.Rdp
+-- the operation that looks for what is wanted, and doesn't wait
+abbrev pub search_op : Wants → EventOp
+search_op Take = op.Inp
+search_op Look = op.Rdp
 
 -- the reactions to an event, over these tuples: all within the budget
 abbrev pub Reacts : Regime → Occurrence → List Tree → List Item → Type 0
@@ -52,16 +51,17 @@ IsPhase regime e start old new (Whole items) =
     Reacts regime e start items × (tuples_of new.now ≡ after_items items start)
 IsPhase regime e start old new (Over items) = Overruns regime e start items × (new ≡ old)
 
--- the first tuple that matches is found, and the phase of that begins with the tuples that are left;
--- or none matches, and the phase of the failure begins with all tuples
-abbrev pub IsSearch : Regime → Bool → Tree → Stock → Stock → Option Tree → Cascade → Type 0
-IsSearch regime takes template old new (Some tuple) cascade =
+-- the first tuple that matches is found, and the phase of that begins with the tuples that are
+-- left; or none matches, and the phase of the failure begins with all tuples
+abbrev pub IsSearch : Regime → Wants → Tree → Stock → Stock → Option Tree → Cascade
+    → Type 0
+IsSearch regime wants template old new (Some tuple) cascade =
     IsFirst (IsMatch template) (tuples_of old.now) tuple
-    × IsPhase regime (success_event (search_op takes) tuple)
-    (after_taking takes tuple (tuples_of old.now)) old new cascade
-IsSearch regime takes template old new None cascade =
+    × IsPhase regime (success_event (search_op wants) tuple)
+    (after_taking wants tuple (tuples_of old.now)) old new cascade
+IsSearch regime wants template old new None cascade =
     NoneOf (IsMatch template) (tuples_of old.now)
-    × IsPhase regime (failure_event (search_op takes) template) (tuples_of old.now) old new cascade
+    × IsPhase regime (failure_event (search_op wants) template) (tuples_of old.now) old new cascade
 
 -- the tuple of this age is the first that some template matches
 pub record IsOldest (rows : List Row) (age : ℕ) : Type 0 where

@@ -1,6 +1,9 @@
 -- What an operation does to the tuples, and the event that triggers the reactions to it.
+use Rattle.std.specs.Prelude.{ℕ}
 use Rattle.tc_bag.specs.Stock.{Stock, with_tuple, without_age}
 use Rattle.tc_model.specs.Events.{Occurrence, MayOccur, success_event, failure_event, request_event}
+use Rattle.tc_model.specs.declared.calls.Wants.{Wants}
+use Rattle.tc_model.specs.declared.calls.Wants.TheVariants as wants
 use Rattle.tc_phases.specs.declared.running.Change.{Change}
 use Rattle.tc_phases.specs.declared.running.Change.TheVariants.{Put, Take, Nothing}
 use Rattle.tc_phases.specs.declared.running.Trigger.{Trigger}
@@ -11,6 +14,11 @@ abbrev pub changed : Change → Stock → Stock
 changed (Put tuple) stock = with_tuple stock tuple.now
 changed (Take age) stock = record stock { now = without_age age stock.now }
 changed Nothing stock = stock
+
+-- the change of a search or an answer that has found the tuple of this age
+abbrev pub taking : Wants → ℕ → Change
+taking wants.Take age = Take age
+taking wants.Look age = Nothing
 
 -- the event
 abbrev pub event_in : Trigger → Occurrence

@@ -5,9 +5,9 @@
 //! as they were before the operation. Nothing here knows of requests that wait, nor of histories.
 //!
 //! ```
-//! let (found, cascade) = search(alloc, &mut store, &regime, true, &template, &mut bag)?;
+//! let (found, cascade) = search(alloc, &mut store, &regime, Wants::Take, &template, &mut bag)?;
 //! match cascade {
-//!     Cascade::Whole(items) => { .. } // what was found is taken, and the reactions to that have run
+//!     Cascade::Whole(items) => { .. } // what was found is taken, and all reactions have run
 //!     Cascade::Over(items) => { .. }  // the bag is as before
 //! }
 //! ```

@@ -1,15 +1,17 @@
 //! The phases of the operations on tuples.
-ghost use Rattle.std.specs.Prelude.{◌≡◌, ◌≤◌, ◌+◌, ◌*◌, ◌++◌, ◌∷◌, [], Some, length, IfOk, OnErr};
+ghost use Rattle.std.specs.Prelude.{◌≡◌, ◌≤◌, ◌+◌, ◌*◌, ◌++◌, ◌∷◌};
+ghost use Rattle.std.specs.Prelude.{[], Some, length, IfOk, OnErr};
 ghost use Rattle.tc_bag.specs.Stock.{tuples_of, tuple_at, AddsYounger};
 ghost use Rattle.tc_model.specs.Events.{MayOccur, success_event, request_event};
 ghost use Rattle.tc_model.specs.State.{after_taking};
+ghost use Rattle.tc_model.specs.Tables.{asking_op};
 ghost use Rattle.tc_model.specs.declared.events.EventOp.TheVariants.{Out};
 ghost use Rattle.tc_model.specs.declared.events.Phase.TheVariants.{Pre, Post};
 ghost use Rattle.tc_model.specs.declared.events.Sign.TheVariants.{Neither, Success, Failure};
 ghost use Rattle.tc_model.specs.declared.limits.TheConstants.{MOST_GOALS};
 ghost use Rattle.tc_cascade.specs.Ages.{most_ages};
 ghost use Rattle.tc_cascade.specs.Ends.{items_of};
-ghost use Rattle.tc_phases.specs.Phases.{IsRegime, IsPhase, IsSearch, IsOldest, asking_op, search_op};
+ghost use Rattle.tc_phases.specs.Phases.{IsRegime, IsPhase, IsSearch, IsOldest, search_op};
 
 use crate::regime::Regime;
 use crate::running::{Change, Trigger, run_phase, taking};
@@ -17,7 +19,7 @@ use std::alloc::Global;
 use tc_bag::Bag;
 use tc_cascade::Cascade;
 use tc_lists::NoMemory;
-use tc_model::EventOp;
+use tc_model::{EventOp, Wants};
 use tc_search::oldest_match_of;
 use tc_term::{Ground, Pattern};
 use tc_unify::Store;
@@ -25,8 +27,8 @@ use tc_unify::Store;
 /// Puts a tuple behind the others, and runs the reactions to that.
 ///
 /// The store is scratch, here and in the other phases: it may hold anything before, and nothing is
-/// said of it afterwards. Where no clause is of the operation, a phase takes neither time nor memory
-/// for clauses, whatever their number.
+/// said of it afterwards. Where no clause is of the operation, a phase takes neither time nor
+/// memory for clauses, whatever their number.
 pub fn put(
     alloc: Global,
     store: &mut Store,
@@ -39,7 +41,8 @@ pub fn put(
     ensures phase { IfOk result (IsPhase regime.now (success_event Out tuple.now)
         (tuples_of bag.old.now ++ tuple.now ∷ []) bag.old bag.new) }
     ensures same { OnErr result (bag.new ≡ bag.old) }
-    ensures next { IfOk result (λ c. bag.new.next ≤ bag.old.next + 1 + MOST_GOALS * length (items_of c)) }
+    ensures next { IfOk result
+        (λ c. bag.new.next ≤ bag.old.next + 1 + MOST_GOALS * length (items_of c)) }
 
     // After each answer:
     ensures saved { bag.new.saved ≡ bag.old.saved }
@@ -51,47 +54,49 @@ pub fn put(
     Ok(end)
 }
 
-/// Runs the reactions to a request that is about to wait for a tuple, to take it or to read it.
+/// Runs the reactions to a request that is about to wait for what it wants.
 pub fn request(
     alloc: Global,
     store: &mut Store,
     regime: &Regime,
-    takes: bool,
+    wants: Wants,
     template: &Pattern,
     bag: &mut Bag,
 ) -> Result<Cascade, NoMemory>
     requires regime { IsRegime regime.now }
     requires next { bag.old.next + most_ages + 1 ≤ u64.MAX }
-    ensures phase { IfOk result (IsPhase regime.now (request_event (asking_op takes) template.now)
+    ensures phase { IfOk result (IsPhase regime.now (request_event (asking_op wants) template.now)
         (tuples_of bag.old.now) bag.old bag.new) }
     ensures same { OnErr result (bag.new ≡ bag.old) }
-    ensures next { IfOk result (λ c. bag.new.next ≤ bag.old.next + 1 + MOST_GOALS * length (items_of c)) }
+    ensures next { IfOk result
+        (λ c. bag.new.next ≤ bag.old.next + 1 + MOST_GOALS * length (items_of c)) }
 
     // After each answer:
     ensures saved { bag.new.saved ≡ bag.old.saved }
     ensures adds { AddsYounger bag.old bag.new }
 {
-    let trigger = Trigger::Request(asking_op(takes), template);
+    let trigger = Trigger::Request(asking_op(wants), template);
     let end = run_phase(alloc, store, regime, &trigger, &Change::Nothing, bag)?;
     Ok(end)
 }
 
-/// Looks for the oldest tuple that matches, which is taken or stays, and runs the reactions to that;
-/// where none matches, those to the failure.
+/// Looks for the oldest tuple that matches, which is taken or stays, and runs the reactions to
+/// that; where none matches, those to the failure.
 ///
-/// The tuple that was found is told also where its reactions go over the budget, and it is back then.
+/// The tuple that was found is told also where its reactions go over the budget, and it is back
+/// then.
 pub fn search(
     alloc: Global,
     store: &mut Store,
     regime: &Regime,
-    takes: bool,
+    wants: Wants,
     template: &Pattern,
     bag: &mut Bag,
 ) -> Result<(Option<Ground>, Cascade), NoMemory>
     requires regime { IsRegime regime.now }
     requires next { bag.old.next + most_ages + 1 ≤ u64.MAX }
     ensures search { IfOk result
-        (λ x. IsSearch regime.now takes template.now bag.old bag.new x.0 x.1) }
+        (λ x. IsSearch regime.now wants template.now bag.old bag.new x.0 x.1) }
     ensures same { OnErr result (bag.new ≡ bag.old) }
     ensures next { IfOk result
         (λ x. bag.new.next ≤ bag.old.next + 1 + MOST_GOALS * length (items_of x.1)) }
@@ -100,14 +105,14 @@ pub fn search(
     ensures saved { bag.new.saved ≡ bag.old.saved }
     ensures adds { AddsYounger bag.old bag.new }
 {
-    let op = search_op(takes);
-    let Some((age, tuple)) = oldest_match_of(alloc, template, bag)? else {
+    let op = search_op(wants);
+    let Some((age, tuple)) = oldest_match_of(template, bag) else {
         let trigger = Trigger::Failure(op, template);
         let end = run_phase(alloc, store, regime, &trigger, &Change::Nothing, bag)?;
         return Ok((None, end));
     };
     let tuple = tuple.copy(alloc)?;
-    let end = run_found(alloc, store, regime, op, takes, age, &tuple, bag)?;
+    let end = run_found(alloc, store, regime, op, wants, age, &tuple, bag)?;
     Ok((Some(tuple), end))
 }
 
@@ -117,7 +122,7 @@ pub fn answer(
     alloc: Global,
     store: &mut Store,
     regime: &Regime,
-    takes: bool,
+    wants: Wants,
     age: u64,
     bag: &mut Bag,
 ) -> Result<(Ground, Cascade), NoMemory>
@@ -125,8 +130,8 @@ pub fn answer(
     requires next { bag.old.next + most_ages + 1 ≤ u64.MAX }
     requires oldest { IsOldest bag.old.now age }
     ensures tuple { IfOk result (λ x. tuple_at age bag.old.now ≡ Some x.0) }
-    ensures phase { IfOk result (λ x. IsPhase regime.now (success_event (asking_op takes) x.0)
-        (after_taking takes x.0 (tuples_of bag.old.now)) bag.old bag.new x.1) }
+    ensures phase { IfOk result (λ x. IsPhase regime.now (success_event (asking_op wants) x.0)
+        (after_taking wants x.0 (tuples_of bag.old.now)) bag.old bag.new x.1) }
     ensures same { OnErr result (bag.new ≡ bag.old) }
     ensures next { IfOk result
         (λ x. bag.new.next ≤ bag.old.next + 1 + MOST_GOALS * length (items_of x.1)) }
@@ -143,8 +148,8 @@ pub fn answer(
         alloc,
         store,
         regime,
-        asking_op(takes),
-        takes,
+        asking_op(wants),
+        wants,
         age,
         &tuple,
         bag,
@@ -158,7 +163,7 @@ fn run_found(
     store: &mut Store,
     regime: &Regime,
     op: EventOp,
-    takes: bool,
+    wants: Wants,
     age: u64,
     tuple: &Ground,
     bag: &mut Bag,
@@ -169,31 +174,38 @@ fn run_found(
     requires found { IsOldest bag.old.now age }
     requires there { tuple_at age bag.old.now ≡ Some tuple.now }
     ensures phase { IfOk result (IsPhase regime.now (success_event op tuple.now)
-        (after_taking takes tuple.now (tuples_of bag.old.now)) bag.old bag.new) }
+        (after_taking wants tuple.now (tuples_of bag.old.now)) bag.old bag.new) }
     ensures same { OnErr result (bag.new ≡ bag.old) }
-    ensures next { IfOk result (λ c. bag.new.next ≤ bag.old.next + 1 + MOST_GOALS * length (items_of c)) }
+    ensures next { IfOk result
+        (λ c. bag.new.next ≤ bag.old.next + 1 + MOST_GOALS * length (items_of c)) }
     ensures saved { bag.new.saved ≡ bag.old.saved }
     ensures adds { AddsYounger bag.old bag.new }
 {
     let trigger = Trigger::Success(op, tuple);
-    let end = run_phase(alloc, store, regime, &trigger, &taking(takes, age), bag)?;
+    let end = run_phase(alloc, store, regime, &trigger, &taking(wants, age), bag)?;
     Ok(end)
 }
 
-// The operation of a request and of its answer.
-fn asking_op(takes: bool) -> EventOp
-    ensures op { result ≡ asking_op takes }
+// The operation that asks for what a request wants.
+fn asking_op(wants: Wants) -> EventOp
+    ensures op { result ≡ asking_op wants }
     ensures asks { MayOccur result Pre Neither }
     ensures answers { MayOccur result Post Success }
 {
-    if takes { EventOp::In } else { EventOp::Rd }
+    match wants {
+        Wants::Take => EventOp::In,
+        Wants::Look => EventOp::Rd,
+    }
 }
 
 // The operation of a search that doesn't wait.
-fn search_op(takes: bool) -> EventOp
-    ensures op { result ≡ search_op takes }
+fn search_op(wants: Wants) -> EventOp
+    ensures op { result ≡ search_op wants }
     ensures finds { MayOccur result Post Success }
     ensures fails { MayOccur result Post Failure }
 {
-    if takes { EventOp::Inp } else { EventOp::Rdp }
+    match wants {
+        Wants::Take => EventOp::Inp,
+        Wants::Look => EventOp::Rdp,
+    }
 }

@@ -1,5 +1,6 @@
 //! A change of the tuples, and then the reactions to its event.
-ghost use Rattle.std.specs.Prelude.{◌≡◌, ◌≤◌, ◌<◌, ◌+◌, ◌*◌, length, if◌then◌else◌, IfOk, OnOk, OnErr};
+ghost use Rattle.std.specs.Prelude.{◌≡◌, ◌≤◌, ◌<◌, ◌+◌, ◌*◌, length, IfOk};
+ghost use Rattle.std.specs.Prelude.{OnOk, OnErr};
 ghost use Rattle.tc_bag.specs.Stock.{AddsYounger, tuples_of};
 ghost use Rattle.tc_model.specs.Events.{MayOccur, success_event};
 ghost use Rattle.tc_model.specs.declared.events.Phase.TheVariants.{Post};
@@ -8,15 +9,14 @@ ghost use Rattle.tc_model.specs.declared.limits.TheConstants.{MOST_GOALS};
 ghost use Rattle.tc_cascade.specs.Ages.{most_ages};
 ghost use Rattle.tc_cascade.specs.Ends.{IsEnd, items_of};
 ghost use Rattle.tc_phases.specs.Phases.{IsRegime, IsPhase, setting_in};
-ghost use Rattle.tc_phases.specs.Running.{changed, event_in, IsAllowed};
-ghost use Rattle.tc_phases.specs.declared.running.Change.TheVariants.{Take, Nothing};
+ghost use Rattle.tc_phases.specs.Running.{changed, event_in, taking, IsAllowed};
 
 use crate::regime::Regime;
 use std::alloc::Global;
 use tc_bag::Bag;
 use tc_cascade::{Cascade, keep_or_undo, run_in};
 use tc_lists::{NoMemory, Seq};
-use tc_model::{Context, Event, EventOp, Phase, Sign};
+use tc_model::{Context, Event, EventOp, Phase, Sign, Wants};
 use tc_term::{Ground, Pattern};
 use tc_unify::Store;
 
@@ -40,13 +40,12 @@ pub enum Trigger<'a> {
 }
 
 /// The change of a search or an answer that has found the tuple of this age.
-pub fn taking<'a>(takes: bool, age: u64) -> Change<'a>
-    ensures { result ≡ (if takes then Take age else Nothing) }
+pub fn taking<'a>(wants: Wants, age: u64) -> Change<'a>
+    ensures { result ≡ taking wants age }
 {
-    if takes {
-        Change::Take(age)
-    } else {
-        Change::Nothing
+    match wants {
+        Wants::Take => Change::Take(age),
+        Wants::Look => Change::Nothing,
     }
 }
 
@@ -66,7 +65,8 @@ pub fn run_phase(
     ensures phase { IfOk result (IsPhase regime.now (event_in trigger.now)
         (tuples_of (changed change.now bag.old).now) bag.old bag.new) }
     ensures same { OnErr result (bag.new ≡ bag.old) }
-    ensures next { IfOk result (λ c. bag.new.next ≤ bag.old.next + 1 + MOST_GOALS * length (items_of c)) }
+    ensures next { IfOk result
+        (λ c. bag.new.next ≤ bag.old.next + 1 + MOST_GOALS * length (items_of c)) }
     ensures saved { bag.new.saved ≡ bag.old.saved }
     ensures adds { AddsYounger bag.old bag.new }
 {
@@ -95,7 +95,8 @@ fn make_and_run(
     requires next { bag.old.next + most_ages + 1 ≤ u64.MAX }
     ensures ends { IfOk result (IsEnd regime.now.spec.now (setting_in regime.now) regime.now.budget
         (event_in trigger.now) (changed change.now bag.old) bag.new) }
-    ensures next { IfOk result (λ c. bag.new.next ≤ bag.old.next + 1 + MOST_GOALS * length (items_of c)) }
+    ensures next { IfOk result
+        (λ c. bag.new.next ≤ bag.old.next + 1 + MOST_GOALS * length (items_of c)) }
     ensures saved { bag.new.saved ≡ bag.old.saved }
     ensures adds { AddsYounger bag.old bag.new }
 {
@@ -165,7 +166,7 @@ impl Trigger<'_> {
     {
         match self {
             Trigger::Success(op, tuple) => {
-                let event = success(alloc, *op, tuple)?;
+                let event = Event::success(alloc, *op, tuple)?;
                 Ok(event)
             }
             Trigger::Failure(op, template) => {
@@ -178,18 +179,6 @@ impl Trigger<'_> {
             }
         }
     }
-}
-
-// The event that an operation has succeeded with a tuple.
-fn success(alloc: Global, op: EventOp, tuple: &Ground) -> Result<Event, NoMemory>
-    requires { MayOccur op Post Success }
-    ensures { IfOk result (λ e. e ≡ success_event op tuple.now) }
-{
-    // Reading the two terms tells that they are ground, and a template.
-    let _tuple = tuple.term();
-    let template = Pattern::of_tuple(tuple.copy(alloc)?);
-    let _template = template.term();
-    Ok(Event::new(op, template, Phase::Post, Sign::Success))
 }
 
 // The event of an operation that has no tuple.

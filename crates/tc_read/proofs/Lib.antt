@@ -8,7 +8,6 @@ pub mod Framed
 pub mod Lexemes
 pub mod Quotes
 pub mod Blanks
-pub mod Better
 pub mod Answering
 pub mod Judging
 pub mod Order
@@ -33,3 +32,7 @@ pub mod AtFront
 pub mod Spelling
 pub mod Printed
 pub mod ReadBack
+pub mod OneEnd
+pub mod Onward
+pub mod AllRead
+pub mod NoGap

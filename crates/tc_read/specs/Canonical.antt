@@ -1,5 +1,6 @@
 -- The canonical text of templates in a text.
-use Rattle.std.specs.Prelude.{◌≡◌, ◌≢◌, ℕ, ◌+◌, ◌≤◌, false, List, [], ◌∷◌, ◌++◌, drop, length}
+use Rattle.std.specs.Prelude.{◌≡◌, ◌≢◌, ℕ, ◌+◌, ◌≤◌, false, List, []}
+use Rattle.std.specs.Prelude.{◌∷◌, ◌++◌, drop, length}
 use Rattle.tc_term.specs.Bytes.{is_word}
 use Rattle.tc_term.specs.Text.{canonical}
 use Rattle.tc_term.specs.Tree.{Tree}
@@ -14,7 +15,8 @@ pub record IsCanonicalAt (text : List ℕ) (from : ℕ) (p : Tree) (behind : ℕ
   pub place : behind + length rest ≡ length text
 
 -- it stands there, and no longer canonical text of a template does
-pub record IsLongestCanonicalAt (text : List ℕ) (from : ℕ) (p : Tree) (behind : ℕ) : Type 0 where
+pub record IsLongestCanonicalAt (text : List ℕ) (from : ℕ) (p : Tree) (behind : ℕ)
+    : Type 0 where
   pub stands : IsCanonicalAt text from p behind
   pub longest : (q : Tree) (end : ℕ) → IsCanonicalAt text from q end → end ≤ behind
 

@@ -1,12 +1,14 @@
 -- What stands open, and where the reader stands, as the code has it.
-use Rattle.std.specs.Prelude.{◌≡◌, ℕ, zero, suc, List, [], ◌∷◌, map, reverse, Option, Some, None}
+use Rattle.std.specs.Prelude.{◌≡◌, ℕ, zero, suc, List, [], ◌∷◌, map, reverse}
+use Rattle.std.specs.Prelude.{Option, Some, None}
 use Rattle.tc_term.specs.Grammar as grammar
 use Rattle.tc_read.specs.Machine as machine
 use Rattle.tc_read.specs.Kept.{Kept, Large, kept}
 use Rattle.tc_read.specs.Views.{operator_view, token_view}
 use Rattle.tc_read.specs.Items.{done_of}
 use Rattle.tc_read.specs.declared.frames.Frame.{Frame}
-use Rattle.tc_read.specs.declared.frames.Frame.TheVariants.{Between, Negated, Group, Args, Elements, Tail}
+use Rattle.tc_read.specs.declared.frames.Frame.TheVariants.{Between, Negated, Group, Args}
+use Rattle.tc_read.specs.declared.frames.Frame.TheVariants.{Elements, Tail}
 use Rattle.tc_read.specs.declared.frames.Stack.{Stack}
 use Rattle.tc_read.specs.declared.frames.Step.{Step}
 use Rattle.tc_read.specs.declared.frames.State.{State}

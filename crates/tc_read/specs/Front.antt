@@ -1,11 +1,13 @@
 -- The canonical text of a term at the front of bytes, as the reader finds it: greedily, within the
 -- room, and with no way back.
 use Rattle.std.specs.Prelude.{ℕ, ℤ, zero, suc, Bool, true, false, if◌then◌else◌}
-use Rattle.std.specs.Prelude.{◌&&◌, ◌||◌, ◌==◌, nat_lt, min, List, [], ◌∷◌, length}
+use Rattle.std.specs.Prelude.{◌&&◌, ◌||◌, ◌==◌, nat_lt, min, List, [], ◌∷◌}
+use Rattle.std.specs.Prelude.{length}
 use Rattle.std.specs.Prelude.{take, drop, Some, None, codes, is_some}
 use Rattle.tc_term.specs.Bytes.{is_word, is_name_start}
 use Rattle.std.specs.declared.option.Option.{Option}
 use Rattle.std.specs.List.{prefix_len}
+use Rattle.tc_lists.specs.AtFront.{Front, made}
 use Rattle.tc_lists.specs.Decimals.{number_at, integer_at}
 use Rattle.tc_term.specs.Limits.{most_depth, most_name_bytes}
 use Rattle.tc_term.specs.Text.{Place, Alone, Behind, is_name, is_nil, is_dot}
@@ -24,27 +26,26 @@ abbrev pub leaf : Option Budget → Tree → List ℕ → Read Tree
 leaf None t rest = None
 leaf (Some left) t rest = Some (t, left, rest)
 
-abbrev pub variable : Budget → Option (ℕ × List ℕ) → Read Tree
+abbrev pub variable : Budget → Front ℕ → Read Tree
 variable budget None = None
 variable budget (Some (n, rest)) = leaf (then_in (numbered n budget) (paid 0)) (Variable n) rest
 
-abbrev pub number : Budget → Option (ℤ × List ℕ) → Read Tree
+abbrev pub number : Budget → Front ℤ → Read Tree
 number budget None = None
 number budget (Some (z, rest)) = leaf (paid 0 budget) (Number z) rest
 
-abbrev pub with_byte : ℕ → Option (List ℕ × List ℕ) → Option (List ℕ × List ℕ)
-with_byte b None = None
-with_byte b (Some (bytes, rest)) = Some (b ∷ bytes, rest)
+abbrev pub with_byte : ℕ → Front (List ℕ) → Front (List ℕ)
+with_byte b read = made (λ bytes. b ∷ bytes) read
 
 -- the bytes that are written at the front up to a closing quote, and what stands behind it
 abbrev mutual
-  pub quoted_at : List ℕ → Option (List ℕ × List ℕ)
+  pub quoted_at : List ℕ → Front (List ℕ)
   quoted_at [] = None
   quoted_at (b ∷ s) = if b == 39 then Some ([], s)
       else (if b == 92 then escaped_at s
       else (if b == 10 || b == 9 then None else with_byte b (quoted_at s)))
 
-  pub escaped_at : List ℕ → Option (List ℕ × List ℕ)
+  pub escaped_at : List ℕ → Front (List ℕ)
   escaped_at [] = None
   escaped_at (b ∷ s) = if is_some (escape b) then with_byte (meant b) (quoted_at s) else None
 
@@ -56,12 +57,12 @@ word_at limit bytes = (
 )
 
 -- a quoted name, where it can't be written plainly
-abbrev pub unplain : Option (List ℕ × List ℕ) → Option (List ℕ × List ℕ)
+abbrev pub unplain : Front (List ℕ) → Front (List ℕ)
 unplain None = None
 unplain (Some (name, rest)) = if is_name name then None else Some (name, rest)
 
 -- the name at the front, and what stands behind it
-abbrev pub name_at : ℕ → List ℕ → Option (List ℕ × List ℕ)
+abbrev pub name_at : ℕ → List ℕ → Front (List ℕ)
 name_at limit [] = None
 name_at limit (b ∷ s) = if b == 39 then unplain (quoted_at s)
     else (if is_name_start b && nat_lt 0 limit then Some (word_at limit (b ∷ s)) else None)
@@ -105,7 +106,8 @@ argument more (Some (t, budget, b ∷ s)) = if b == 41 then Some (Last t, budget
     else (if b == 44 then before t (more budget s) else None)
 
 -- at most so many arguments
-abbrev pub arguments : (Budget → List ℕ → Read Tree) → ℕ → Budget → List ℕ → Read Trees
+abbrev pub arguments :
+    (Budget → List ℕ → Read Tree) → ℕ → Budget → List ℕ → Read Trees
 arguments read zero budget bytes = None
 arguments read (suc n) budget bytes = argument (arguments read n) (read budget bytes)
 
@@ -137,7 +139,7 @@ module _ (below : Place → Budget → List ℕ → Read Tree) where
   named budget name [] = atom name budget []
   named budget name (b ∷ s) = if b == 40 then called name budget s else atom name budget (b ∷ s)
 
-  abbrev pub named_or_number : Budget → List ℕ → Option (List ℕ × List ℕ) → Read Tree
+  abbrev pub named_or_number : Budget → List ℕ → Front (List ℕ) → Read Tree
   named_or_number budget bytes None = number budget (integer_at bytes)
   named_or_number budget bytes (Some (name, rest)) = named budget name rest
 
@@ -172,7 +174,7 @@ reads (suc d) Alone budget bytes = node (reads d) budget bytes
 reads (suc d) Behind budget bytes = tail (reads d) budget bytes
 
 -- the name at the front as an atom
-abbrev pub head : Option (List ℕ × List ℕ) → Read Tree
+abbrev pub head : Front (List ℕ) → Read Tree
 head None = None
 head (Some (name, rest)) = atom name whole rest
 

@@ -1,6 +1,7 @@
 -- A second meaning of the grammar: a term is kept only while it fits and no integer in it is too
 -- wide.
-use Rattle.std.specs.Prelude.{ℕ, ◌+◌, max, Bool, true, false, ◌&&◌, nat_le, List, [], ◌∷◌, Option, Some, None}
+use Rattle.std.specs.Prelude.{ℕ, ◌+◌, max, Bool, true, false, ◌&&◌, nat_le, List, []}
+use Rattle.std.specs.Prelude.{◌∷◌, Option, Some, None}
 use Rattle.tc_term.specs.Tree.{Tree, Compound, nodes, depth, name_bytes}
 use Rattle.tc_term.specs.Grammar.{Meaning}
 use Rattle.tc_term.specs.Limits.{most_depth, most_name_bytes, most_nodes}

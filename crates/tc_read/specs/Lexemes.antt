@@ -2,7 +2,8 @@
 use Rattle.tc_term.specs.Tokens as spelled
 use Rattle.tc_read.specs.Views.{sign_view, unquoted}
 use Rattle.tc_read.specs.declared.lexeme.Mark.{Mark}
-use Rattle.tc_read.specs.declared.lexeme.Mark.TheVariants.{Open, Close, OpenList, CloseList, Comma, Bar}
+use Rattle.tc_read.specs.declared.lexeme.Mark.TheVariants.{Open, Close, OpenList, CloseList}
+use Rattle.tc_read.specs.declared.lexeme.Mark.TheVariants.{Comma, Bar}
 use Rattle.tc_read.specs.declared.lexeme.Lexeme.{Lexeme}
 use Rattle.tc_read.specs.declared.lexeme.Lexeme.TheVariants.{Word, Variable, Number, Quoted}
 use Rattle.tc_read.specs.declared.lexeme.Lexeme.TheVariants.{Symbol, Punctuation}

@@ -1,5 +1,6 @@
 -- Where tokens of a kind end, as the scanner finds it.
-use Rattle.std.specs.Prelude.{ℕ, ◌+◌, Bool, false, if◌then◌else◌, ◌&&◌, ◌||◌, ◌==◌}
+use Rattle.std.specs.Prelude.{ℕ, ◌+◌, Bool, false, if◌then◌else◌, ◌&&◌, ◌||◌}
+use Rattle.std.specs.Prelude.{◌==◌}
 use Rattle.std.specs.Prelude.{nat_le, List, [], ◌∷◌, Option, Some, None, is_some}
 use Rattle.tc_term.specs.Tokens.{Sign, EqColonEq, EqBackEq, EqLess, GreaterEq}
 use Rattle.tc_term.specs.Tokens.{BackEq, SlashSlash, Equal, Less, Greater, Plus}

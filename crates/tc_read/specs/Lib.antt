@@ -13,6 +13,7 @@ pub mod Variables
 pub mod Scanner
 pub mod Scan
 pub mod ReadAnswers
+pub mod Clauses
 pub mod Written
 pub mod Budget
 pub mod Front

@@ -1,4 +1,5 @@
-use Rattle.std.specs.Prelude.{ℕ, true, false, if◌then◌else◌, ◌&&◌, nat_le, List, [], ◌∷◌, Option, Some, None}
+use Rattle.std.specs.Prelude.{ℕ, true, false, if◌then◌else◌, ◌&&◌, nat_le, List, []}
+use Rattle.std.specs.Prelude.{◌∷◌, Option, Some, None}
 use Rattle.tc_term.specs.Tokens.{Sign, Minus, sign_bytes}
 use Rattle.tc_term.specs.Grammar.{Token, Variable, Integer, Name, Symbol, Open, Close}
 use Rattle.tc_term.specs.Grammar.{OpenList, CloseList, Comma, Bar, Operator, infix_of}
@@ -90,7 +91,8 @@ module _ {A : Type 0} (m : Meaning A) where
   close_group s a (Close ∷ ts) = Goes_to s (Holds a 0) ts
   close_group s a _ = Refused
 
-  abbrev pub close_argument : List (Frame A) → List ℕ → List A → A → List Token → MachineStep A
+  abbrev pub close_argument :
+      List (Frame A) → List ℕ → List A → A → List Token → MachineStep A
   close_argument s name done a (Close ∷ ts) = Goes_to s
       (Holds (applied name (turned done (a ∷ []))) 0) ts
   close_argument s name done a (Comma ∷ ts) = Goes_to (Args name (a ∷ done) ∷ s) Awaits ts

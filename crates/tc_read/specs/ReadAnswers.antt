@@ -2,7 +2,8 @@
 use Rattle.std.specs.Prelude.{ℕ, Option, Some, None, Result, Ok, Err}
 use Rattle.tc_term.specs.Faults as faults
 use Rattle.tc_read.specs.declared.fault.ReadFault.{ReadFault}
-use Rattle.tc_read.specs.declared.fault.ReadFault.TheVariants.{Syntax, WideInt, TooMany, TooBig, NoMemory}
+use Rattle.tc_read.specs.declared.fault.ReadFault.TheVariants.{Syntax, WideInt, TooMany, TooBig}
+use Rattle.tc_read.specs.declared.fault.ReadFault.TheVariants.{NoMemory}
 use Rattle.tc_term.specs.declared.template.Pattern.{Pattern}
 
 -- the place, or the end where there is none

@@ -15,7 +15,3 @@ term_seen (Some (t, budget, rest)) = Some (tree_of t, budget, rest.now)
 abbrev pub arguments_seen : Option (Trees × Budget × Bor (List ℕ)) → Read Trees
 arguments_seen None = None
 arguments_seen (Some (ts, budget, rest)) = Some (ts, budget, rest.now)
-
-abbrev pub name_seen : Option (List ℕ × Bor (List ℕ)) → Option (List ℕ × List ℕ)
-name_seen None = None
-name_seen (Some (name, rest)) = Some (name, rest.now)

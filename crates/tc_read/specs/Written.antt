@@ -5,7 +5,8 @@ use Rattle.tc_read.specs.declared.quote.Written.{Written}
 use Rattle.tc_read.specs.declared.quote.Written.TheVariants.{Closing, Byte, Fault}
 
 -- the quoted text of the bytes stands in the text at this place, and ends at the place behind it
-pub record IsQuotedAt (text : List ℕ) (from : ℕ) (bytes : List ℕ) (behind : ℕ) : Type 0 where
+pub record IsQuotedAt (text : List ℕ) (from : ℕ) (bytes : List ℕ) (behind : ℕ)
+    : Type 0 where
   pub rest : List ℕ
   pub stands : drop from text ≡ quoted bytes ++ rest
   pub place : behind + length rest ≡ length text

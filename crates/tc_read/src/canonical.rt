@@ -70,7 +70,8 @@ fn called<'a>(
 #[cycle(canonical)]
 fn arguments<'a>(alloc: Global, depth: usize, budget: Budget, bytes: &'a [u8]) -> Read<'a, Args>
     ensures { IfOk result
-        (λ r. arguments_seen r ≡ arguments (reads depth Alone) budget.room.nodes budget bytes.now) }
+        (λ r. arguments_seen r
+        ≡ arguments (reads depth Alone) budget.room.nodes budget bytes.now) }
 {
     let mut terms = Vec::new(alloc);
     let mut left = budget;
@@ -251,7 +252,8 @@ pub fn read_canonical(
     ensures found { IfOk result
         (λ r. IfSome r (λ p. IsLongestCanonicalAt text.now from p.0 p.1)) }
     ensures none { IfOk result
-        (λ r. IfNone r ((p : Tree) (behind : ℕ) → IsCanonicalAt text.now from p behind → ⊥)) }
+        (λ r. IfNone r ((p : Tree) (behind : ℕ)
+        → IsCanonicalAt text.now from p behind → ⊥)) }
 {
     let Some((term, _, rest)) = at_front(alloc, rest_from(text, from))? else {
         return Ok(None);

@@ -64,7 +64,8 @@ fn close<'a>(alloc: Global, stack: &mut Stack, tokens: Tokens<'a>) -> Move<'a>
 /// The end, where no tokens are left.
 fn close_all<'a>(tokens: Tokens<'a>) -> Option<Step<'a>>
     ensures { (stack : Stack) → frames_of stack ≡ []
-        → IsMove (close_all kept (top (items_of stack)) (map token_view tokens.now)) stack result }
+        → IsMove (close_all kept (top (items_of stack)) (map token_view tokens.now)) stack
+        result }
 {
     if tokens.is_empty() {
         Some(Step {
@@ -105,8 +106,9 @@ fn close_negated<'a>(alloc: Global, stack: &mut Stack, tokens: Tokens<'a>) -> Mo
 
 /// The closing of a round bracket.
 fn close_group<'a>(tokens: Tokens<'a>) -> Option<Step<'a>>
-    ensures { (stack : Stack) → IsMove (close_group kept (opened_below stack) (top (items_of stack))
-        (map token_view tokens.now)) stack result }
+    ensures { (stack : Stack) → IsMove
+        (close_group kept (opened_below stack) (top (items_of stack)) (map token_view tokens.now))
+        stack result }
 {
     match delimited(tokens) {
         Some((Delimiter::Close, rest)) => Some(Step {

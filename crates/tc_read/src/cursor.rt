@@ -1,5 +1,6 @@
 //! What stands at the front of tokens.
-ghost use Rattle.std.specs.Prelude.{◌≡◌, ◌∷◌, [], IfNone, IfSome, MatchOption, map, true};
+ghost use Rattle.std.specs.Prelude.{◌≡◌, ◌∷◌, [], IfNone, IfSome, MatchOption, map};
+ghost use Rattle.std.specs.Prelude.{true};
 ghost use Rattle.tc_term.specs.Grammar.{CloseList, Integer, NotCalled, NotNumber, Open};
 ghost use Rattle.tc_read.specs.Delimiters.{NoDelimiter, NotClosed, delimiter_view};
 ghost use Rattle.tc_read.specs.Views.{token_view};

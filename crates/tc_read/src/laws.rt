@@ -1,5 +1,6 @@
 //! Laws of reading, for callers to cite.
-ghost use Rattle.std.specs.Prelude.{◌≡◌, ◌+◌, ◌++◌, Bool, IsTrue, List, codes, drop, false};
+ghost use Rattle.std.specs.Prelude.{◌≡◌, ◌+◌, ◌++◌, Bool, IsTrue, List, codes};
+ghost use Rattle.std.specs.Prelude.{drop, false};
 ghost use Rattle.std.specs.Prelude.{length, true, ℕ};
 ghost use Rattle.tc_term.specs.Layouts.{IsBehindEnd};
 ghost use Rattle.tc_term.specs.Text.{canonical};
@@ -13,8 +14,14 @@ ghost use Rattle.tc_term.specs.Readable.{IsReadable};
 
 /// A text has one reading at most: so what reads it is the only answer, whichever way it was found.
 pub fn reading_is_unique()
-    ensures { (clauses : Bool) (size : ℕ) (s : List ℕ) (a b : Answer) → ReadsAs clauses size s a
-        → ReadsAs clauses size s b → a ≡ b }
+    ensures { (clauses : Bool) (size : ℕ) (s : List ℕ) (a b : Answer)
+        → ReadsAs clauses size s a → ReadsAs clauses size s b → a ≡ b }
+{}
+
+/// No text is without a reading, so the answers of the reader leave no gap.
+pub fn each_text_has_a_reading()
+    ensures { (clauses : Bool) (size : ℕ) (s : List ℕ)
+        → ((a : Answer) → ReadsAs clauses size s a → ⊥) → ⊥ }
 {}
 
 /// A name that is read holds no byte below 32 but line feeds and tabs.

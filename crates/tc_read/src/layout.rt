@@ -1,6 +1,8 @@
 //! Layout: blanks and comments.
-ghost use Rattle.std.specs.Prelude.{◌≡◌, ◌∷◌, [], IfNone, IfSome, List, MatchOption, ℕ};
-ghost use Rattle.tc_term.specs.Layouts.{ClosesBlock, Layout, NoPiece, Piece, ToBlockEnd, ToLineEnd, is_blank};
+ghost use Rattle.std.specs.Prelude.{◌≡◌, ◌∷◌, [], IfNone, IfSome, List, MatchOption};
+ghost use Rattle.std.specs.Prelude.{ℕ};
+ghost use Rattle.tc_term.specs.Layouts.{ClosesBlock, Layout, NoPiece, Piece, ToBlockEnd};
+ghost use Rattle.tc_term.specs.Layouts.{ToLineEnd, is_blank};
 
 /// The first byte and the others.
 pub fn next_byte(text: &[u8]) -> Option<(u8, &[u8])>

@@ -1,5 +1,6 @@
 //! The longest token at the front of a text.
-ghost use Rattle.std.specs.Prelude.{◌≡◌, ◌<◌, ◌≤◌, ◌&&◌, ◌∷◌, ◌++◌, false, IfNone, IfSome};
+ghost use Rattle.std.specs.Prelude.{◌≡◌, ◌<◌, ◌≤◌, ◌&&◌, ◌∷◌, ◌++◌};
+ghost use Rattle.std.specs.Prelude.{false, IfNone, IfSome};
 ghost use Rattle.std.specs.Prelude.{None, Some, length, true};
 ghost use Rattle.std.specs.List.{prefix_len};
 ghost use Rattle.std.specs.Char.{is_ascii_digit};
@@ -38,7 +39,8 @@ pub enum Lexeme<'a> {
 
 /// The punctuation mark that the byte is.
 pub fn punctuation(byte: u8) -> Option<Mark>
-    ensures some { IfSome result (λ m. (byte ≡ mark_byte (mark_view m)) × (is_mark byte ≡ true)) }
+    ensures some { IfSome result
+        (λ m. (byte ≡ mark_byte (mark_view m)) × (is_mark byte ≡ true)) }
     ensures none { IfNone result (is_mark byte ≡ false) }
 {
     match byte {

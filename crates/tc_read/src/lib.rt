@@ -17,6 +17,7 @@ mod brackets;
 mod budget;
 mod build;
 mod canonical;
+mod clauses;
 mod close;
 mod compound;
 mod cursor;
@@ -41,10 +42,12 @@ mod tokens;
 mod variables;
 
 pub use canonical::read_canonical;
+pub use clauses::{Unread, next_clause};
 pub use fault::ReadFault;
 pub use laws::{
-    canonical_reading_is_unique, canonical_text_reads_back, printed_clause_is_read_back,
-    printed_term_is_read_back, read_names_hold_no_control_bytes, reading_is_unique,
+    canonical_reading_is_unique, canonical_text_reads_back, each_text_has_a_reading,
+    printed_clause_is_read_back, printed_term_is_read_back, read_names_hold_no_control_bytes,
+    reading_is_unique,
 };
 pub use quote::read_quoted;
 pub use read::{read_clause, read_term};

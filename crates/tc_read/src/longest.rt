@@ -65,7 +65,8 @@ fn words<'a>(text: &'a [u8], first: u8, after: &[u8]) -> (&'a [u8], &'a [u8])
 /// The first byte and the digits behind it, and what stands behind them.
 fn digits<'a>(text: &'a [u8], first: u8, after: &[u8]) -> (&'a [u8], &'a [u8])
     requires { text.now ≡ first ∷ after.now }
-    ensures bytes { result.0.now ≡ first ∷ take (prefix_len is_ascii_digit after.now) after.now }
+    ensures bytes { result.0.now
+        ≡ first ∷ take (prefix_len is_ascii_digit after.now) after.now }
     ensures rest { result.1.now ≡ drop (prefix_len is_ascii_digit after.now) after.now }
 {
     text.split_at(digits_length(after) + 1)

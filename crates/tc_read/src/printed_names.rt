@@ -1,7 +1,7 @@
 //! Names in canonical text: plain words, and quoted ones that cannot be written plainly.
 ghost use Rattle.std.specs.Prelude.{◌≡◌, ◌∷◌, IfOk, List, ℕ};
+ghost use Rattle.tc_lists.specs.Seen.{seen};
 ghost use Rattle.tc_read.specs.Front.{name_at, quoted_at, unplain};
-ghost use Rattle.tc_read.specs.Seen.{name_seen};
 
 use crate::layout::next_byte;
 use crate::lexeme::word_length;
@@ -17,7 +17,7 @@ pub type ReadName<'a> = Result<Option<(Name, &'a [u8])>, NoMemory>;
 /// The name whose quoted text stands at the front, unless it can be written plainly.
 fn quoted_name<'a>(alloc: Global, bytes: &'a [u8]) -> ReadName<'a>
     ensures { (s : List ℕ) → bytes.now ≡ 39 ∷ s
-        → IfOk result (λ r. name_seen r ≡ unplain (quoted_at s)) }
+        → IfOk result (λ r. seen r ≡ unplain (quoted_at s)) }
 {
     let Some((name, end)) = read_quoted(alloc, bytes, 0)? else {
         return Ok(None);
@@ -30,7 +30,7 @@ fn quoted_name<'a>(alloc: Global, bytes: &'a [u8]) -> ReadName<'a>
 
 /// The name at the front, and what stands behind it. A plain one has at most so many bytes.
 pub fn name_at<'a>(alloc: Global, bytes: &'a [u8], limit: usize) -> ReadName<'a>
-    ensures { IfOk result (λ r. name_seen r ≡ name_at limit bytes.now) }
+    ensures { IfOk result (λ r. seen r ≡ name_at limit bytes.now) }
 {
     match next_byte(bytes) {
         None => Ok(None),

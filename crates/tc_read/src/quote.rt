@@ -1,5 +1,6 @@
 //! Quoted texts of any length, in the form in which they are printed.
-ghost use Rattle.std.specs.Prelude.{◌≡◌, ◌≤◌, ◌∷◌, ◌++◌, List, IfNone, IfOk, IfSome, drop, length, ℕ};
+ghost use Rattle.std.specs.Prelude.{◌≡◌, ◌≤◌, ◌∷◌, ◌++◌, List, IfNone};
+ghost use Rattle.std.specs.Prelude.{IfOk, IfSome, drop, length, ℕ};
 ghost use Rattle.tc_term.specs.Text.{quoted};
 ghost use Rattle.tc_read.specs.Written.{IsQuotedAt, IsWritten};
 
@@ -59,7 +60,8 @@ pub fn read_quoted(
     requires { from ≤ length text.now }
     ensures found { IfOk result (λ r. IfSome r (λ q. IsQuotedAt text.now from q.0.items q.1)) }
     ensures none { IfOk result
-        (λ r. IfNone r ((bytes rest : List ℕ) → drop from text.now ≡ quoted bytes ++ rest → ⊥)) }
+        (λ r. IfNone r ((bytes rest : List ℕ)
+        → drop from text.now ≡ quoted bytes ++ rest → ⊥)) }
 {
     let mut rest = match behind(rest_from(text, from), b'\'') {
         None => return Ok(None),

@@ -63,7 +63,8 @@ fn place_or(place: Option<usize>, end: usize) -> usize
 /// place of the end token, or of the end of the text.
 fn read_tokens(alloc: Global, gathered: &Scanner, end: usize) -> Result<Pattern, ReadFault>
     ensures { (size behind : ℕ) (ts : List At) (stop : text.Stop) → Gathers gathered.now ts
-        → first_wide ts ≡ None → first_place size [] stop ≡ end → place_behind size stop ≡ behind
+        → first_wide ts ≡ None → first_place size [] stop ≡ end
+        → place_behind size stop ≡ behind
         → IsTermAnswer (Ended size ts stop) behind result }
 {
     let place = place_or(gathered.first, end);

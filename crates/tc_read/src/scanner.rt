@@ -1,5 +1,6 @@
 //! What is gathered from the tokens of a text.
-ghost use Rattle.std.specs.Prelude.{◌≡◌, ◌∷◌, ◌++◌, [], IfOk, MatchOption, OnOk, None, Some, List};
+ghost use Rattle.std.specs.Prelude.{◌≡◌, ◌∷◌, ◌++◌, [], IfOk, MatchOption, OnOk};
+ghost use Rattle.std.specs.Prelude.{None, Some, List};
 ghost use Rattle.tc_term.specs.Faults.{known_behind, mark_of, or_else, token_of, wide_at};
 ghost use Rattle.tc_term.specs.Grammar.{Integer};
 ghost use Rattle.tc_term.specs.Layouts.{At};

@@ -11,7 +11,7 @@ use Rattle.tc_model.specs.declared.faults.SpecCause.{SpecCause}
 use Rattle.tc_model.specs.declared.faults.SpecCause.TheVariants as cause
 use Rattle.tc_model.specs.declared.goals.Goal.{Goal}
 use Rattle.tc_spec.proofs.Nesting.{body-nested}
-use Rattle.tc_spec.specs.Answers.{IsReactionFault, IsThisFault, IsWant}
+use Rattle.tc_spec.specs.Answers.{IsReactionFault, IsThisCause, IsReactionWant}
 use Rattle.tc_spec.specs.Written.{IsGoalTerm, IsCausedBy, IsWrittenAs, SpellsRule, leaves, nested, clause_of_parts}
 use Rattle.tc_spec.specs.declared.faults.ReactionFault.{ReactionFault}
 use Rattle.tc_spec.specs.declared.faults.ReactionFault.TheVariants as fault
@@ -120,7 +120,7 @@ same_cause t cause.Size cause.Size h k = refl
 
 -- so each answer comes where it is due
 pub written_by : (t : Tree) (x : Result Rule ReactionFault) → IfErr x (IsReactionFault t)
-    → (r : Rule) → IsWrittenAs t r → IfErr x IsWant
+    → (r : Rule) → IsWrittenAs t r → IfErr x IsReactionWant
 written_by t (Ok q) why r w = tt
 written_by t (Err (fault.Bad cause)) why r w = excluded t r cause w why
 written_by t (Err fault.NoMemory) why r w = tt
@@ -131,7 +131,7 @@ refused_by t (Ok q) w why h = excluded t q why w h
 refused_by t (Err f) w why h = tt
 
 pub caused_by : (t : Tree) (x : Result Rule ReactionFault) → IfErr x (IsReactionFault t)
-    → (why : SpecCause) → IsCausedBy t why → IfErr x (IsThisFault why)
+    → (why : SpecCause) → IsCausedBy t why → IfErr x (IsThisCause why)
 caused_by t (Ok q) told why h = tt
 caused_by t (Err (fault.Bad other)) told why h = same_cause t other why told h
 caused_by t (Err fault.NoMemory) told why h = tt

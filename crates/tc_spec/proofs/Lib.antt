@@ -12,5 +12,6 @@ pub mod Decoding
 pub mod OneText
 pub mod PrintedTexts
 pub mod GoingOn
+pub mod NoGap
 pub mod Apart
 pub mod Parted

@@ -9,10 +9,9 @@ use Rattle.tc_model.specs.Reactions.{Rule}
 use Rattle.tc_model.specs.declared.events.EventOp.{EventOp}
 use Rattle.tc_model.specs.declared.events.EventOp.TheVariants as op
 use Rattle.tc_spec.proofs.Apart.{part-triggered}
-use Rattle.tc_spec.proofs.Sifting.{HasClause, all_numbers, clause_at, rule_kept}
+use Rattle.tc_spec.proofs.Sifting.{HasClause, IsKept, all_numbers, clause_at, rule_kept}
 use Rattle.tc_spec.specs.Codes.{is_in, part_in, rule_part}
 use Rattle.tc_spec.specs.Indexed.{AreEnough, AreInPart, AreParts}
-use Rattle.tc_spec.specs.Kept.{IsKept}
 
 -- the rule is in this part of so many
 abbrev pub InPart : ℕ → ℕ → Rule → Type 0

@@ -1,5 +1,5 @@
 -- The text of clauses spells them.
-use Rattle.std.proofs.Common.{◌≡◌, ◌≤◌, ◌+◌, ◌++◌, ℕ, Bool, true, List, [], ◌∷◌, All, codes, drop, length, map, inr, refl, ap, sym, subst, ◌∙◌, append_assoc, length-append, arith}
+use Rattle.std.proofs.Common.{◌≡◌, ◌≤◌, ◌+◌, ◌++◌, ℕ, Bool, true, List, [], ◌∷◌, All, codes, drop, length, map, inr, refl, ap, sym, subst, ◌∙◌, append_assoc, append-nil, length-append, arith}
 use Rattle.std.specs.Char.{is_ascii_digit}
 use Rattle.std.proofs.lemmas.List.Elements.{All-head, All-tail}
 use Rattle.tc_lists.proofs.Parts.{cons_head, drop_front}
@@ -7,14 +7,18 @@ use Rattle.tc_term.specs.Faults.{Answer, AnswersTokens, Found, ReadsAs, Nothing}
 use Rattle.tc_term.specs.Layouts.{At, Layout, NoPiece, Piece, Scan, Stop, TextEnd, at_clause_end, at_no_token, at_text_end, blank, layout, no_layout, token}
 use Rattle.tc_term.specs.Text as text
 use Rattle.tc_term.specs.Text.{canonical}
+use Rattle.tc_term.specs.Tree.{Tree}
 use Rattle.tc_term.specs.Tokens.{Lexeme, SpellsToken, Word, Variable, Number, Quoted, Symbol, Punctuation, Open, Close, OpenList, CloseList, Comma, Bar}
 use Rattle.tc_term.specs.declared.comparison.Cmp.TheVariants as cmp
 use Rattle.tc_model.specs.Reactions.{AreClauses, IsRule, Rule, body_term, clause_term, clauses_text, goal_term}
+use Rattle.tc_model.specs.declared.limits.TheConstants.{MOST_CLAUSES}
 use Rattle.tc_model.specs.declared.goals.Goal.{Goal}
 use Rattle.tc_model.specs.declared.goals.Goal.TheVariants.{OutR, InR, RdR, NoR, Pre, Post, Success, Failure, True, Agent, Centre, Operation, Tuple, Equal, Differ, Is, Compare}
+use Rattle.tc_read.specs.Clauses.{AnswersAt, LeadsTo}
 use Rattle.tc_read.proofs.Blanks.{no_piece, no_piece_empty}
 use Rattle.tc_read.proofs.ReadBack.{clause-read-back}
-use Rattle.tc_spec.specs.Texts.{AreClausesAt, IsSpelt, AnswersAt}
+use Rattle.tc_spec.specs.TextAnswers.{IsClauseAt}
+use Rattle.tc_spec.specs.Texts.{IsNextRule, IsSpelt, rules_language}
 use Rattle.tc_spec.specs.Written.{IsWrittenAs, leaves}
 
 -- the leaves of a body are its goals
@@ -172,6 +176,31 @@ clause_read_behind text before more r rule is =
     subst (λ s. ReadsAs true (length text) s a) (sym (drop_front text before (10 ∷ clause_on r more) (length before) is refl))
     (behind_line_feed (length text) (clause_on r more) (drop 1 (clause_on r more)) a (begins r more) read)
 
+-- clauses of these rules stand in the text, one behind another, from one place to another
+abbrev AreClausesAt : List ℕ → ℕ → List Rule → ℕ → Type 0
+AreClausesAt text from [] end = end ≡ from
+AreClausesAt text from (r ∷ rs) end = (behind : ℕ) × IsClauseAt text from r behind × AreClausesAt text behind rs end
+
+-- so they are added to those before them, where there is room
+added : (text : List ℕ) (from end : ℕ) (before rs : List Rule) → AreClausesAt text from rs end
+    → length before + length rs ≤ MOST_CLAUSES
+    → (ts : List Tree) × LeadsTo rules_language text from before ts end (before ++ rs)
+added text from end before [] clauses few = ([], (clauses, append-nil before))
+added text from end before (r ∷ rs) clauses few =
+    let grown = before ++ r ∷ [] in
+    let next : IsNextRule before clauses.1.term grown =
+    record { rule = r; written = clauses.1.written; room = omega (arith, few); added = refl } in
+    let rest = added text clauses.0 end grown rs clauses.2 (omega (arith, few, length-append before (r ∷ []))) in (
+      clauses.1.term ∷ rest.0,
+      (
+        clauses.0,
+        grown,
+        clauses.1.found,
+        next,
+        subst (λ all. LeadsTo rules_language text clauses.0 grown rest.0 end all) (append_assoc before (r ∷ []) rs) rest.1,
+      ),
+    )
+
 -- the clauses are spelt from a place on, and nothing else
 abbrev AreAllSpelt : List ℕ → ℕ → List Rule → Type 0
 AreAllSpelt text from rs = (end : ℕ) × AreClausesAt text from rs end × AnswersAt text end Nothing
@@ -213,4 +242,5 @@ all_spelt (r ∷ rs) rules =
 pub printed-spelt : (rs : List Rule) → AreClauses rs → IsSpelt (clauses_text rs) rs
 printed-spelt rs clauses =
     let all = all_spelt rs clauses.rules in
-    record { end = all.0; spelt = all.1; nothing = all.2; few = clauses.few }
+    let led = added (clauses_text rs) 0 all.0 [] rs all.1 (omega (arith, clauses.few)) in
+    record { terms = led.0; end = all.0; clauses = led.1; nothing = all.2 }

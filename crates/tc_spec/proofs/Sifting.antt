@@ -1,6 +1,6 @@
 -- Going through numbers of clauses, and keeping those that have a property.
 use Rattle.std.proofs.Common.{◌≡◌, ◌<◌, ◌≤◌, ◌+◌, ◌↔◌, ℕ, ◌⊎◌, inl, inr, ⊎_elim, List, [], ◌∷◌, ◌++◌, length, get_or, Some, refl, sym, ap, subst, ◌∙◌, arith, Bool, true, false, IsTrue, not, if◌then◌else◌, ◌-◌, ◌==◌}
-use Rattle.std.specs.List.{Contains, slice_get}
+use Rattle.std.specs.List.{AllPairs, Contains, slice_get}
 use Rattle.std.proofs.lemmas.Bool.{cases_lt, ne_eqb}
 use Rattle.std.proofs.lemmas.List.{get_or_default}
 use Rattle.std.proofs.lemmas.List.Elements.{Contains-get_or, Contains-append_left, Contains-push, Contains-push_cases}
@@ -12,7 +12,12 @@ use Rattle.tc_model.specs.Triggers.{IsClause, IsTriggered, AreTriggered}
 use Rattle.tc_model.specs.declared.events.EventOp.{EventOp}
 use Rattle.tc_spec.specs.Numbers.{AreThose}
 use Rattle.tc_spec.specs.Indexed.{AreEnough, AreOf, HasOp}
-use Rattle.tc_spec.specs.Kept.{IsKept}
+
+-- of the first so many numbers, as f counts them off, those with the property are kept, in order
+pub record IsKept (f : ℕ → ℕ) (P : ℕ → Type 0) (count : ℕ) (found : List ℕ) : Type 0 where
+  pub rising : AllPairs ◌<◌ found
+  pub from : (n : ℕ) → Contains found n → (k : ℕ) × (k < count) × (f k ≡ n) × P n
+  pub all : (k : ℕ) → k < count → P (f k) → Contains found (f k)
 
 module _ (f : ℕ → ℕ) (P : ℕ → Type 0) where
   pub kept_none : (found : List ℕ) → found ≡ [] → IsKept f P 0 found

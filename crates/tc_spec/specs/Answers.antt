@@ -12,11 +12,11 @@ IsReactionFault t (fault.Bad why) = IsCausedBy t why
 IsReactionFault t fault.NoMemory = Unit {0}
 
 -- the fault is this cause, or memory has run out
-abbrev pub IsThisFault : SpecCause → ReactionFault → Type 0
-IsThisFault why (fault.Bad other) = other ≡ why
-IsThisFault why fault.NoMemory = Unit {0}
+abbrev pub IsThisCause : SpecCause → ReactionFault → Type 0
+IsThisCause why (fault.Bad other) = other ≡ why
+IsThisCause why fault.NoMemory = Unit {0}
 
 -- memory has run out
-abbrev pub IsWant : ReactionFault → Type 0
-IsWant (fault.Bad why) = ⊥
-IsWant fault.NoMemory = Unit {0}
+abbrev pub IsReactionWant : ReactionFault → Type 0
+IsReactionWant (fault.Bad why) = ⊥
+IsReactionWant fault.NoMemory = Unit {0}

@@ -1,5 +1,7 @@
--- Codes of operations and terms: numbers by which clauses are looked up. Heads of one code may differ.
-use Rattle.std.specs.Prelude.{ℕ, ◌+◌, ◌%◌, ◌==◌, Bool, true, Option, Some, None, unsigned_abs}
+-- Codes of operations and terms: numbers by which clauses are looked up. Heads of one code may
+-- differ.
+use Rattle.std.specs.Prelude.{ℕ, ◌+◌, ◌%◌, ◌==◌, Bool, true, Option, Some, None}
+use Rattle.std.specs.Prelude.{unsigned_abs}
 use Rattle.std.specs.List.{fold}
 use Rattle.std.specs.Option.{option_map}
 use Rattle.tc_lists.specs.Codes.{mixed}
@@ -32,8 +34,8 @@ code_of o (Atomic name) = Some (fold mixed (op_code o) name)
 code_of o (Number n) = Some (mixed (op_code o) (unsigned_abs n))
 code_of o (Compound name args) = Some (fold mixed (mixed (op_code o) (count_of args)) name)
 
--- in which of so many parts an operation's clauses with this term for a head are; one with a variable
--- for a head is in each
+-- in which of so many parts an operation's clauses with this term for a head are; one with a
+-- variable for a head is in each
 abbrev pub part_in : ℕ → EventOp → Tree → Option ℕ
 part_in count o t = option_map (λ code. code % count) (code_of o t)
 

@@ -24,7 +24,8 @@ AreOf o clauses numbers = AreThose (λ r. r.op ≡ o) clauses numbers
 
 -- the numbers of the clauses that are in this part of so many
 abbrev pub AreInPart : ℕ → ℕ → List Rule → List ℕ → Type 0
-AreInPart count part clauses numbers = AreThose (λ r. IsTrue (is_in (rule_part count r) part)) clauses numbers
+AreInPart count part clauses numbers =
+    AreThose (λ r. IsTrue (is_in (rule_part count r) part)) clauses numbers
 
 -- there is a part, and each has the numbers of its clauses
 pub record AreParts {X : Type 0} (clauses : List Rule) (parts : List (Vec ℕ X)) : Type 0 where

@@ -1,7 +1,6 @@
 pub mod Numbers
 pub mod Codes
 pub mod Indexed
-pub mod Kept
 pub mod Written
 pub mod Goals
 pub mod Answers

@@ -1,8 +1,10 @@
 -- Texts of clauses, and what is wrong with the others.
-use Rattle.std.specs.Prelude.{◌≡◌, ◌<◌, ◌≤◌, ◌+◌, ◌⊎◌, ℕ, true, List, [], ◌∷◌, drop, length}
-use Rattle.tc_term.specs.Faults.{Answer, Found, ReadsAs, Nothing, TooBig, TooMany, WideInt}
-use Rattle.tc_term.specs.Faults as answer
+use Rattle.std.specs.Prelude.{◌≡◌, ◌<◌, ◌≤◌, ◌⊎◌, ℕ, List, [], ◌∷◌}
+use Rattle.std.specs.Prelude.{◌++◌, length}
 use Rattle.tc_term.specs.Tree.{Tree}
+use Rattle.tc_read.specs.Clauses.{HasFaultyClause, Language, LeadsToEnd}
+use Rattle.tc_read.specs.declared.clauses.Unread.{Unread}
+use Rattle.tc_read.specs.declared.clauses.Unread.TheVariants as unread
 use Rattle.tc_model.specs.Reactions.{Rule}
 use Rattle.tc_model.specs.declared.faults.BadSpec.{BadSpec}
 use Rattle.tc_model.specs.declared.faults.SpecCause.{SpecCause}
@@ -10,36 +12,12 @@ use Rattle.tc_model.specs.declared.faults.SpecCause.TheVariants as cause
 use Rattle.tc_model.specs.declared.limits.TheConstants.{MOST_CLAUSES, MOST_GOALS}
 use Rattle.tc_spec.specs.Written.{IsCausedBy, IsWrittenAs, SpellsRule}
 
--- the reader of clauses answers this at this place of the text
-abbrev pub AnswersAt : List ℕ → ℕ → Answer → Type 0
-AnswersAt text from answer = ReadsAs true (length text) (drop from text) answer
-
--- a clause stands in the text from one place to another, and is written as this rule
-pub record IsClauseAt (text : List ℕ) (from : ℕ) (r : Rule) (behind : ℕ) : Type 0 where
-  pub term : Tree
-  pub found : AnswersAt text from (Found term behind)
-  pub written : IsWrittenAs term r
-
--- clauses of these rules stand in the text, one behind another, from one place to another
-abbrev pub AreClausesAt : List ℕ → ℕ → List Rule → ℕ → Type 0
-AreClausesAt text from [] end = end ≡ from
-AreClausesAt text from (r ∷ rs) end =
-    (behind : ℕ) × IsClauseAt text from r behind × AreClausesAt text behind rs end
-
--- the text is clauses of these rules and nothing else, and they are few enough for a centre
-pub record IsSpelt (text : List ℕ) (rules : List Rule) : Type 0 where
-  pub end : ℕ
-  pub spelt : AreClausesAt text 0 rules end
-  pub nothing : AnswersAt text end Nothing
-  pub few : length rules ≤ MOST_CLAUSES
-
--- the reader finds no clause here, for this cause
-abbrev pub IsNoClauseAt : List ℕ → ℕ → SpecCause → Type 0
-IsNoClauseAt text from cause.Syntax = (place : ℕ) × AnswersAt text from (answer.Syntax place)
-IsNoClauseAt text from cause.Size =
-    (place : ℕ) × (AnswersAt text from (WideInt place)
-    ⊎ (AnswersAt text from (TooMany place) ⊎ AnswersAt text from (TooBig place)))
-IsNoClauseAt text from _ = ⊥
+-- behind these rules the clause is written as one more, and there is room for it in a centre
+pub record IsNextRule (rules : List Rule) (t : Tree) (more : List Rule) : Type 0 where
+  pub rule : Rule
+  pub written : IsWrittenAs t rule
+  pub room : length rules < MOST_CLAUSES
+  pub added : more ≡ rules ++ rule ∷ []
 
 -- the rule has too many goals, or as many clauses stand before it as a centre may have
 abbrev pub IsTooMuch : ℕ → Rule → Type 0
@@ -52,17 +30,23 @@ IsClauseRefused count t cause.Count = (r : Rule) × SpellsRule t r × IsTooMuch 
 IsClauseRefused count t cause.Size = (count < MOST_CLAUSES) × IsCausedBy t cause.Size
 IsClauseRefused count t why = IsCausedBy t why
 
--- what stands here behind so many clauses is faulty, for this cause
-abbrev pub IsFaultyClauseAt : List ℕ → ℕ → ℕ → SpecCause → Type 0
-IsFaultyClauseAt text from count why =
-    IsNoClauseAt text from why
-    ⊎ ((t : Tree) × (behind : ℕ) × AnswersAt text from (Found t behind) × IsClauseRefused count t why)
+-- the cause where the reader finds no clause
+abbrev pub cause_unread : Unread → SpecCause
+cause_unread unread.Syntax = cause.Syntax
+cause_unread unread.Size = cause.Size
 
--- the first faulty clause, behind good ones, and its first cause
-pub record HasBadSpec (text : List ℕ) (bad : BadSpec) : Type 0 where
-  pub good : List Rule
-  pub from : ℕ
-  pub spelt : AreClausesAt text 0 good from
-  pub few : length good ≤ MOST_CLAUSES
-  pub number : bad.clause ≡ length good + 1
-  pub faulty : IsFaultyClauseAt text from (length good) bad.cause
+-- clauses as the rules of a centre
+abbrev pub rules_language : Language (List Rule) SpecCause
+rules_language = record {
+  leads = IsNextRule;
+  refuses = λ rules. IsClauseRefused (length rules);
+  unread = cause_unread;
+}
+
+-- the text is clauses of these rules and nothing else, few enough for a centre
+abbrev pub IsSpelt : List ℕ → List Rule → Type 0
+IsSpelt text rules = LeadsToEnd rules_language text [] rules
+
+-- the first faulty clause of the text, behind good ones, and its first cause
+abbrev pub HasBadSpec : List ℕ → BadSpec → Type 0
+HasBadSpec text bad = HasFaultyClause rules_language text [] bad.clause bad.cause

@@ -1,5 +1,6 @@
 -- Which terms are written as rules, and what is wrong with the others.
-use Rattle.std.specs.Prelude.{◌≡◌, ◌<◌, ◌≤◌, ℕ, if◌then◌else◌, List, [], ◌∷◌, ◌++◌, All, length, map, codes}
+use Rattle.std.specs.Prelude.{◌≡◌, ◌<◌, ◌≤◌, ℕ, if◌then◌else◌, List, []}
+use Rattle.std.specs.Prelude.{◌∷◌, ◌++◌, All, length, map, codes}
 use Rattle.std.specs.Str.{bytes_eq}
 use Rattle.tc_term.specs.Tree.{Tree, Atomic, Compound, Last, More}
 use Rattle.tc_term.specs.Readable.{IsReadable}
@@ -68,4 +69,5 @@ IsCausedBy t cause.Goal =
     × (All IsGoalTerm (leaves b) → ⊥)
 IsCausedBy t cause.Count = (r : Rule) × SpellsRule t r × (MOST_GOALS < length r.goals)
 IsCausedBy t cause.Size =
-    (r : Rule) × SpellsRule t r × (length r.goals ≤ MOST_GOALS) × (IsReadable (clause_term r) → ⊥)
+    (r : Rule) × SpellsRule t r × (length r.goals ≤ MOST_GOALS)
+    × (IsReadable (clause_term r) → ⊥)

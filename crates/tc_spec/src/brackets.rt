@@ -13,8 +13,10 @@ use tc_term::{Args, MAX_BRACKETS, Term, fits};
 ///
 /// No memory is taken. Recurses as deep as the term is.
 pub fn is_small(t: &Term) -> bool
-    ensures yes { IsTrue result → Fits (tree_of t.now) × (opened Alone (tree_of t.now) ≤ most_brackets) }
-    ensures no { Fits (tree_of t.now) → opened Alone (tree_of t.now) ≤ most_brackets → IsTrue result }
+    ensures yes { IsTrue result
+        → Fits (tree_of t.now) × (opened Alone (tree_of t.now) ≤ most_brackets) }
+    ensures no { Fits (tree_of t.now) → opened Alone (tree_of t.now) ≤ most_brackets
+        → IsTrue result }
 {
     if !fits(t) {
         return false;

@@ -14,6 +14,18 @@
 //! let mut text = Vec::new(alloc);
 //! print_spec(alloc, spec.clauses(), &mut text)?;
 //! ```
+//!
+//! | Module | Holds |
+//! |---|---|
+//! | `reading` | `reaction_of`: from a term to a reaction |
+//! | `heads`, `arguments` | its head: the operation and the term |
+//! | `bodies`, `leaves`, `goals` | its body: the leaves under commas as goals |
+//! | `terms`, `brackets` | the clause that it is written as, and whether its text is read back |
+//! | `texts`, `printing` | `read_spec` and `print_spec`: clauses from a text and as one |
+//! | `spec` | `Spec`: clauses with an index |
+//! | `codes`, `parts` | the index by codes of heads |
+//! | `triggers` | which clauses an event triggers |
+//! | `faults`, `laws` | why a term or a text is refused; laws for callers to cite |
 #![tactic(auto)]
 
 mod arguments;
@@ -34,7 +46,10 @@ mod texts;
 mod triggers;
 
 pub use faults::{ReactionFault, SpecFault};
-pub use laws::{clauses_of_a_text_are_unique, printed_clauses_are_read_back};
+pub use laws::{
+    a_term_is_a_reaction_or_has_one_cause, a_text_is_clauses_or_has_one_fault,
+    clauses_of_a_text_are_unique, printed_clauses_are_read_back,
+};
 pub use printing::print_spec;
 pub use reading::reaction_of;
 pub use spec::Spec;

@@ -1,5 +1,6 @@
 //! The numbers of clauses in parts by the codes of their heads, so that an event finds its own.
-ghost use Rattle.std.specs.Prelude.{◌≡◌, ◌<◌, ◌≤◌, ℕ, IfOk, IfSome, List, length, map};
+ghost use Rattle.std.specs.Prelude.{◌≡◌, ◌<◌, ◌≤◌, ℕ, IfOk, IfSome, List};
+ghost use Rattle.std.specs.Prelude.{length, map};
 ghost use Rattle.tc_term.specs.TreeView.{tree_of};
 ghost use Rattle.tc_model.specs.Reactions.{Rule};
 ghost use Rattle.tc_model.specs.declared.limits.TheConstants.{MOST_CLAUSES};
@@ -18,8 +19,8 @@ const MOST_PARTS: usize = 512;
 
 /// The numbers of the clauses in parts, of which there are one to 512, and no more than clauses.
 ///
-/// A clause is in the part of its code, and one whose head is a variable is in each. Takes time in the
-/// number of clauses times that of parts.
+/// A clause is in the part of its code, and one whose head is a variable is in each. Takes time in
+/// the number of clauses times that of parts.
 pub fn parts_of(alloc: Global, clauses: &[Reaction]) -> Result<Vec<Vec<u32>>, NoMemory>
     requires { length clauses.now ≤ MOST_CLAUSES }
     ensures { IfOk result (λ parts. AreParts clauses.now parts.items) }
@@ -68,7 +69,8 @@ fn places_of(
 fn part_of(alloc: Global, places: &[Option<usize>], part: usize) -> Result<Vec<u32>, NoMemory>
     requires { length places.now ≤ MOST_CLAUSES }
     ensures { IfOk result (λ numbers. (clauses : List Rule) (count : ℕ)
-        → places.now ≡ map (rule_part count) clauses → AreInPart count part clauses numbers.items) }
+        → places.now ≡ map (rule_part count) clauses
+        → AreInPart count part clauses numbers.items) }
 {
     let mut numbers = Vec::new(alloc);
     for i in 0..places.len() {

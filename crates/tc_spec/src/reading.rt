@@ -3,7 +3,7 @@ ghost use Rattle.std.specs.Prelude.{◌≡◌, IsTrue, IfErr, IfOk};
 ghost use Rattle.tc_term.specs.NameBytes.{has_read_names};
 ghost use Rattle.tc_model.specs.Reactions.{Rule};
 ghost use Rattle.tc_model.specs.declared.faults.SpecCause.{SpecCause};
-ghost use Rattle.tc_spec.specs.Answers.{IsReactionFault, IsThisFault, IsWant};
+ghost use Rattle.tc_spec.specs.Answers.{IsReactionFault, IsThisCause, IsReactionWant};
 ghost use Rattle.tc_spec.specs.Written.{IsCausedBy, IsWrittenAs};
 
 use crate::bodies::goals_of;
@@ -19,7 +19,8 @@ use tc_term::Pattern;
 /// The reaction that a clause `reaction(Head,Body)` is written as, or its first fault.
 ///
 /// A clause with commas nested in any way is read, and the reaction's own is nested to the right.
-/// Names of the template may hold no byte below 32 but line feeds and tabs, as those that were read.
+/// Names of the template may hold no byte below 32 but line feeds and tabs, as those that were
+/// read.
 /// Takes time linear in the template.
 pub fn reaction_of(alloc: Global, p: &Pattern) -> Result<Reaction, ReactionFault>
     requires { IsTrue (has_read_names p.now) }
@@ -27,10 +28,10 @@ pub fn reaction_of(alloc: Global, p: &Pattern) -> Result<Reaction, ReactionFault
     ensures fault { IfErr result (IsReactionFault p.now) }
 
     // Each answer comes exactly where it is due, but for want of memory.
-    ensures written { (r : Rule) → IsWrittenAs p.now r → IfErr result IsWant }
+    ensures written { (r : Rule) → IsWrittenAs p.now r → IfErr result IsReactionWant }
     ensures same { (r : Rule) → IsWrittenAs p.now r → IfOk result (λ read. read ≡ r) }
     ensures refused { (why : SpecCause) → IsCausedBy p.now why → IfOk result (λ _. ⊥) }
-    ensures caused { (why : SpecCause) → IsCausedBy p.now why → IfErr result (IsThisFault why) }
+    ensures caused { (why : SpecCause) → IsCausedBy p.now why → IfErr result (IsThisCause why) }
 {
     let read = read_reaction(alloc, p);
     read

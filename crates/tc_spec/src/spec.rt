@@ -92,9 +92,9 @@ impl Spec {
     /// The numbers of the clauses that the event triggers, rising. Clauses count from 1.
     ///
     /// The store is scratch: it may hold anything before, and nothing is said of it afterwards.
-    /// Only clauses whose heads have the operation, the name and the number of arguments of the event,
-    /// or a variable, are tried, each in the time of its head and the event's term; few others are
-    /// looked at.
+    /// Only clauses whose heads have the operation, the name and the number of arguments of the
+    /// event, or a variable, are tried, each in the time of its head and the event's term; few
+    /// others are looked at.
     pub fn triggered(
         &self,
         alloc: Global,
@@ -130,7 +130,8 @@ fn numbers_in(index: &Index, o: EventOp) -> &[u32]
 // The numbers of the clauses that an event may trigger.
 fn numbers_for<'i>(index: &'i Index, e: &Event) -> &'i [u32]
     requires { 0 < length index.now.parts.items }
-    ensures { (clauses : List Rule) → IsIndex clauses index.now → AreEnough clauses e.now result.now }
+    ensures { (clauses : List Rule) → IsIndex clauses index.now
+        → AreEnough clauses e.now result.now }
 {
     let op = e.op();
     let term = e.term();

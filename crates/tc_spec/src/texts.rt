@@ -1,15 +1,18 @@
 //! Texts of clauses, read one clause behind another up to the end or the first faulty one.
-ghost use Rattle.std.specs.Prelude.{◌≡◌, ◌<◌, ◌≤◌, ◌+◌, IfErr, IfNone, IfOk, IfSome, IsTrue, List, length, ℕ};
+ghost use Rattle.std.specs.Prelude.{◌≡◌, ◌<◌, ◌≤◌, ◌+◌, IfErr, IfNone, IfOk};
+ghost use Rattle.std.specs.Prelude.{IfSome, IsTrue};
+ghost use Rattle.std.specs.Prelude.{List, length, ℕ};
 ghost use Rattle.tc_term.specs.Faults.{Nothing};
 ghost use Rattle.tc_term.specs.NameBytes.{has_read_names};
 ghost use Rattle.tc_term.specs.Tree.{Tree};
 ghost use Rattle.tc_model.specs.Reactions.{Rule};
 ghost use Rattle.tc_model.specs.declared.faults.BadSpec.{BadSpec};
 ghost use Rattle.tc_model.specs.declared.limits.TheConstants.{MOST_CLAUSES};
-ghost use Rattle.tc_read.specs.ReadAnswers.{IsFault};
+ghost use Rattle.tc_read.specs.Clauses.{AnswersAt, IsUnreadOr};
 ghost use Rattle.tc_spec.specs.Answers.{IsReactionFault};
-ghost use Rattle.tc_spec.specs.TextAnswers.{IsFaultAt, IsFaultOfClause, IsTextFault, IsTextWant, IsThisBad};
-ghost use Rattle.tc_spec.specs.Texts.{HasBadSpec, IsClauseAt, IsSpelt, AnswersAt};
+ghost use Rattle.tc_spec.specs.TextAnswers.{IsClauseAt, IsFaultAt, IsFaultOfClause, IsTextFault};
+ghost use Rattle.tc_spec.specs.TextAnswers.{IsTextWant, IsThisBad};
+ghost use Rattle.tc_spec.specs.Texts.{HasBadSpec, IsSpelt};
 ghost use Rattle.tc_spec.specs.Written.{IsWrittenAs};
 ghost use Rattle.tc_spec.specs.declared.faults.SpecFault.TheVariants.{Bad};
 
@@ -17,21 +20,23 @@ use crate::faults::{ReactionFault, SpecFault};
 use crate::reading::reaction_of;
 use std::alloc::Global;
 use tc_model::{BadSpec, Clauses, MOST_CLAUSES, Reaction, SpecCause};
-use tc_read::{ReadFault, read_clause};
+use tc_read::{Unread, next_clause};
 use tc_term::Pattern;
 
-/// The clauses that the text spells, or its first faulty clause, counted from 1, with its first cause.
+/// The clauses that the text spells, or its first faulty clause, counted from 1, with its first
+/// cause.
 ///
-/// A clause that the reader refuses has the cause `Syntax` or `Size`; the next causes are shape, head,
-/// goal and count, and then the size of the clause as it is printed. The 1,001st clause is one too many.
-/// Reading ends at the first faulty clause. Takes time linear in what is read.
+/// A clause that the reader refuses has the cause `Syntax` or `Size`; the next causes are shape,
+/// head, goal and count, and then the size of the clause as it is printed. The 1,001st clause is
+/// one too many. Reading ends at the first faulty clause. Takes time linear in what is read.
 pub fn read_spec(alloc: Global, text: &[u8]) -> Result<Clauses, SpecFault>
     ensures clauses { IfOk result (IsSpelt text.now) }
     ensures fault { IfErr result (IsTextFault text.now) }
 
     // Each answer comes exactly where it is due, but for want of memory.
     ensures spelt { (rules : List Rule) → IsSpelt text.now rules → IfErr result IsTextWant }
-    ensures same { (rules : List Rule) → IsSpelt text.now rules → IfOk result (λ clauses. clauses ≡ rules) }
+    ensures same { (rules : List Rule) → IsSpelt text.now rules
+        → IfOk result (λ clauses. clauses ≡ rules) }
     ensures refused { (bad : BadSpec) → HasBadSpec text.now bad → IfOk result (λ _. ⊥) }
     ensures first { (bad : BadSpec) → HasBadSpec text.now bad → IfErr result (IsThisBad bad) }
 {
@@ -65,17 +70,18 @@ fn clause_at(
     requires few { count ≤ MOST_CLAUSES }
     ensures found { IfOk result (λ r. IfSome r (λ x. IsClauseAt text.now from x.0 x.1)) }
     ensures few { IfOk result (λ r. IfSome r (λ x. count < MOST_CLAUSES)) }
-    ensures behind { IfOk result (λ r. IfSome r (λ x. (from < x.1) × (x.1 ≤ length text.now))) }
+    ensures behind { IfOk result
+        (λ r. IfSome r (λ x. (from < x.1) × (x.1 ≤ length text.now))) }
     ensures none { IfOk result (λ r. IfNone r (AnswersAt text.now from Nothing)) }
     ensures fault { IfErr result (IsFaultAt text.now from count) }
 {
-    match read_clause(alloc, text, from) {
+    match next_clause(alloc, text, from) {
         Ok(None) => Ok(None),
         Ok(Some((clause, behind))) => {
             let reaction = reaction_from(alloc, clause, count)?;
             Ok(Some((reaction, behind)))
         }
-        Err(fault) => Err(unread(fault, count)),
+        Err(why) => Err(no_clause(why, count)),
     }
 }
 
@@ -111,18 +117,16 @@ fn reaction_behind(alloc: Global, clause: &Pattern, count: usize) -> Result<Reac
     }
 }
 
-// What is told of text behind so many clauses that the reader refuses.
-fn unread(fault: ReadFault, count: usize) -> SpecFault
+// What is told of text behind so many clauses in which the reader finds no clause.
+fn no_clause(why: Option<Unread>, count: usize) -> SpecFault
     requires { count ≤ MOST_CLAUSES }
-    ensures { (text : List ℕ) (from : ℕ) → IsFault (AnswersAt text from) fault
+    ensures { (text : List ℕ) (from : ℕ) → IsUnreadOr text from why
         → IsFaultAt text from count result }
 {
-    match fault {
-        ReadFault::Syntax(_) => bad(count, SpecCause::Syntax),
-        ReadFault::WideInt(_) => bad(count, SpecCause::Size),
-        ReadFault::TooMany(_) => bad(count, SpecCause::Size),
-        ReadFault::TooBig(_) => bad(count, SpecCause::Size),
-        ReadFault::NoMemory => SpecFault::NoMemory,
+    match why {
+        Some(Unread::Syntax) => bad(count, SpecCause::Syntax),
+        Some(Unread::Size) => bad(count, SpecCause::Size),
+        None => SpecFault::NoMemory,
     }
 }
 

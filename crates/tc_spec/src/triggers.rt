@@ -1,5 +1,6 @@
 //! The clauses of an operation, and those of them whose heads meet an event.
-ghost use Rattle.std.specs.Prelude.{◌≡◌, ◌≤◌, ◌↔◌, ◌++◌, ◌∷◌, [], if◌then◌else◌};
+ghost use Rattle.std.specs.Prelude.{◌≡◌, ◌≤◌, ◌↔◌, ◌++◌, ◌∷◌, []};
+ghost use Rattle.std.specs.Prelude.{if◌then◌else◌};
 ghost use Rattle.std.specs.Prelude.{length, false, ℕ, List, IsTrue, IfOk, OnOk};
 ghost use Rattle.tc_term.specs.Variables.{raised};
 ghost use Rattle.tc_term.specs.Equations.{under};
@@ -83,8 +84,8 @@ fn is_triggered(store: &mut Store, r: &Reaction, e: &Event) -> Result<bool, NoMe
     Ok(met)
 }
 
-// Whether two terms are alike without their arguments, or one is a variable. Else no valuation makes
-// them equal.
+// Whether two terms are alike without their arguments, or one is a variable. Else no valuation
+// makes them equal.
 fn could_meet(head: &Term, term: &Term) -> bool
     ensures { result ≡ false → (v : List Tree) (k : ℕ)
         → under v (tree_of head.now) ≡ under v (raised k (tree_of term.now)) → ⊥ }

@@ -4,8 +4,8 @@ use Rattle.std.specs.List.{flat_map}
 use Rattle.std.proofs.lemmas.Grind.{flat_map-append}
 use Rattle.tc_io.specs.declared.sinks.SinkFault.{SinkFault}
 use Rattle.tc_lists.proofs.Parts.{take_read}
-use Rattle.tc_writing.specs.Flow.{Flow, HandsOn}
-use Rattle.tc_writing.proofs.Flows.{amid, both, both_done}
+use Rattle.tc_io.specs.Flow.{Flow, HandsOn}
+use Rattle.tc_io.proofs.Flows.{amid, both, both_done}
 
 module _ {X : Type 0} (heading : List ℕ) (line : X → List ℕ) (xs : List X) where
   -- the heading and the lines of the first elements

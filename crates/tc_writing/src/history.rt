@@ -1,27 +1,30 @@
 //! Histories and logs, handed on line by line.
 ghost use Rattle.std.specs.Prelude.{◌≡◌, ◌<◌, [], All, OnOk, length};
 ghost use Rattle.tc_model.specs.Calls.{id_of};
-ghost use Rattle.tc_desk.specs.Text.{One, end_text, entry_text, history_text};
-ghost use Rattle.tc_desk.specs.Text.{log_text, row_text, version_text};
+ghost use Rattle.tc_histtext.specs.Text.{end_text, entry_text, history_text};
+ghost use Rattle.tc_histtext.specs.declared.versions.Version.TheVariants.{One};
+ghost use Rattle.tc_histtext.specs.Text.{log_text, row_text, version_text};
 ghost use Rattle.tc_histtext.specs.Headings.{heading_text};
-ghost use Rattle.tc_writing.specs.Flow.{HandsOn, flow};
+ghost use Rattle.tc_io.specs.Flow.{HandsOn, flow};
 
-use crate::pieces::{flush, spill};
+use crate::pieces::spill;
 use std::alloc::Global;
 use tc_desk::LogRow;
-use tc_histtext::{Heading, print_end, print_entry, print_heading, print_row, print_version};
-use tc_io::{Sink, SinkFault};
+use tc_histtext::{
+    Heading, Version, print_end, print_entry, print_heading, print_row, print_version,
+};
+use tc_io::{Sink, SinkFault, write_kept};
 use tc_model::Entry;
 use tc_term::Name;
 
 /// Hands on the first line.
-#[tactic(auto, using(crate::proofs::Flows::no_memory, crate::proofs::Flows::kept_first))]
+#[tactic(auto, using(tc_io::proofs::Flows::no_memory, tc_io::proofs::Flows::kept_first))]
 pub fn write_version<K: Sink>(sink: &mut K, kept: &mut Vec<u8>) -> Result<(), SinkFault>
     ensures { HandsOn (version_text One)
         (flow K.taken K.write_faults K.sure sink.old kept.old.items)
         (flow K.taken K.write_faults K.sure sink.new kept.new.items) result }
 {
-    print_version(kept)?;
+    print_version(Version::One, kept)?;
     spill(sink, kept)
 }
 
@@ -66,7 +69,7 @@ pub fn write_log<K: Sink>(
 }
 
 /// Hands on the last line, and writes all that is kept.
-#[tactic(auto, using(crate::proofs::Flows::no_memory, crate::proofs::Flows::kept_first))]
+#[tactic(auto, using(tc_io::proofs::Flows::no_memory, tc_io::proofs::Flows::kept_first))]
 pub fn write_end<K: Sink>(blocked: bool, sink: &mut K, kept: &mut Vec<u8>) -> Result<(), SinkFault>
     ensures hands { HandsOn (end_text blocked)
         (flow K.taken K.write_faults K.sure sink.old kept.old.items)
@@ -74,11 +77,11 @@ pub fn write_end<K: Sink>(blocked: bool, sink: &mut K, kept: &mut Vec<u8>) -> Re
     ensures empty { OnOk result (kept.new.items ≡ []) }
 {
     print_end(blocked, kept)?;
-    flush(sink, kept)
+    write_kept(sink, kept)
 }
 
 // Hands on a heading.
-#[tactic(auto, using(crate::proofs::Flows::no_memory, crate::proofs::Flows::kept_first))]
+#[tactic(auto, using(tc_io::proofs::Flows::no_memory, tc_io::proofs::Flows::kept_first))]
 fn write_heading<K: Sink>(
     alloc: Global,
     word: Heading,
@@ -95,7 +98,7 @@ fn write_heading<K: Sink>(
 }
 
 // Hands on an entry.
-#[tactic(auto, using(crate::proofs::Flows::no_memory, crate::proofs::Flows::kept_first))]
+#[tactic(auto, using(tc_io::proofs::Flows::no_memory, tc_io::proofs::Flows::kept_first))]
 fn write_entry<K: Sink>(
     alloc: Global,
     agents: &[Name],
@@ -113,7 +116,7 @@ fn write_entry<K: Sink>(
 }
 
 // Hands on a row.
-#[tactic(auto, using(crate::proofs::Flows::no_memory, crate::proofs::Flows::kept_first))]
+#[tactic(auto, using(tc_io::proofs::Flows::no_memory, tc_io::proofs::Flows::kept_first))]
 fn write_row<K: Sink>(
     alloc: Global,
     row: &LogRow,
@@ -124,6 +127,6 @@ fn write_row<K: Sink>(
         (flow K.taken K.write_faults K.sure sink.old kept.old.items)
         (flow K.taken K.write_faults K.sure sink.new kept.new.items) result }
 {
-    print_row(alloc, row, kept)?;
+    print_row(alloc, Version::One, row, kept)?;
     spill(sink, kept)
 }

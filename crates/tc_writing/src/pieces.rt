@@ -1,8 +1,8 @@
 //! Pieces: bytes are kept until they are many, and then written.
-ghost use Rattle.std.specs.Prelude.{◌≡◌, [], OnOk};
-ghost use Rattle.tc_writing.specs.Flow.{HandsOn, flow};
+ghost use Rattle.std.specs.Prelude.{[]};
+ghost use Rattle.tc_io.specs.Flow.{HandsOn, flow};
 
-use tc_io::{Sink, SinkFault, write_all};
+use tc_io::{Sink, SinkFault, write_kept};
 
 /// How many bytes are kept at least before they are written.
 const MOST_KEPT: usize = 65_536;
@@ -15,16 +15,5 @@ pub(crate) fn spill<K: Sink>(sink: &mut K, kept: &mut Vec<u8>) -> Result<(), Sin
     if kept.len() < MOST_KEPT {
         return Ok(());
     }
-    flush(sink, kept)
-}
-
-/// Writes all that is kept.
-pub(crate) fn flush<K: Sink>(sink: &mut K, kept: &mut Vec<u8>) -> Result<(), SinkFault>
-    ensures hands { HandsOn [] (flow K.taken K.write_faults K.sure sink.old kept.old.items)
-        (flow K.taken K.write_faults K.sure sink.new kept.new.items) result }
-    ensures empty { OnOk result (kept.new.items ≡ []) }
-{
-    write_all(sink, kept)?;
-    kept.clear();
-    Ok(())
+    write_kept(sink, kept)
 }

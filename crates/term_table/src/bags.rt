@@ -11,13 +11,13 @@
 //! | `next(T,U,N)` | the same of those whose first argument is U |
 use crate::answers::{append_term, append_truth};
 use crate::terms::{template_of, tuple_of};
-use crate::texts::parts;
 use anyhow::anyhow;
 use std::alloc::Global;
 use tc_bag::{Bag, Key};
 use tc_lists::{NoMemory, append_number};
 use tc_search::{does_match, oldest_match_of};
 use tc_term::{Ground, Term};
+use test_texts::parts;
 
 /// A bag of the tuples.
 pub fn bag_of(alloc: Global, tuples: &[Term]) -> anyhow::Result<Bag> {
@@ -68,7 +68,7 @@ fn tell(alloc: Global, bag: &Bag, step: &Term, into: &mut Vec<u8>) -> anyhow::Re
             None => into.extend_from_slice(b"none")?,
         },
         (b"oldest", [term]) => {
-            let found = oldest_match_of(alloc, &template_of(alloc, term)?, bag)?;
+            let found = oldest_match_of(&template_of(alloc, term)?, bag);
             append_age(found.map(|row| row.0), into)?;
         }
         (b"next", [term, Term::Int(from)]) => {

@@ -17,12 +17,12 @@ use crate::answers::{append_term, append_truth};
 use crate::bags::bag_of;
 use crate::sample::Sample;
 use crate::terms::{built, wide};
-use crate::texts::parts;
 use anyhow::anyhow;
 use std::alloc::Global;
 use tc_lists::append_number;
 use tc_term::{Name, Term};
 use tc_unify::Part;
+use test_texts::parts;
 
 /// What comes of the steps of a row.
 pub fn answer_equations(alloc: Global, row: &[Term], into: &mut Vec<u8>) -> anyhow::Result<()> {

@@ -37,7 +37,6 @@ mod readings;
 mod sample;
 mod table;
 mod terms;
-mod texts;
 
 use table::answered;
 use tc_io::{StdSink, StdSource, read_all, write_all};

@@ -1,11 +1,11 @@
 //! Names: how they are kept, printed and ordered.
 use crate::answers::append_bytes;
-use crate::texts::text_of;
 use anyhow::anyhow;
 use std::alloc::Global;
 use std::cmp::Ordering;
 use tc_print::{print_name, print_quoted};
 use tc_term::{Name, Term};
+use test_texts::text_of;
 
 /// A text as a name is printed.
 pub fn print_name_of(alloc: Global, parts: &[Term], into: &mut Vec<u8>) -> anyhow::Result<()> {

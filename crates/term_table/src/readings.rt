@@ -1,10 +1,10 @@
 //! What texts are read as.
 use crate::answers::{append_bytes, append_place, append_template};
-use crate::texts::text_of;
 use std::alloc::Global;
 use tc_lists::append_number;
 use tc_read::{ReadFault, read_canonical, read_clause, read_quoted, read_term};
 use tc_term::Term;
+use test_texts::text_of;
 
 /// The term that the whole text is.
 pub fn print_reading(alloc: Global, parts: &[Term], into: &mut Vec<u8>) -> anyhow::Result<()> {

@@ -6,11 +6,11 @@ use crate::names::{print_bytes, print_name_of, print_order, print_quoted_of};
 use crate::numbers::{print_comparisons, print_value};
 use crate::readings::{print_canonical, print_clauses, print_reading, print_unquoted};
 use crate::terms::{print_built, print_fit, print_template, print_tuple};
-use crate::texts::parts;
 use anyhow::anyhow;
 use std::alloc::Global;
 use tc_read::read_clause;
 use tc_term::Term;
+use test_texts::parts;
 
 /// The table, with the answer of each row behind it.
 pub fn answered(alloc: Global, table: &[u8]) -> anyhow::Result<Vec<u8>> {

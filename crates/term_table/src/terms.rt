@@ -12,11 +12,11 @@
 //!
 //! Each other term stands for itself, with what its arguments stand for.
 use crate::answers::{append_template, append_term, append_truth};
-use crate::texts::repeat;
 use anyhow::anyhow;
 use std::alloc::Global;
 use tc_lists::NoMemory;
 use tc_term::{Args, Ground, Name, NotPattern, NotTuple, Pattern, Term, fits};
+use test_texts::repeat;
 
 /// The most arguments that a term is made with, and how deep it is made.
 const MOST_ARGUMENTS: i64 = 100_000;

@@ -4,11 +4,12 @@ use Rattle.std.specs.Prelude.{slice_get}
 use Rattle.std.proofs.lemmas.Option.{same_Some}
 use Rattle.tc_io.specs.declared.sinks.SinkFault.{SinkFault}
 use Rattle.tc_model.specs.declared.entries.Entry.{Entry}
-use Rattle.tc_desk.specs.Text.{Version, history_text, histories_text, log_text, logs_text}
+use Rattle.tc_histtext.specs.Text.{history_text, histories_text, log_text, logs_text}
+use Rattle.tc_histtext.specs.declared.versions.Version.{Version}
 use Rattle.tc_desk.specs.declared.rows.LogRow.{LogRow}
 use Rattle.tc_config.specs.declared.configs.AgentConf.{AgentConf}
-use Rattle.tc_writing.specs.Flow.{Flow, HandsOn}
-use Rattle.tc_writing.proofs.Flows.{amid, both, both_done}
+use Rattle.tc_io.specs.Flow.{Flow, HandsOn}
+use Rattle.tc_io.proofs.Flows.{amid, both, both_done}
 
 -- the same text, by another name
 pub text_is : (text other : List ℕ) (old new : Flow) (result : Result (Unit {0}) SinkFault) → text ≡ other

@@ -1,7 +1,7 @@
 use Rattle.std.proofs.Common.{◌≡◌}
 use Rattle.std.proofs.lemmas.Result.{IfErr-weaker, IfOk-weaker}
 use Rattle.tc_desk.specs.Operands.{OpOf, Sound}
-use Rattle.tc_asks.specs.Operands.{IsFaultOf, IsThisFault}
+use Rattle.tc_asks.specs.Operands.{IsFaultOf, IsOperandFault}
 use Rattle.tc_asks.proofs.Faults.{one_fault}
 use Rattle.tc_asks.proofs.operands.op_of.Goals as goal
 
@@ -12,5 +12,5 @@ returns-clause-same c o is =
 
 pub returns-clause-first : goal.returns-clause-first
 returns-clause-first c o is =
-    IfErr-weaker c.answer_of-answer.result (IsFaultOf c.args.ask) (IsThisFault o)
+    IfErr-weaker c.answer_of-answer.result (IsFaultOf c.args.ask) (IsOperandFault o)
     (one_fault c.args.ask o (λ other. c.ask_is_one_operation.ensures c.args.ask o other is)) c.answer_of-answer.ensures.fault

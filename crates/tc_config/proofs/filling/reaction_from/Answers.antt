@@ -2,7 +2,7 @@ use Rattle.std.proofs.Common.{IsTrue, refl, sym, subst, ◌∙◌}
 use Rattle.tc_term.proofs.Numbered.{renumbered-pattern}
 use Rattle.tc_term.specs.NameBytes.{has_read_names}
 use Rattle.tc_term.specs.TreeView.{tree_of}
-use Rattle.tc_spec.specs.Answers.{IsWant}
+use Rattle.tc_spec.specs.Answers.{IsReactionWant}
 use Rattle.tc_spec.specs.Written.{IsWrittenAs}
 use Rattle.tc_config.proofs.filling.reaction_from.Goals as goal
 
@@ -20,7 +20,7 @@ pub returns-in-Err-Bad-clause-fault : goal.returns-in-Err-Bad-clause-fault
 returns-in-Err-Bad-clause-fault c = (
   refl,
   λ r w.
-      subst IsWant c.in-Err-Bad.field-0-is
+      subst IsReactionWant c.in-Err-Bad.field-0-is
       (c.in-Err-Bad.ensures.written r
       (subst (λ u. IsWrittenAs u r)
       (sym (c.in-Ok.ensures.ok.0 ∙ renumbered-pattern (tree_of c.args.t) c.requires.pattern)) w)),

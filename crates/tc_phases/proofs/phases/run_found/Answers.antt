@@ -10,5 +10,5 @@ pub returns-clause-phase : goal.returns-clause-phase
 returns-clause-phase c =
     subst (λ ts. IsPhase c.args.regime.now (success_event c.args.op c.args.tuple.now) ts c.args.bag.now c.run_phase.new.bag c.in_ok-end.end)
     (ap (λ change. tuples_of (changed change c.args.bag.now).now) c.taking.ensures
-    ∙ found-left c.args.takes c.args.age c.args.bag.now c.args.tuple.now c.requires.found c.requires.there)
+    ∙ found-left c.args.wants c.args.age c.args.bag.now c.args.tuple.now c.requires.found c.requires.there)
     c.in_ok-end.ensures.phase

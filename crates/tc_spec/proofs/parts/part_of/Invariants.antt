@@ -1,9 +1,8 @@
 use Rattle.std.proofs.Common.{◌≡◌, ◌+◌, ℕ, List, map}
 use Rattle.tc_model.specs.Reactions.{Rule}
 use Rattle.tc_spec.proofs.Parted.{InPart}
-use Rattle.tc_spec.proofs.Sifting.{HasClause}
+use Rattle.tc_spec.proofs.Sifting.{HasClause, IsKept}
 use Rattle.tc_spec.specs.Codes.{rule_part}
-use Rattle.tc_spec.specs.Kept.{IsKept}
 use Rattle.tc_spec.proofs.parts.part_of.Given as goal
 
 -- of the clauses so far those in the part are kept

@@ -1,8 +1,8 @@
 use Rattle.std.proofs.Common.{Ok}
 use Rattle.tc_config.specs.Configurations.{agent_names, centre_names}
-use Rattle.tc_desk.specs.Text.{history_text}
+use Rattle.tc_histtext.specs.Text.{history_text}
 use Rattle.tc_runner.specs.Cores.{histories}
-use Rattle.tc_writing.specs.Flow.{HandsOn, flow}
+use Rattle.tc_io.specs.Flow.{HandsOn, flow}
 use Rattle.tucson.proofs.Zipped.{first}
 use Rattle.tucson.proofs.writing.write_histories.Given as goal
 
