@@ -1,7 +1,7 @@
 #!/usr/bin/env python3
 """Whole configurations of 1, 4 and 16 MB: how long a run takes, and how much memory.
 
-bench/runs.py           measures ./tucson
+bench/runs.py           measures ./tucson, which is to be built
 bench/runs.py PROGRAM   measures another build of the program
 
 A configuration of 16 MB has 64 centres and roles, 28,672 grants, 1,000 reactions at one of the centres, 1,024
