@@ -6,7 +6,7 @@ use std::alloc::Global;
 use tc_centre::Core;
 use tc_histtext::print_entry;
 use tc_lists::{NoMemory, append_number};
-use tc_model::{CallId, Entry, Request};
+use tc_model::{CallId, Entry, Request, Wants};
 use tc_print::print_term;
 use tc_search::does_match;
 use tc_term::Name;
@@ -32,7 +32,10 @@ fn print_request(alloc: Global, request: &Request, into: &mut Vec<u8>) -> Result
     append_number(u64::from(request.id.agent), into)?;
     into.extend_from_slice(b" ")?;
     append_number(request.id.number, into)?;
-    let word: &[u8] = if request.takes { b" in " } else { b" rd " };
+    let word: &[u8] = match request.wants {
+        Wants::Take => b" in ",
+        Wants::Look => b" rd ",
+    };
     into.extend_from_slice(word)?;
     print_term(alloc, request.template.term(), into)
 }

@@ -3,8 +3,7 @@ use crate::fault::Fault;
 use crate::terms::{add, applied, of_one_code};
 use std::alloc::Global;
 use tc_bag::Bag;
-use tc_lists::NoMemory;
-use tc_model::{CallId, Request};
+use tc_model::{CallId, Request, Wants};
 use tc_pending::{Known, Pending};
 use tc_term::{Pattern, Term};
 
@@ -18,7 +17,7 @@ fn ask_for(pending: &mut Pending, agent: u32, term: Term) -> Result<(), Fault> {
     match Pattern::of(term) {
         Ok(template) => Ok(pending.add(Request {
             id: CallId { agent, number: 1 },
-            takes: true,
+            wants: Wants::Take,
             template,
         })?),
         Err(_) => Err(Fault::NoTuple),
@@ -35,12 +34,12 @@ fn is_next(
 ) -> Result<bool, Fault> {
     let mut bag = Bag::new(alloc);
     add(&mut bag, tuple)?;
-    let next = next(pending, &bag)?;
+    let next = next(pending, &bag);
     Ok(next.map(|found| found.0) == place)
 }
 
 // What is next where all tuples are new to all requests.
-fn next(pending: &Pending, bag: &Bag) -> Result<Option<(usize, u64)>, NoMemory> {
+fn next(pending: &Pending, bag: &Bag) -> Option<(usize, u64)> {
     let known = Known {
         requests: pending.list().len(),
         age: 0,
@@ -223,5 +222,5 @@ pub fn copies(alloc: Global) -> Result<bool, Fault> {
     };
     let copy = request.copy(alloc)?;
     let wanted = applied(alloc, b"p", Term::Int(5))?;
-    Ok(copy.takes && copy.id == request.id && *copy.template.term() == wanted)
+    Ok(copy.wants == Wants::Take && copy.id == request.id && *copy.template.term() == wanted)
 }

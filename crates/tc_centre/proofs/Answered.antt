@@ -23,7 +23,7 @@ use Rattle.tc_model.specs.declared.outcomes.Outcome.{Outcome}
 use Rattle.tc_model.specs.declared.entries.Entry.{Entry}
 use Rattle.tc_model.specs.declared.entries.Entry.TheVariants.{Called, Gave, Looked}
 use Rattle.tc_model.specs.declared.limits.TheConstants.{MOST_GOALS}
-use Rattle.tc_model.proofs.WaitingCalls.{removed-is-without, takes-is, waiting-run}
+use Rattle.tc_model.proofs.WaitingCalls.{removed-is-without, wants-is, waiting-run}
 use Rattle.tc_model.proofs.Runs.{IsRun-first}
 use Rattle.tc_centre.specs.Held.{held, IsHeld}
 use Rattle.tc_centre.specs.Operations.{after_giving}
@@ -67,7 +67,7 @@ module _ (origin : Origin) (history : List Entry) (clauses : List Rule) (rows : 
       (id : CallId) (result : Outcome) (items : List Item)
       → IsNextAnswer rows requests place age → slice_get requests place ≡ Some r → r.id ≡ id
       → IsGiven TheFirst origin (held clauses rows requests) r result items
-      → held clauses left requests ≡ after_giving r.takes result items (held clauses rows requests)
+      → held clauses left requests ≡ after_giving r.wants result items (held clauses rows requests)
       → fewer ≡ remove requests place → longer ≡ history ++ Gave id result items ∷ []
       → m ≤ n + 1 + MOST_GOALS * length items → IsHeld origin longer clauses left m fewer
   answered longer left m fewer place age r id result items next stands of given leads gone grown ages =
@@ -94,11 +94,11 @@ module _ (origin : Origin) (history : List Entry) (clauses : List Rule) (rows : 
         asked = of;
         given = given;
       } in
-      let takes = takes-is id requests place r waiting.once stands of in
+      let wants = wants-is id requests place r waiting.once stands of in
       let removed = removed-is-without id requests place r waiting.once stands of in
       let after : held clauses left fewer ≡ after_entry (Gave id result items) s =
       ap (held clauses left) (gone ∙ sym removed)
-      ∙ ap (with_answered id) (leads ∙ ap (λ b. after_giving b result items s) (sym takes)) in
+      ∙ ap (with_answered id) (leads ∙ ap (λ w. after_giving w result items s) (sym wants)) in
       let one_less : length fewer + 1 ≡ length requests =
       ap (λ rs. length rs + 1) gone ∙ length-remove requests place (slice_get_within requests place r stands) in
       let within = given-within TheFirst origin s r result items given in

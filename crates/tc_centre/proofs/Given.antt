@@ -10,7 +10,7 @@ use Rattle.tc_model.specs.Choices.{TheFirst}
 use Rattle.tc_model.specs.Events.{Occurrence, success_event}
 use Rattle.tc_model.specs.Reactions.{Rule}
 use Rattle.tc_model.specs.State.{IsMatch, after_taking}
-use Rattle.tc_model.specs.Tables.{setting_of, IsGiven}
+use Rattle.tc_model.specs.Tables.{setting_of, IsGiven, asking_op}
 use Rattle.tc_model.specs.declared.calls.CallId.{CallId}
 use Rattle.tc_model.specs.declared.calls.Request.{Request}
 use Rattle.tc_model.specs.declared.events.Phase.TheVariants.{Post}
@@ -22,7 +22,7 @@ use Rattle.tc_model.specs.declared.limits.TheConstants.{MOST_GOALS}
 use Rattle.tc_cascade.specs.Ends.{items_of}
 use Rattle.tc_cascade.specs.declared.cascade.Cascade.{Cascade}
 use Rattle.tc_cascade.specs.declared.cascade.Cascade.TheVariants.{Whole, Over}
-use Rattle.tc_phases.specs.Phases.{setting_in, Reacts, Overruns, IsPhase, asking_op}
+use Rattle.tc_phases.specs.Phases.{setting_in, Reacts, Overruns, IsPhase}
 use Rattle.tc_phases.specs.declared.regime.Regime.{Regime}
 use Rattle.tc_centre.specs.Held.{origin_of, held}
 use Rattle.tc_centre.specs.Operations.{IsRegimeOf, after_giving, Gives}
@@ -52,14 +52,14 @@ given_outcome tuple (Over items) = outcome.Over Post (Some tuple)
 module _ (f : Founding) (clauses : List Rule) (regime : Regime) (r : Request) (of : IsRegimeOf f clauses r.id regime)
     (old new : Stock) (requests : List Request) (tuple : Tree) (first : IsFirst (IsMatch r.template) (tuples_of old.now) tuple) where
   pub phase-given : (c : Cascade)
-      → IsPhase regime (success_event (asking_op r.takes) tuple) (after_taking r.takes tuple (tuples_of old.now)) old new c
+      → IsPhase regime (success_event (asking_op r.wants) tuple) (after_taking r.wants tuple (tuples_of old.now)) old new c
       → IsGiven TheFirst (origin_of f) (held clauses old.now requests) r (given_outcome tuple c) (items_of c)
   phase-given (Whole items) h = (first, reacts f clauses r.id regime of _ _ items h.0)
   phase-given (Over items) h = (first, overruns f clauses r.id regime of _ _ items h.0)
 
   pub phase-state : (c : Cascade)
-      → IsPhase regime (success_event (asking_op r.takes) tuple) (after_taking r.takes tuple (tuples_of old.now)) old new c
-      → held clauses new.now requests ≡ after_giving r.takes (given_outcome tuple c) (items_of c) (held clauses old.now requests)
+      → IsPhase regime (success_event (asking_op r.wants) tuple) (after_taking r.wants tuple (tuples_of old.now)) old new c
+      → held clauses new.now requests ≡ after_giving r.wants (given_outcome tuple c) (items_of c) (held clauses old.now requests)
   phase-state (Whole items) h = ap (λ ts. record { tuples = ts; clauses = clauses; pending = requests }) h.1
   phase-state (Over items) h = ap (λ (s : Stock). held clauses s.now requests) h.1
 
@@ -77,7 +77,7 @@ module _ (old : Holdings) (place age : ℕ) (next : IsNextAnswer old.bag.now old
   -- its answer, as the phase tells it
   pub gives : (new : Holdings) (regime : Regime) (t : Tree) (c k : Cascade) → IsRegimeOf old.founding old.spec r.id regime
       → tuple_at age old.bag.now ≡ Some t
-      → IsPhase regime (success_event (asking_op r.takes) t) (after_taking r.takes t (tuples_of old.bag.now)) old.bag new.bag c
+      → IsPhase regime (success_event (asking_op r.wants) t) (after_taking r.wants t (tuples_of old.bag.now)) old.bag new.bag c
       → new.bag.next ≤ old.bag.next + 1 + MOST_GOALS * length (items_of c) → AddsYounger old.bag new.bag
       → c ≡ k → Gives place old new r.id (given_outcome t k) (items_of k)
   gives new regime t c k of there phase ages kept is =

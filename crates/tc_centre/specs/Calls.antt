@@ -27,4 +27,5 @@ pub record IsAt (calls : List (ℕ × ℕ)) (number i : ℕ) : Type 0 where
 -- the number has this place now, and all others the places that they had
 abbrev pub SetsPlace : ℕ → ℕ → List (ℕ × ℕ) → List (ℕ × ℕ) → Type 0
 SetsPlace number place old new =
-    (other : ℕ) → place_of new other ≡ (if number == other then Some place else place_of old other)
+    (other : ℕ)
+    → place_of new other ≡ (if number == other then Some place else place_of old other)

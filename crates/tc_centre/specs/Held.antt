@@ -1,5 +1,6 @@
 -- What a centre holds between two entries of its history.
-use Rattle.std.specs.Prelude.{◌≡◌, ℕ, ◌+◌, ◌*◌, ◌≤◌, List, [], ◌∷◌, ◌++◌, All, length, take}
+use Rattle.std.specs.Prelude.{◌≡◌, ℕ, ◌+◌, ◌*◌, ◌≤◌, List, [], ◌∷◌}
+use Rattle.std.specs.Prelude.{◌++◌, All, length, take}
 use Rattle.tc_bag.specs.Stock.{Row, AddsYounger, tuples_of}
 use Rattle.tc_model.specs.Entries.{weight}
 use Rattle.tc_model.specs.Reactions.{Rule}
@@ -32,7 +33,8 @@ origin_of f = record {
 
 -- the state that these clauses, these rows and these requests are
 abbrev pub held : List Rule → List Row → List Request → State
-held clauses rows requests = record { tuples = tuples_of rows; clauses = clauses; pending = requests }
+held clauses rows requests =
+    record { tuples = tuples_of rows; clauses = clauses; pending = requests }
 
 -- it began within the limits, the history is a run that has led to what is held, there is room for
 -- the answers to all requests, and ages are far from their end
@@ -76,13 +78,16 @@ HoldsRun h = IsHeld (origin_of h.founding) h.history.items h.spec h.bag.now h.ba
 
 -- and no request can be answered
 abbrev pub IsAtRest : Holdings → Type 0
-IsAtRest h = IsSettled (origin_of h.founding) h.history.items h.spec h.bag.now h.bag.next h.pending.now
+IsAtRest h =
+    IsSettled (origin_of h.founding) h.history.items h.spec h.bag.now h.bag.next h.pending.now
 
 -- there is room for another call, and for all answers to which it may lead
 abbrev pub HasRoom : Holdings → Type 0
-HasRoom h = weight h.history.items + (length h.pending.now + 2) * (h.founding.budget + 1) ≤ MOST_WEIGHT
+HasRoom h =
+    weight h.history.items + (length h.pending.now + 2) * (h.founding.budget + 1) ≤ MOST_WEIGHT
 
--- a call of this id may be served: it is the agent's next, no request can be answered, and there is room
+-- a call of this id may be served: it is the agent's next, no request can be answered, and there is
+-- room
 pub record MayServe (id : CallId) (h : Holdings) : Type 0 where
   pub next : IsNext (origin_of h.founding) h.history.items id
   pub rest : IsAtRest h
@@ -122,7 +127,8 @@ abbrev pub known_of : Holdings → Known
 known_of h = record { requests = length h.pending.now; age = h.bag.next }
 
 -- it is known of these rows and requests, and is about none that are to come
-pub record IsKnownOf (known : Known) (rows : List Row) (next : ℕ) (requests : List Request) : Type 0 where
+pub record IsKnownOf (known : Known) (rows : List Row) (next : ℕ) (requests : List Request)
+    : Type 0 where
   pub none : IsKnown known rows requests
   pub age : known.age ≤ next
   pub count : known.requests ≤ length requests

@@ -1,5 +1,6 @@
 -- The last number of each agent.
-use Rattle.std.specs.Prelude.{◌≡◌, ℕ, ◌+◌, ◌<◌, ◌≤◌, List, [], All, Contains, slice_index_or}
+use Rattle.std.specs.Prelude.{◌≡◌, ℕ, ◌+◌, ◌<◌, ◌≤◌, List, [], All, Contains}
+use Rattle.std.specs.Prelude.{slice_index_or}
 use Rattle.std.specs.Prelude.{Option, Some, None}
 use Rattle.tc_model.specs.Calls.{id_of, calls_of}
 use Rattle.tc_model.specs.declared.calls.CallId.{CallId}

@@ -1,5 +1,5 @@
 -- What an operation of a call comes to, and what an answer does.
-use Rattle.std.specs.Prelude.{◌≡◌, ◌≤◌, ℕ, ◌+◌, ◌*◌, Bool, if◌then◌else◌, Option, Some, None, List}
+use Rattle.std.specs.Prelude.{◌≡◌, ◌≤◌, ℕ, ◌+◌, ◌*◌, Option, Some, None, List}
 use Rattle.std.specs.Prelude.{length, slice_get}
 use Rattle.tc_term.specs.Tree.{Tree}
 use Rattle.tc_model.specs.Choices.{TheFirst}
@@ -10,8 +10,10 @@ use Rattle.tc_model.specs.Tables.{IsServed, IsGiven, setting_of}
 use Rattle.tc_model.specs.Tuples.{after_items}
 use Rattle.tc_model.specs.declared.calls.CallId.{CallId}
 use Rattle.tc_model.specs.declared.calls.Op.{Op}
-use Rattle.tc_model.specs.declared.calls.Op.TheVariants.{In, Rd, Inp, Rdp}
+use Rattle.tc_model.specs.declared.calls.Op.TheVariants.{Out, In, Rd, Inp, Rdp}
 use Rattle.tc_model.specs.declared.calls.Request.{Request}
+use Rattle.tc_model.specs.declared.calls.Wants.{Wants}
+use Rattle.tc_model.specs.declared.calls.Wants.TheVariants.{Take, Look}
 use Rattle.tc_model.specs.declared.items.Item.{Item}
 use Rattle.tc_model.specs.declared.limits.TheConstants.{MOST_GOALS}
 use Rattle.tc_model.specs.declared.outcomes.Outcome.{Outcome}
@@ -23,6 +25,8 @@ use Rattle.tc_centre.specs.Turns.{IsAnswer}
 use Rattle.tc_centre.specs.declared.answers.Answer.{Answer}
 use Rattle.tc_centre.specs.declared.founding.Founding.{Founding}
 use Rattle.tc_centre.specs.declared.holdings.Holdings.{Holdings}
+use Rattle.tc_centre.specs.declared.operations.TupleOp.{TupleOp}
+use Rattle.tc_centre.specs.declared.operations.TupleOp.TheVariants as tuples
 use Rattle.tc_phases.specs.Phases.{setting_in}
 use Rattle.tc_phases.specs.declared.regime.Regime.{Regime}
 
@@ -33,13 +37,13 @@ pub record IsRegimeOf (founding : Founding) (clauses : List Rule) (id : CallId) 
   pub setting : setting_in regime ≡ setting_of (origin_of founding) id
   pub budget : regime.budget ≡ founding.budget
 
--- the operation that waits for a tuple, to take it or to read it
-abbrev pub request_op : Bool → Tree → Op
-request_op takes template = if takes then In template else Rd template
-
--- the operation that takes or reads a tuple, where one is there
-abbrev pub search_op : Bool → Tree → Op
-search_op takes template = if takes then Inp template else Rdp template
+-- an operation on tuples, as agents know it
+abbrev pub op_of : TupleOp → Op
+op_of (tuples.Put tuple) = Out tuple
+op_of (tuples.Request Take template) = In template
+op_of (tuples.Request Look template) = Rd template
+op_of (tuples.Search Take template) = Inp template
+op_of (tuples.Search Look template) = Rdp template
 
 -- what a search tells that has found this
 abbrev pub outcome_of : Option Tree → Outcome
@@ -60,9 +64,9 @@ pub record Performs (id : CallId) (op : Op) (old new : Holdings) (outcome : Outc
   pub keeps : KeepsOld old new
 
 -- the state after the reactions to an answer, before the request is removed
-abbrev pub after_giving : Bool → Outcome → List Item → State → State
-after_giving takes outcome items s =
-    unless_over outcome s (with_tuples (after_items items (after_search takes outcome s.tuples)) s)
+abbrev pub after_giving : Wants → Outcome → List Item → State → State
+after_giving wants outcome items s =
+    unless_over outcome s (with_tuples (after_items items (after_search wants outcome s.tuples)) s)
 
 -- the request at a place was answered, with this outcome and these items
 pub record Gives (place : ℕ) (old new : Holdings) (id : CallId) (outcome : Outcome)
@@ -72,12 +76,12 @@ pub record Gives (place : ℕ) (old new : Holdings) (id : CallId) (outcome : Out
   pub of : request.id ≡ id
   pub given : IsGiven TheFirst (origin_of old.founding) (state_held old) request outcome items
   pub state : held old.spec new.bag.now old.pending.now
-      ≡ after_giving request.takes outcome items (state_held old)
+      ≡ after_giving request.wants outcome items (state_held old)
   pub next : RisesBy items old new
   pub keeps : AddsYounger old.bag new.bag
 
--- a call was served: its entry was appended, and then answers, until no request can be answered; and
--- the caller is told what the history then tells
+-- a call was served: its entry was appended, and then answers, until no request can be answered;
+-- and the caller is told what the history then tells
 pub record HasServed (id : CallId) (op : Op) (old new : Holdings) (told : Answer) : Type 0 where
   pub rest : IsAtRest new
   pub grown : Grows id op old.history.items new.history.items

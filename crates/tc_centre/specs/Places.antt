@@ -1,5 +1,6 @@
 -- Where a history tells what became of each of its calls.
-use Rattle.std.specs.Prelude.{◌≡◌, ℕ, ◌-◌, ◌<◌, Option, Some, None, List, [], length}
+use Rattle.std.specs.Prelude.{◌≡◌, ℕ, ◌-◌, ◌<◌, Option, Some, None, List, []}
+use Rattle.std.specs.Prelude.{length}
 use Rattle.std.specs.Prelude.{map, slice_get, slice_set, slice_index_or}
 use Rattle.std.specs.Prelude.{vec_len, vec_capacity}
 use Rattle.std.specs.Option.{MatchOption}
@@ -61,7 +62,8 @@ lists_of places = map (λ calls. calls.items) places
 
 -- for how many more calls of an agent there is room
 abbrev pub room_in : {S : Type 0} → List (Vec (ℕ × ℕ) S) → ℕ → ℕ
-room_in places agent = slice_index_or (map (λ calls. vec_capacity calls - vec_len calls) places) agent 0
+room_in places agent =
+    slice_index_or (map (λ calls. vec_capacity calls - vec_len calls) places) agent 0
 
 -- the call of this id stands here
 pub record IsCallAt (history : List Entry) (place : ℕ) (id : CallId) : Type 0 where

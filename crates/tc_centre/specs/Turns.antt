@@ -1,12 +1,12 @@
 -- What a turn of a centre does.
-use Rattle.std.specs.Prelude.{◌≡◌, ℕ, Option, Some, None, List, [], ◌∷◌, ◌++◌, All}
+use Rattle.std.specs.Prelude.{◌≡◌, ℕ, Option, Some, None, List, [], ◌∷◌, ◌++◌}
+use Rattle.std.specs.Prelude.{All}
 use Rattle.tc_model.specs.Replies.{reply_in}
 use Rattle.tc_model.specs.Calls.{call_of}
 use Rattle.tc_model.specs.Run.{IsFirstRun, HasCall}
 use Rattle.tc_model.specs.State.{IsQuiescent}
 use Rattle.tc_model.specs.declared.calls.CallId.{CallId}
 use Rattle.tc_model.specs.declared.calls.Op.{Op}
-use Rattle.tc_model.specs.declared.calls.Op.TheVariants.{Out, In, Rd, Inp, Rdp, SetSpec, GetSpec}
 use Rattle.tc_model.specs.declared.items.Item.{Item}
 use Rattle.tc_model.specs.declared.outcomes.Outcome.{Outcome}
 use Rattle.tc_model.specs.declared.outcomes.Reply.{Reply}
@@ -22,16 +22,6 @@ use Rattle.tc_centre.specs.declared.answers.Poll.TheVariants as poll
 use Rattle.tc_centre.specs.declared.answers.PollFault.{PollFault}
 use Rattle.tc_centre.specs.declared.answers.PollFault.TheVariants as fault
 
--- the operation is on tuples, not on clauses
-abbrev pub IsOnTuples : Op → Type 0
-IsOnTuples (Out tuple) = Unit {0}
-IsOnTuples (In template) = Unit {0}
-IsOnTuples (Rd template) = Unit {0}
-IsOnTuples (Inp template) = Unit {0}
-IsOnTuples (Rdp template) = Unit {0}
-IsOnTuples (SetSpec clauses) = ⊥
-IsOnTuples GetSpec = ⊥
-
 -- the entry answers a request
 abbrev pub IsGave : Entry → Type 0
 IsGave (Gave id result items) = Unit {0}
@@ -42,8 +32,9 @@ abbrev pub IsAnswer : Option Reply → Answer → Type 0
 IsAnswer reply (answer.Replied r) = reply ≡ Some r
 IsAnswer reply answer.Pending = reply ≡ None
 
--- a call is served: its entry is appended, and then answers to requests, until none can be answered;
--- the history stays a run of first choices, and the caller is told the reply that it gives
+-- a call is served: its entry is appended, and then answers to requests, until none can be
+-- answered; the history stays a run of first choices, and the caller is told the reply that it
+-- gives
 pub record Serves (old new : Centre) (id : CallId) (op : Op) (told : Answer) : Type 0 where
   pub result : Outcome
   pub items : List Item
@@ -76,7 +67,8 @@ pub record Tells (old new : Centre) (id : CallId) (asked : ℕ) (told : Poll) : 
 
 -- why a look is refused: the agent has made no such call, or the centre is full
 abbrev pub IsPollRefused : Centre → CallId → ℕ → PollFault → Type 0
-IsPollRefused centre id asked fault.Stranger = HasCall (call_of id.agent asked) centre.history → ⊥
+IsPollRefused centre id asked fault.Stranger =
+    HasCall (call_of id.agent asked) centre.history → ⊥
 IsPollRefused centre id asked (fault.Full weight pending) =
     HasCall (call_of id.agent asked) centre.history × IsFullCentre centre
     × (weight ≡ weight_in centre) × (pending ≡ waiting_in centre)

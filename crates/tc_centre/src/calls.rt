@@ -1,5 +1,6 @@
 //! The numbers of an agent's calls, which rise, each with a place.
-ghost use Rattle.std.specs.Prelude.{◌≡◌, ◌<◌, None, IfSome, IfNone, vec_len, vec_capacity};
+ghost use Rattle.std.specs.Prelude.{◌≡◌, ◌<◌, None, IfSome, IfNone, vec_len};
+ghost use Rattle.std.specs.Prelude.{vec_capacity};
 ghost use Rattle.tc_centre.specs.Calls.{place_of, IsAbove, IsAt, Rises, SetsPlace};
 
 /// The place of the call of this number.

@@ -1,5 +1,6 @@
 //! The centre and its history.
-ghost use Rattle.std.specs.Prelude.{◌≡◌, ◌↔◌, ◌+◌, ◌*◌, ◌<◌, ◌≤◌, [], ◌∷◌, ◌++◌, IsTrue};
+ghost use Rattle.std.specs.Prelude.{◌≡◌, ◌↔◌, ◌+◌, ◌*◌, ◌<◌, ◌≤◌, []};
+ghost use Rattle.std.specs.Prelude.{◌∷◌, ◌++◌, IsTrue};
 ghost use Rattle.std.specs.Prelude.{IfOk, OnOk, OnErr};
 ghost use Rattle.tc_model.specs.Replies.{reply_in};
 ghost use Rattle.tc_model.specs.declared.limits.TheConstants.{MOST_BUDGET, MOST_WEIGHT};
@@ -13,7 +14,7 @@ use crate::founding::{Founding, fill};
 use crate::holdings::Holdings;
 use crate::numbers::{no_numbers, note_number};
 use crate::places::{Places, has_call, make_room, no_places, note_turn, reply_to_call};
-use crate::serving::{guarded, typed_id};
+use crate::serving::{serve, typed_id};
 use crate::weights::weigh;
 use std::alloc::Global;
 use std::marker::Model;
@@ -25,8 +26,8 @@ use tc_spec::Spec;
 use tc_term::{Ground, Name};
 use tc_unify::Store;
 
-/// A tuple centre: what it began with, its tuples, the requests that wait, and its history, with the
-/// places in it that tell what became of its calls.
+/// A tuple centre: what it began with, its tuples, the requests that wait, and its history, with
+/// the places in it that tell what became of its calls.
 #[derive(Drop)]
 pub struct Core {
     held: Holdings,
@@ -52,14 +53,17 @@ impl Model for Core {
 }
 
 impl Core {
-    ghost use Rattle.std.specs.Prelude.{◌≡◌, ◌≤◌, ◌↔◌, ◌<◌, ℕ, All, length, slice_get, IsTrue};
-    ghost use Rattle.std.specs.Prelude.{◌+◌, ◌-◌, ◌^◌, ◌⊎◌, IfOk, IfErr, IfSome, IfNone, OnErr, Some};
+    ghost use Rattle.std.specs.Prelude.{◌≡◌, ◌≤◌, ◌↔◌, ◌<◌, ℕ, All, length};
+    ghost use Rattle.std.specs.Prelude.{slice_get, IsTrue};
+    ghost use Rattle.std.specs.Prelude.{◌+◌, ◌-◌, ◌^◌, ◌⊎◌, IfOk, IfErr, IfSome};
+    ghost use Rattle.std.specs.Prelude.{IfNone, OnErr, Some};
     ghost use Rattle.std.specs.Option.{option_copied};
     ghost use Rattle.tc_model.specs.Replies.{reply_in};
     ghost use Rattle.tc_model.specs.declared.limits.TheConstants.{MOST_WEIGHT};
     ghost use Rattle.tc_model.specs.State.{IsOrigin, IsQuiescent, origin_from};
     ghost use Rattle.tc_model.specs.Run.{IsNext, IsRun, IsFirstRun, HasCall};
-    ghost use Rattle.tc_centre.specs.Centre.{centre_from, state_of, weight_in, waiting_in, IsFullCentre};
+    ghost use Rattle.tc_centre.specs.Centre.{centre_from, state_of, weight_in, waiting_in};
+    ghost use Rattle.tc_centre.specs.Centre.{IsFullCentre};
     ghost use Rattle.tc_model.specs.Typed.{IsTyped};
     ghost use Rattle.tc_centre.specs.Numbers.{IsLast, IsAbove, IsNextCall};
     ghost use Rattle.tc_centre.specs.Turns.{Serves, IsFullFault, Tells, IsPollRefused};
@@ -109,8 +113,8 @@ impl Core {
     /// oldest first, each with the oldest tuple that matches.
     ///
     /// Where the history is too heavy for another call, it is refused. Takes the time of one search
-    /// among the tuples where one is asked for, some nanoseconds for each request that waits where a
-    /// tuple is put, and that of the answers, however long the history is.
+    /// among the tuples where one is asked for, some nanoseconds for each request that waits where
+    /// a tuple is put, and that of the answers, however long the history is.
     pub fn turn(&mut self, alloc: Global, id: CallId, op: Op) -> Result<Answer, TurnFault>
         requires { IsNext self.old.origin self.old.history id }
         ensures served { IfOk result (Serves self.old self.new id op) }
@@ -130,7 +134,7 @@ impl Core {
             return Err(TurnFault::NoMemory);
         }
         let before = self.held.history.len();
-        match guarded(alloc, &mut self.held, id, op) {
+        match serve(alloc, &mut self.held, id, op) {
             Ok(answer) => {
                 self.weight += weigh(&self.held.history[before..]);
                 note_turn(&mut self.places, &self.held.history, id, before);
@@ -141,7 +145,8 @@ impl Core {
         }
     }
 
-    /// Tells an agent the reply to its earlier call of the number `asked`, and appends an entry of that.
+    /// Tells an agent the reply to its earlier call of the number `asked`, and appends an entry of
+    /// that.
     ///
     /// Takes about the same time however long the history is.
     pub fn poll(&mut self, alloc: Global, id: CallId, asked: u64) -> Result<Poll, PollFault>
@@ -227,8 +232,10 @@ impl Core {
     /// A greater number is one for the agent's next call.
     pub fn last_number(&self, agent: u32) -> Option<u64>
         ensures last { IsLast agent self.now.history result }
-        ensures next { (number : ℕ) → agent < length self.now.origin.agents → IsAbove result number
-            → IsNext self.now.origin self.now.history (record { agent = agent; number = number }) }
+        ensures next { (number : ℕ) → agent < length self.now.origin.agents
+            → IsAbove result number
+            → IsNext self.now.origin self.now.history
+            (record { agent = agent; number = number }) }
     {
         match self.numbers.get(agent as usize) {
             Some(number) => *number,
@@ -238,7 +245,8 @@ impl Core {
 
     /// The agent's next call: its number is one above its last, or 1. Takes O(1) time.
     ///
-    /// There is none where the centre has no such agent, or its last number is the greatest that there is.
+    /// There is none where the centre has no such agent, or its last number is the greatest that
+    /// there is.
     pub fn next_call(&self, agent: u32) -> Option<CallId>
         ensures next { IfSome result (IsNext self.now.origin self.now.history) }
         ensures number { IfSome result (IsNextCall agent self.now.history) }

@@ -1,8 +1,8 @@
 //! One tuple centre that serves one call after another.
 //!
 //! Its history is always a run, in which every choice is the first, and no request that waits could
-//! be answered. A call that is refused leaves all as it was. Nothing here knows of threads, of roles
-//! or of text.
+//! be answered. A call that is refused leaves all as it was. Nothing here knows of threads, of
+//! roles or of text.
 //!
 //! ```
 //! let mut core = Core::new(alloc, name, agents, budget, clauses, tuples)?;
@@ -11,6 +11,19 @@
 //!     Answer::Pending => { .. } // once a later turn has answered it, `look` tells the reply
 //! }
 //! ```
+//!
+//! The files of src/, in reading order:
+//!
+//! | File | Holds |
+//! |---|---|
+//! | centre | `Core`, the centre with its history: its public calls |
+//! | answers | what it answers to a call and to a look, and why it refuses one |
+//! | founding, holdings | what it began with; what it holds between two steps of a turn |
+//! | serving | a call, its entry, and then the answers; back to what was before where memory ends |
+//! | operations | what an operation does to what is held, by the phases of tc_phases |
+//! | replies, weights | what entries tell of a call, and what they weigh |
+//! | places, calls, numbers | where the entry of each call stands, and each agent's last number |
+//! | chronicle | a centre as a turnstile hands it on |
 #![tactic(auto)]
 
 mod answers;

@@ -1,5 +1,6 @@
 //! The last number of each agent, by the agent's own number.
-ghost use Rattle.std.specs.Prelude.{◌≡◌, ◌<◌, ◌==◌, if◌then◌else◌, ℕ, Some, None, length, IfOk};
+ghost use Rattle.std.specs.Prelude.{◌≡◌, ◌<◌, ◌==◌, if◌then◌else◌, ℕ, Some};
+ghost use Rattle.std.specs.Prelude.{None, length, IfOk};
 ghost use Rattle.tc_centre.specs.Numbers.{number_in};
 
 use std::alloc::Global;
@@ -9,7 +10,8 @@ use tc_model::CallId;
 /// No number yet for any of so many agents.
 pub fn no_numbers(alloc: Global, agents: usize) -> Result<Vec<Option<u64>>, NoMemory>
     ensures agents { IfOk result (λ numbers. length numbers.items ≡ agents) }
-    ensures none { IfOk result (λ numbers. (agent : ℕ) → number_in numbers.items agent ≡ None) }
+    ensures none { IfOk result
+        (λ numbers. (agent : ℕ) → number_in numbers.items agent ≡ None) }
 {
     let mut numbers = Vec::new(alloc);
     numbers.resize(agents, None)?;

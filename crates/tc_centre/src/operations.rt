@@ -1,26 +1,52 @@
 //! Operations on the tuples and the requests of a centre, with their reactions.
-ghost use Rattle.std.specs.Prelude.{◌≡◌, ◌<◌, ◌++◌, ◌∷◌, [], length, remove, IfOk, OnOk};
-ghost use Rattle.tc_model.specs.declared.calls.Op.{Op};
+ghost use Rattle.std.specs.Prelude.{◌≡◌, ◌<◌, ◌++◌, ◌∷◌, [], length, remove};
+ghost use Rattle.std.specs.Prelude.{IfOk, OnOk};
 ghost use Rattle.tc_pending.specs.Answers.{IsNextAnswer};
 ghost use Rattle.tc_centre.specs.Held.{KeepsAround, HoldsRun};
-ghost use Rattle.tc_centre.specs.Operations.{request_op, search_op, outcome_of, IsRegimeOf, Performs, Gives};
+ghost use Rattle.tc_centre.specs.declared.operations.TupleOp.{TupleOp};
+ghost use Rattle.tc_centre.specs.Operations.{op_of, outcome_of, IsRegimeOf, Performs, Gives};
 
 use crate::founding::Founding;
 use crate::holdings::Holdings;
 use std::alloc::Global;
 use tc_cascade::Cascade;
 use tc_lists::{NoMemory, Seq};
-use tc_model::{CallId, Item, Op, Outcome, Phase, Request};
+use tc_model::{CallId, Item, Op, Outcome, Phase, Request, Wants};
 use tc_pending::Pending;
-use tc_phases::{Regime, answer, put, request, search};
+use tc_phases::Regime;
 use tc_spec::Spec;
 use tc_term::{Ground, Pattern};
+
+/// An operation on tuples, by the phase that serves it.
+#[derive(Drop)]
+pub enum TupleOp {
+    Put(Ground),
+    /// It waits for what it wants.
+    Request(Wants, Pattern),
+    /// It looks for what it wants, and doesn't wait.
+    Search(Wants, Pattern),
+}
+
+impl TupleOp {
+    /// The operation as agents know it.
+    pub fn into_op(self) -> Op
+        ensures { result ≡ op_of self }
+    {
+        match self {
+            TupleOp::Put(tuple) => Op::Out(tuple),
+            TupleOp::Request(Wants::Take, template) => Op::In(template),
+            TupleOp::Request(Wants::Look, template) => Op::Rd(template),
+            TupleOp::Search(Wants::Take, template) => Op::Inp(template),
+            TupleOp::Search(Wants::Look, template) => Op::Rdp(template),
+        }
+    }
+}
 
 /// Puts a tuple behind the others, with the reactions to that. Tells the outcome, and what the
 /// reactions did; where they went over the budget, the tuple is gone again.
 ///
 /// Here and below only the marks are as before after a fault.
-pub fn out(
+pub fn put(
     alloc: Global,
     held: &mut Holdings,
     id: CallId,
@@ -28,68 +54,69 @@ pub fn out(
 ) -> Result<(Outcome, Seq<Item>), NoMemory>
     requires run { HoldsRun held.old }
     requires agent { id.agent < length held.old.founding.agents.items }
-    ensures done { IfOk result (λ x. Performs id (Op.Out tuple.now) held.old held.new x.0 x.1) }
+    ensures done { IfOk result
+        (λ x. Performs id (op_of (TupleOp.Put tuple.now)) held.old held.new x.0 x.1) }
     ensures keeps { KeepsAround held.old held.new }
 {
     let regime = regime(&held.founding, &held.spec, id);
-    match put(alloc, &mut held.store, &regime, tuple, &mut held.bag)? {
+    match tc_phases::put(alloc, &mut held.store, &regime, tuple, &mut held.bag)? {
         Cascade::Whole(items) => Ok((Outcome::Done, items)),
         Cascade::Over(items) => Ok((Outcome::Over(Phase::Post, None), items)),
     }
 }
 
 /// Runs the reactions to a request, and appends it, unless they went over the budget.
-pub fn wait(
+pub fn request(
     alloc: Global,
     held: &mut Holdings,
     id: CallId,
-    takes: bool,
+    wants: Wants,
     template: &Pattern,
 ) -> Result<(Outcome, Seq<Item>), NoMemory>
     requires run { HoldsRun held.old }
     requires agent { id.agent < length held.old.founding.agents.items }
     ensures done { IfOk result
-        (λ x. Performs id (request_op takes template.now) held.old held.new x.0 x.1) }
+        (λ x. Performs id (op_of (TupleOp.Request wants template.now)) held.old held.new x.0 x.1) }
     ensures keeps { KeepsAround held.old held.new }
 {
     let regime = regime(&held.founding, &held.spec, id);
-    match request(
+    match tc_phases::request(
         alloc,
         &mut held.store,
         &regime,
-        takes,
+        wants,
         template,
         &mut held.bag,
     )? {
         Cascade::Whole(items) => {
-            append(alloc, id, takes, template, &mut held.pending)?;
+            append(alloc, id, wants, template, &mut held.pending)?;
             Ok((Outcome::Pending, items))
         }
         Cascade::Over(items) => Ok((Outcome::Over(Phase::Pre, None), items)),
     }
 }
 
-/// Takes or reads the oldest tuple that matches, with the reactions to that, or to the failure where
-/// none matches. The tuple is back where they went over the budget.
-pub fn find(
+/// Takes the oldest tuple that matches, or looks at it, with the reactions to that, or to the
+/// failure where none matches. The tuple is back where they went over the budget.
+pub fn search(
     alloc: Global,
     held: &mut Holdings,
     id: CallId,
-    takes: bool,
+    wants: Wants,
     template: &Pattern,
 ) -> Result<(Outcome, Seq<Item>), NoMemory>
     requires run { HoldsRun held.old }
     requires agent { id.agent < length held.old.founding.agents.items }
     ensures done { IfOk result
-        (λ x. Performs id (search_op takes template.now) held.old held.new x.0 x.1) }
+        (λ x. Performs id (op_of (TupleOp.Search wants template.now)) held.old held.new x.0 x.1) }
     ensures keeps { KeepsAround held.old held.new }
 {
     let regime = regime(&held.founding, &held.spec, id);
-    let (found, cascade) = search(
+    let (found, cascade) = tc_phases::search(
         alloc,
         &mut held.store,
         &regime,
-        takes,
+        wants,
         template,
         &mut held.bag,
     )?;
@@ -102,7 +129,7 @@ pub fn find(
 /// Answers the request at a place with the tuple of an age, with the reactions to that, and removes
 /// it. Tells whose request it is, the outcome, and what the reactions did; where they went over the
 /// budget, the tuples are as before.
-pub fn give(
+pub fn answer(
     alloc: Global,
     held: &mut Holdings,
     place: usize,
@@ -116,9 +143,16 @@ pub fn give(
 {
     let request = &held.pending.list()[place];
     let id = request.id;
-    let takes = request.takes;
+    let wants = request.wants;
     let regime = regime(&held.founding, &held.spec, request.id);
-    let (tuple, cascade) = answer(alloc, &mut held.store, &regime, takes, age, &mut held.bag)?;
+    let (tuple, cascade) = tc_phases::answer(
+        alloc,
+        &mut held.store,
+        &regime,
+        wants,
+        age,
+        &mut held.bag,
+    )?;
     held.pending.remove(place);
     match cascade {
         Cascade::Whole(items) => Ok((id, Outcome::Took(tuple), items)),
@@ -143,18 +177,18 @@ fn regime<'c>(founding: &'c Founding, spec: &'c Spec, id: CallId) -> Regime<'c>
 fn append(
     alloc: Global,
     id: CallId,
-    takes: bool,
+    wants: Wants,
     template: &Pattern,
     pending: &mut Pending,
 ) -> Result<(), NoMemory>
     ensures requests { OnOk result (pending.new.now
-        ≡ pending.old.now ++ record { id = id; takes = takes; template = template.now } ∷ []) }
+        ≡ pending.old.now ++ record { id = id; wants = wants; template = template.now } ∷ []) }
     ensures marks { pending.new.saved ≡ pending.old.saved }
 {
     let template = template.copy(alloc)?;
     pending.add(Request {
         id,
-        takes,
+        wants,
         template,
     })
 }

@@ -1,5 +1,6 @@
 //! Where the history tells what became of each of its calls.
-ghost use Rattle.std.specs.Prelude.{◌≡◌, ◌↔◌, ◌+◌, ◌<◌, None, Some, [], All, length, take, drop, slice_get};
+ghost use Rattle.std.specs.Prelude.{◌≡◌, ◌↔◌, ◌+◌, ◌<◌, None, Some, [], All};
+ghost use Rattle.std.specs.Prelude.{length, take, drop, slice_get};
 ghost use Rattle.std.specs.Prelude.{List, IfOk, OnOk, IfSome, IfNone, IsTrue};
 ghost use Rattle.tc_model.specs.Replies.{reply_in};
 ghost use Rattle.tc_model.specs.Run.{HasCall};

@@ -9,44 +9,50 @@ ghost use Rattle.tc_model.specs.declared.calls.Op.{Op};
 ghost use Rattle.tc_centre.specs.Held.{HoldsRun, IsAtRest, Knows, MayServe, known_of};
 ghost use Rattle.tc_centre.specs.Held.{IsSame, KeepsHeld, KeepsAround, KeepsTyped};
 ghost use Rattle.tc_centre.specs.Held.{Answers, Calls, Grows};
-ghost use Rattle.tc_centre.specs.Operations.{Performs, HasServed};
-ghost use Rattle.tc_centre.specs.Turns.{IsOnTuples, IsAnswer};
+ghost use Rattle.tc_centre.specs.Operations.{op_of, Performs, HasServed};
+ghost use Rattle.tc_centre.specs.Turns.{IsAnswer};
 
 use crate::answers::Answer;
 use crate::holdings::Holdings;
-use crate::operations::{find, give, out, wait};
+use crate::operations::{TupleOp, answer, put, request, search};
 use crate::replies::reply_to;
 use std::alloc::Global;
 use tc_lists::{NoMemory, Seq};
-use tc_model::{CallId, Entry, Item, Op, Outcome, Reply};
+use tc_model::{CallId, Clauses, Entry, Item, Op, Outcome, Reply, Wants};
 use tc_pending::Known;
 use tc_spec::{Spec, print_spec};
 
 /// Serves a call, and answers the requests that can be answered, until none is left.
 ///
 /// Where memory ends, all is as before.
-pub fn guarded(alloc: Global, held: &mut Holdings, id: CallId, op: Op) -> Result<Answer, NoMemory>
+pub fn serve(alloc: Global, held: &mut Holdings, id: CallId, op: Op) -> Result<Answer, NoMemory>
     requires may { MayServe id held.old }
     ensures served { IfOk result (HasServed id op held.old held.new) }
     ensures same { OnErr result (IsSame held.old held.new) }
 {
-    match &op {
-        Op::Out(_) | Op::In(_) | Op::Rd(_) | Op::Inp(_) | Op::Rdp(_) => {
-            on_tuples(alloc, held, id, op)
-        }
+    match op {
+        Op::Out(tuple) => on_tuples(alloc, held, id, TupleOp::Put(tuple)),
+        Op::In(template) => on_tuples(alloc, held, id, TupleOp::Request(Wants::Take, template)),
+        Op::Rd(template) => on_tuples(alloc, held, id, TupleOp::Request(Wants::Look, template)),
+        Op::Inp(template) => on_tuples(alloc, held, id, TupleOp::Search(Wants::Take, template)),
+        Op::Rdp(template) => on_tuples(alloc, held, id, TupleOp::Search(Wants::Look, template)),
         Op::SetSpec(clauses) => {
             let spec = Spec::of(alloc, clauses.copy(alloc)?)?;
-            set_spec(alloc, held, id, op, spec)
+            set_spec(alloc, held, id, clauses, spec)
         }
         Op::GetSpec => get_spec(alloc, held, id),
     }
 }
 
 // Serves an operation on tuples, and answers the requests that can be answered.
-fn on_tuples(alloc: Global, held: &mut Holdings, id: CallId, op: Op) -> Result<Answer, NoMemory>
+fn on_tuples(
+    alloc: Global,
+    held: &mut Holdings,
+    id: CallId,
+    op: TupleOp,
+) -> Result<Answer, NoMemory>
     requires may { MayServe id held.old }
-    requires op { IsOnTuples op }
-    ensures served { IfOk result (HasServed id op held.old held.new) }
+    ensures served { IfOk result (HasServed id (op_of op) held.old held.new) }
     ensures same { OnErr result (IsSame held.old held.new) }
 {
     held.bag.mark()?;
@@ -55,7 +61,7 @@ fn on_tuples(alloc: Global, held: &mut Holdings, id: CallId, op: Op) -> Result<A
         return Err(NoMemory);
     }
     let length = held.history.len();
-    match serve(alloc, held, id, op) {
+    match serve_call(alloc, held, id, op) {
         Ok(answer) => {
             held.bag.keep();
             held.pending.keep();
@@ -71,11 +77,16 @@ fn on_tuples(alloc: Global, held: &mut Holdings, id: CallId, op: Op) -> Result<A
 }
 
 // Serves a call and answers what can be answered. After a fault only the marks are as before.
-fn serve(alloc: Global, held: &mut Holdings, id: CallId, op: Op) -> Result<Answer, NoMemory>
+fn serve_call(
+    alloc: Global,
+    held: &mut Holdings,
+    id: CallId,
+    op: TupleOp,
+) -> Result<Answer, NoMemory>
     requires may { MayServe id held.old }
-    requires op { IsOnTuples op }
     ensures rest { OnOk result (IsAtRest held.new) }
-    ensures grown { OnOk result (Grows id op held.old.history.items held.new.history.items) }
+    ensures grown { OnOk result
+        (Grows id (op_of op) held.old.history.items held.new.history.items) }
     ensures answer { IfOk result (IsAnswer (reply_in held.new.history.items id)) }
     ensures keeps { KeepsHeld held.old held.new }
     ensures spec { held.new.spec ≡ held.old.spec }
@@ -95,17 +106,18 @@ fn serve(alloc: Global, held: &mut Holdings, id: CallId, op: Op) -> Result<Answe
 }
 
 // Serves a call and appends its entry.
-fn call(alloc: Global, held: &mut Holdings, id: CallId, op: Op) -> Result<(), NoMemory>
+fn call(alloc: Global, held: &mut Holdings, id: CallId, op: TupleOp) -> Result<(), NoMemory>
     requires may { MayServe id held.old }
-    requires op { IsOnTuples op }
     ensures run { OnOk result (HoldsRun held.new) }
     ensures known { OnOk result (Knows (known_of held.old) held.new) }
-    ensures called { OnOk result (Calls id op held.old.history.items held.new.history.items) }
+    ensures called { OnOk result
+        (Calls id (op_of op) held.old.history.items held.new.history.items) }
     ensures keeps { KeepsHeld held.old held.new }
     ensures spec { held.new.spec ≡ held.old.spec }
     ensures typed { OnOk result (KeepsTyped held.old held.new) }
 {
     let (outcome, items) = perform(alloc, held, id, &op)?;
+    let op = op.into_op();
     typed_id(id);
     op.typed();
     outcome.typed();
@@ -123,26 +135,22 @@ fn perform(
     alloc: Global,
     held: &mut Holdings,
     id: CallId,
-    op: &Op,
+    op: &TupleOp,
 ) -> Result<(Outcome, Seq<Item>), NoMemory>
-    requires op { IsOnTuples op.now }
     requires run { HoldsRun held.old }
     requires agent { id.agent < length held.old.founding.agents.items }
-    ensures done { IfOk result (λ x. Performs id op.now held.old held.new x.0 x.1) }
+    ensures done { IfOk result (λ x. Performs id (op_of op.now) held.old held.new x.0 x.1) }
     ensures keeps { KeepsAround held.old held.new }
 {
     match op {
-        Op::Out(tuple) => out(alloc, held, id, tuple),
-        Op::In(template) => wait(alloc, held, id, true, template),
-        Op::Rd(template) => wait(alloc, held, id, false, template),
-        Op::Inp(template) => find(alloc, held, id, true, template),
-        Op::Rdp(template) => find(alloc, held, id, false, template),
-        Op::SetSpec(_) | Op::GetSpec => unreachable!(),
+        TupleOp::Put(tuple) => put(alloc, held, id, tuple),
+        TupleOp::Request(wants, template) => request(alloc, held, id, *wants, template),
+        TupleOp::Search(wants, template) => search(alloc, held, id, *wants, template),
     }
 }
 
-// Answers the requests that can be answered, the oldest first, until none is left. Only requests and
-// tuples that are not known yet are looked at.
+// Answers the requests that can be answered, the oldest first, until none is left. Only requests
+// and tuples that are not known yet are looked at.
 fn answer_all(alloc: Global, held: &mut Holdings, mut known: Known) -> Result<(), NoMemory>
     requires run { HoldsRun held.old }
     requires known { Knows known held.old }
@@ -152,15 +160,15 @@ fn answer_all(alloc: Global, held: &mut Holdings, mut known: Known) -> Result<()
     ensures spec { held.new.spec ≡ held.old.spec }
     ensures typed { OnOk result (KeepsTyped held.old held.new) }
 {
-    while let Some((place, age)) = held.pending.next_answerable(&held.bag, known)? {
-        answer(alloc, held, place, age)?;
+    while let Some((place, age)) = held.pending.next_answerable(&held.bag, known) {
+        answer_one(alloc, held, place, age)?;
         known = known.without(place);
     }
     Ok(())
 }
 
 // Answers the request at a place with the tuple of an age, and appends the entry of that.
-fn answer(alloc: Global, held: &mut Holdings, place: usize, age: u64) -> Result<(), NoMemory>
+fn answer_one(alloc: Global, held: &mut Holdings, place: usize, age: u64) -> Result<(), NoMemory>
     requires run { HoldsRun held.old }
     requires next { IsNextAnswer held.old.bag.now held.old.pending.now place age }
     ensures run { OnOk result (HoldsRun held.new) }
@@ -172,24 +180,26 @@ fn answer(alloc: Global, held: &mut Holdings, place: usize, age: u64) -> Result<
     ensures spec { held.new.spec ≡ held.old.spec }
     ensures typed { OnOk result (KeepsTyped held.old held.new) }
 {
-    let (id, outcome, items) = give(alloc, held, place, age)?;
+    let (id, outcome, items) = answer(alloc, held, place, age)?;
     held.history.push(Entry::Gave { id, outcome, items })?;
     Ok(())
 }
 
-// Replaces the clauses. Tuples and requests stay, so that still no request can be answered.
+// Replaces the clauses by these, with their numbers. Tuples and requests stay, so that still no
+// request can be answered.
 fn set_spec(
     alloc: Global,
     held: &mut Holdings,
     id: CallId,
-    op: Op,
+    clauses: Clauses,
     spec: Spec,
 ) -> Result<Answer, NoMemory>
     requires may { MayServe id held.old }
-    requires spec { op ≡ Op.SetSpec spec }
-    ensures served { IfOk result (HasServed id op held.old held.new) }
+    requires spec { spec ≡ clauses }
+    ensures served { IfOk result (HasServed id (Op.SetSpec clauses) held.old held.new) }
     ensures same { OnErr result (IsSame held.old held.new) }
 {
+    let op = Op::SetSpec(clauses);
     typed_id(id);
     op.typed();
     held.history.push(Entry::Called {

@@ -9,8 +9,8 @@ use Rattle.tc_model.specs.State.{IsMatch, IsAnswerable}
 use Rattle.tc_model.specs.declared.calls.Request.{Request}
 use Rattle.tc_pending.specs.declared.answering.Known.{Known}
 
--- no request before the one at this place can be answered, and it can, by the tuple of this age, than
--- which no older one matches
+-- no request before the one at this place can be answered, and it can, by the tuple of this age,
+-- than which no older one matches
 pub record IsNextAnswer (rows : List Row) (requests : List Request) (place age : ℕ) : Type 0 where
   pub request : Request
   pub stands : slice_get requests place ≡ Some request
@@ -21,7 +21,8 @@ pub record IsNextAnswer (rows : List Row) (requests : List Request) (place age :
 -- none of the first so many requests can be answered by a tuple of a lower age
 abbrev pub IsKnown : Known → List Row → List Request → Type 0
 IsKnown known rows requests =
-    (request : Request) (row : Row) → Contains (take known.requests requests) request → Contains rows row
+    (request : Request) (row : Row) → Contains (take known.requests requests) request
+    → Contains rows row
     → row.age < known.age → IsMatch request.template row.tuple → ⊥
 
 -- the request asks for the tuple

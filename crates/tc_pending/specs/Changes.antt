@@ -1,5 +1,6 @@
 -- The log by which the list of requests goes back to its marks.
-use Rattle.std.specs.Prelude.{ℕ, ◌≡◌, ◌+◌, ◌-◌, ◌≤◌, List, [], ◌∷◌, length}
+use Rattle.std.specs.Prelude.{ℕ, ◌≡◌, ◌+◌, ◌-◌, ◌≤◌, List, [], ◌∷◌}
+use Rattle.std.specs.Prelude.{length}
 use Rattle.std.specs.Prelude.{map, take, drop, insert, slice_index_or}
 use Rattle.std.specs.declared.vec.Vec.{Vec}
 use Rattle.std.specs.Vec.{vec_capacity}
@@ -57,9 +58,10 @@ AreFiled index filed requests serials changes =
     (n : ℕ) → IsFiled index filed (codes_of (rewound (drop n changes) requests))
     (rewound_serials (drop n changes) serials)
 
--- a log with room for each request to be removed, and for each change to be taken back; the codes are
--- those of the requests; and the requests that there are and may come back are filed
-pub record IsSound {W X Y Z : Type 0} (requests : Vec Request X) (codes : Vec ℕ Z) (serials : Vec ℕ W)
+-- a log with room for each request to be removed, and for each change to be taken back; the codes
+-- are those of the requests; and the requests that there are and may come back are filed
+pub record IsSound {W X Y Z : Type 0} (requests : Vec Request X) (codes : Vec ℕ Z)
+    (serials : Vec ℕ W)
     (index : Index) (below : ℕ) (changes : Vec Change Y) (marks : List ℕ) : Type 0 where
   pub coded : codes.items ≡ codes_of requests.items
   pub filed : AreFiled index below requests.items serials.items changes.items

@@ -58,7 +58,8 @@ KeepsAll old new serials =
 
 -- from a place up to another no code is this one
 abbrev pub HasNone : List ℕ → ℕ → ℕ → ℕ → Type 0
-HasNone codes code from to = (k : ℕ) → from ≤ k → k < to → slice_index_or codes k 0 ≡ code → ⊥
+HasNone codes code from to =
+    (k : ℕ) → from ≤ k → k < to → slice_index_or codes k 0 ≡ code → ⊥
 
 -- the request at this place asks for the tuple
 pub record IsAsking (tuple : Tree) (requests : List Request) (place : ℕ) : Type 0 where
@@ -69,5 +70,6 @@ pub record IsAsking (tuple : Tree) (requests : List Request) (place : ℕ) : Typ
 -- none of the first so many requests that has this code asks for the tuple
 abbrev pub NoneAsks : Tree → List Request → ℕ → ℕ → Type 0
 NoneAsks tuple requests code count =
-    (k : ℕ) (r : Request) → k < count → slice_get requests k ≡ Some r → code_of r.template ≡ code
+    (k : ℕ) (r : Request) → k < count → slice_get requests k ≡ Some r
+    → code_of r.template ≡ code
     → AsksFor tuple r → ⊥

@@ -4,7 +4,8 @@ use Rattle.std.specs.Prelude.{ℕ, ◌≡◌, ◌<◌, List, length, slice_index
 -- the numbers rise
 abbrev pub NumbersRise : List ℕ → Type 0
 NumbersRise numbers =
-    (i j : ℕ) → i < j → j < length numbers → slice_index_or numbers i 0 < slice_index_or numbers j 0
+    (i j : ℕ) → i < j → j < length numbers
+    → slice_index_or numbers i 0 < slice_index_or numbers j 0
 
 -- the number is above the others
 abbrev pub IsAbove : List ℕ → ℕ → Type 0

@@ -1,5 +1,5 @@
 //! Which of the requests that wait is answered next.
-ghost use Rattle.std.specs.Prelude.{◌≡◌, ◌≤◌, length, take, IfOk, IfSome, IfNone};
+ghost use Rattle.std.specs.Prelude.{◌≡◌, ◌≤◌, length, take, IfSome, IfNone};
 ghost use Rattle.tc_lists.specs.Firsts.{NoneOf};
 ghost use Rattle.tc_bag.specs.Stock.{tuples_of};
 ghost use Rattle.tc_model.specs.State.{IsAnswerable};
@@ -8,9 +8,7 @@ ghost use Rattle.tc_pending.specs.Filed.{AreLent};
 
 use crate::asking::oldest_asking;
 use crate::waiters::Waiters;
-use std::alloc::Global;
 use tc_bag::{Bag, Key};
-use tc_lists::NoMemory;
 use tc_model::Request;
 use tc_search::oldest_match_of;
 
@@ -23,7 +21,8 @@ pub struct Known {
 }
 
 impl Known {
-    ghost use Rattle.std.specs.Prelude.{◌≡◌, ◌-◌, ◌<◌, ◌≤◌, List, Contains, length, remove};
+    ghost use Rattle.std.specs.Prelude.{◌≡◌, ◌-◌, ◌<◌, ◌≤◌, List, Contains};
+    ghost use Rattle.std.specs.Prelude.{length, remove};
     ghost use Rattle.tc_bag.specs.Stock.{Row};
     ghost use Rattle.tc_model.specs.declared.calls.Request.{Request};
     ghost use Rattle.tc_pending.specs.Answers.{IsKnown};
@@ -35,7 +34,8 @@ impl Known {
             → place < length requests → IsKnown self rows requests
             → IsKnown result left (remove requests place) }
         ensures inside { (requests : List Request) → place < length requests
-            → self.requests ≤ length requests → result.requests ≤ length (remove requests place) }
+            → self.requests ≤ length requests
+            → result.requests ≤ length (remove requests place) }
         ensures age { result.age ≡ self.age }
     {
         let requests = if place < self.requests {
@@ -84,23 +84,18 @@ pub(crate) fn newly_answerable(waiters: &Waiters, bag: &Bag, known: Known) -> Op
 
 /// The place of the oldest request that can be answered, and the age of the oldest tuple that
 /// answers it, where none before `place` can be answered.
-pub fn answerable_from(
-    _alloc: Global,
-    requests: &[Request],
-    bag: &Bag,
-    place: usize,
-) -> Result<Option<(usize, u64)>, NoMemory>
+///
+/// No memory is taken.
+pub fn answerable_from(requests: &[Request], bag: &Bag, place: usize) -> Option<(usize, u64)>
     requires none { NoneOf (IsAnswerable (tuples_of bag.now.now)) (take place requests.now) }
     requires inside { place ≤ length requests.now }
-    ensures found { IfOk result (λ found. IfSome found
-        (λ r. IsNextAnswer bag.now.now requests.now r.0 r.1)) }
-    ensures none { IfOk result (λ found. IfNone found
-        (NoneOf (IsAnswerable (tuples_of bag.now.now)) requests.now)) }
+    ensures found { IfSome result (λ r. IsNextAnswer bag.now.now requests.now r.0 r.1) }
+    ensures none { IfNone result (NoneOf (IsAnswerable (tuples_of bag.now.now)) requests.now) }
 {
     for at in place..requests.len() {
         if let Some((age, _)) = oldest_match_of(&requests[at].template, bag) {
-            return Ok(Some((at, age)));
+            return Some((at, age));
         }
     }
-    Ok(None)
+    None
 }

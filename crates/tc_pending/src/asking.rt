@@ -1,5 +1,6 @@
 //! The oldest of the requests that wait that asks for a tuple.
-ghost use Rattle.std.specs.Prelude.{◌≡◌, ◌↔◌, ◌<◌, ◌≤◌, length, take, IsTrue, IfSome, IfNone};
+ghost use Rattle.std.specs.Prelude.{◌≡◌, ◌↔◌, ◌<◌, ◌≤◌, length, take, IsTrue};
+ghost use Rattle.std.specs.Prelude.{IfSome, IfNone};
 ghost use Rattle.tc_lists.specs.Firsts.{NoneOf};
 ghost use Rattle.tc_term.specs.Tree.{IsTuple};
 ghost use Rattle.tc_pending.specs.Answers.{AsksFor, IsOldestAsking};
@@ -65,8 +66,8 @@ fn looked_up(waiters: &Waiters, count: usize, wanted: &Wanted) -> usize
     asking_by(waiters, wanted.whole, same, wanted.tuple)
 }
 
-// The place of the oldest of the first `count` requests that asks for a tuple, by their codes, where
-// none before `start` does.
+// The place of the oldest of the first `count` requests that asks for a tuple, by their codes,
+// where none before `start` does.
 fn gone_through(waiters: &Waiters, start: usize, count: usize, wanted: &Wanted) -> Option<usize>
     requires codes { waiters.now.codes.now ≡ codes_of waiters.now.requests.now }
     requires inside { count ≤ length waiters.now.requests.now }
@@ -127,8 +128,8 @@ fn asking_by(waiters: &Waiters, code: u64, count: usize, tuple: &Ground) -> usiz
     count
 }
 
-// The first place from `at` on of the first `count` requests that has this code, where the index has
-// them.
+// The first place from `at` on of the first `count` requests that has this code, where the index
+// has them.
 fn next_by(
     codes: &[u64],
     serials: &[u64],

@@ -1,7 +1,9 @@
 //! Changes of a list of requests, which may be taken back.
-ghost use Rattle.std.specs.Prelude.{◌≡◌, ◌+◌, ◌<◌, ◌≤◌, ◌++◌, ◌∷◌, [], take, drop};
+ghost use Rattle.std.specs.Prelude.{◌≡◌, ◌+◌, ◌<◌, ◌≤◌, ◌++◌, ◌∷◌};
+ghost use Rattle.std.specs.Prelude.{[], take, drop};
 ghost use Rattle.std.specs.Prelude.{if◌then◌else◌, OnOk, vec_len, vec_capacity};
-ghost use Rattle.tc_pending.specs.Changes.{earlier, rewound, earlier_serials, rewound_serials, Fits, AllFit};
+ghost use Rattle.tc_pending.specs.Changes.{earlier, rewound, earlier_serials, rewound_serials};
+ghost use Rattle.tc_pending.specs.Changes.{Fits, AllFit};
 ghost use Rattle.tc_pending.specs.Codes.{codes_of};
 ghost use Rattle.tc_pending.specs.Rising.{NumbersRise};
 ghost use Rattle.tc_pending.specs.Filed.{KeepsAll};
@@ -121,9 +123,11 @@ pub(crate) fn go_back(
     requires serials_room { vec_len serials.old + vec_len changes.old ≤ vec_capacity serials.old }
     requires fit { AllFit changes.old.items requests.old.items }
     requires room { vec_len requests.old + vec_len changes.old ≤ vec_capacity requests.old }
-    ensures requests { requests.new.items ≡ rewound (drop count changes.old.items) requests.old.items }
+    ensures requests { requests.new.items
+        ≡ rewound (drop count changes.old.items) requests.old.items }
     ensures codes { codes.new.items ≡ codes_of requests.new.items }
-    ensures serials { serials.new.items ≡ rewound_serials (drop count changes.old.items) serials.old.items }
+    ensures serials { serials.new.items
+        ≡ rewound_serials (drop count changes.old.items) serials.old.items }
     ensures each { vec_len serials.new ≡ vec_len requests.new }
     ensures changes { changes.new.items ≡ take count changes.old.items }
     ensures codes_capacity { vec_capacity codes.old ≤ vec_capacity codes.new }

@@ -15,8 +15,8 @@ const FEW: usize = 32;
 /// So many remainders of codes are told apart.
 pub const REMAINDERS: u64 = 1024;
 
-/// Pairs of a code and a serial number, in order; and for each remainder of a code, once there was a
-/// pair, whether one with such a code was ever entered.
+/// Pairs of a code and a serial number, in order; and for each remainder of a code, once there was
+/// a pair, whether one with such a code was ever entered.
 #[derive(Drop)]
 pub(crate) struct Index {
     pairs: Pairs,

@@ -1,7 +1,7 @@
 //! Requests that wait for a tuple, and which of them is answered next.
 //!
-//! Nothing here knows of histories, or of what an answer brings about. A caller asks which request a
-//! bag's tuples answer next, takes the tuple, and removes the request:
+//! Nothing here knows of histories, or of what an answer brings about. A caller asks which request
+//! a bag's tuples answer next, takes the tuple, and removes the request:
 //!
 //! ```text
 //! if let Some((place, age)) = pending.oldest_answerable(&bag)? {
@@ -9,6 +9,17 @@
 //!     pending.remove(place);
 //! }
 //! ```
+//!
+//! The files of src/, in reading order:
+//!
+//! | File | Holds |
+//! |---|---|
+//! | pending | `Pending`, the list with its marks: its public calls |
+//! | answering | which request is answered next, where all is looked at, and where some is known |
+//! | asking, waiters | the oldest request that asks for a tuple, among requests that are lent |
+//! | codes, index | codes of templates, and the serial numbers of requests by these codes |
+//! | numbers | the lists of codes and of serial numbers beside the requests |
+//! | changes | what is noted of each change since a mark, and how it is taken back |
 #![tactic(auto)]
 
 mod answering;

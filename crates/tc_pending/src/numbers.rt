@@ -1,5 +1,6 @@
 //! Lists of numbers that stand beside the requests.
-ghost use Rattle.std.specs.Prelude.{ℕ, ◌≡◌, ◌<◌, ◌≤◌, [], ◌∷◌, ◌++◌, length, slice_index_or};
+ghost use Rattle.std.specs.Prelude.{ℕ, ◌≡◌, ◌<◌, ◌≤◌, [], ◌∷◌, ◌++◌};
+ghost use Rattle.std.specs.Prelude.{length, slice_index_or};
 ghost use Rattle.std.specs.Prelude.{insert, IfOk, IfSome, IfNone, vec_len, vec_capacity};
 ghost use Rattle.tc_pending.specs.Rising.{NumbersRise, IsAbove, IsAt};
 

@@ -13,14 +13,13 @@ use tc_model::Request;
 
 /// Requests that wait, oldest first; and marks to which the list goes back.
 ///
-/// Beside each request stand its code, so that those that don't ask for a tuple are passed over, and
-/// its serial number, by which an index names the requests of a code. The index has the requests of
-/// serial numbers below `filed`; the newer ones are few. It changes only where there is no mark.
-/// A mark copies nothing: each change after it is noted, and can be taken back. A mark is the number
-/// of changes before it, and where there is no mark none is noted.
+/// Beside each request stand its code, so that those that don't ask for a tuple are passed over,
+/// and its serial number, by which an index names the requests of a code. The index has the
+/// requests of serial numbers below `filed`; the newer ones are few. It changes only where there is
+/// no mark. A mark copies nothing: each change after it is noted, and can be taken back. A mark is
+/// the number of changes before it, and where there is no mark none is noted.
 #[derive(Drop)]
 pub struct Pending {
-    alloc: Global,
     requests: Vec<Request>,
     request_codes: Vec<u64>,
     serials: Vec<u64>,
@@ -51,7 +50,8 @@ impl Model for Pending {
 }
 
 impl Pending {
-    ghost use Rattle.std.specs.Prelude.{◌≡◌, ◌<◌, ◌≤◌, ◌++◌, ◌∷◌, [], length, remove};
+    ghost use Rattle.std.specs.Prelude.{◌≡◌, ◌<◌, ◌≤◌, ◌++◌, ◌∷◌, []};
+    ghost use Rattle.std.specs.Prelude.{length, remove};
     ghost use Rattle.std.specs.Prelude.{IfOk, IfSome, IfNone, OnOk, OnErr};
     ghost use Rattle.tc_lists.specs.Firsts.{NoneOf};
     ghost use Rattle.tc_bag.specs.Stock.{tuples_of};
@@ -65,7 +65,6 @@ impl Pending {
         ensures { result ≡ record { now = []; saved = [] } }
     {
         Pending {
-            alloc,
             requests: Vec::new(alloc),
             request_codes: Vec::new(alloc),
             serials: Vec::new(alloc),
@@ -83,32 +82,33 @@ impl Pending {
         &self.requests
     }
 
-    /// The place, from 0, of the request that is answered next, and the age of the tuple that answers
-    /// it: the oldest request that can be answered, by the oldest tuple that matches.
+    /// The place, from 0, of the request that is answered next, and the age of the tuple that
+    /// answers it: the oldest request that can be answered, by the oldest tuple that matches.
     ///
-    /// `None` says that no request can be answered. Takes O(requests × tuples) time.
+    /// `None` says that no request can be answered. Takes no memory, and so never fails, and
+    /// O(requests × tuples) time.
     pub fn oldest_answerable(&self, bag: &Bag) -> Result<Option<(usize, u64)>, NoMemory>
         ensures found { IfOk result (λ found. IfSome found
             (λ r. IsNextAnswer bag.now.now self.now.now r.0 r.1)) }
         ensures none { IfOk result (λ found. IfNone found
             (NoneOf (IsAnswerable (tuples_of bag.now.now)) self.now.now)) }
+        ensures never_fails { OnErr result ⊥ }
     {
-        answerable_from(self.alloc, &self.requests, bag, 0)
+        Ok(answerable_from(&self.requests, bag, 0))
     }
 
     /// The same as `oldest_answerable`, where it is known what no longer has to be looked at.
     ///
     /// Tuples of an age from `known.age` on are new to all requests, and requests from the place
-    /// `known.requests` on are new to all tuples. For each new tuple the known requests are looked up
-    /// by its code, in O(log requests) for each that has it; for each new request the bag is searched
-    /// once.
-    pub fn next_answerable(&self, bag: &Bag, known: Known) -> Result<Option<(usize, u64)>, NoMemory>
+    /// `known.requests` on are new to all tuples. For each new tuple the known requests are looked
+    /// up by its code, in O(log requests) for each that has it; for each new request the bag is
+    /// searched once.
+    pub fn next_answerable(&self, bag: &Bag, known: Known) -> Option<(usize, u64)>
         requires known { IsKnown known bag.now.now self.now.now }
         requires inside { known.requests ≤ length self.now.now }
-        ensures found { IfOk result (λ found. IfSome found
-            (λ r. IsNextAnswer bag.now.now self.now.now r.0 r.1)) }
-        ensures none { IfOk result (λ found. IfNone found
-            (NoneOf (IsAnswerable (tuples_of bag.now.now)) self.now.now)) }
+        ensures found { IfSome result (λ r. IsNextAnswer bag.now.now self.now.now r.0 r.1) }
+        ensures none { IfNone result
+            (NoneOf (IsAnswerable (tuples_of bag.now.now)) self.now.now) }
     {
         let waiters = Waiters {
             requests: &self.requests,
@@ -118,14 +118,15 @@ impl Pending {
             filed: self.filed,
         };
         if let Some(next) = newly_answerable(&waiters, bag, known) {
-            return Ok(Some(next));
+            return Some(next);
         }
-        answerable_from(self.alloc, &self.requests, bag, known.requests)
+        answerable_from(&self.requests, bag, known.requests)
     }
 
     /// Appends a request. Memory is taken for its removal, too, and for its return.
     pub fn add(&mut self, request: Request) -> Result<(), NoMemory>
-        ensures added { OnOk result (self.new ≡ record self.old { now = self.old.now ++ request ∷ [] }) }
+        ensures added { OnOk result
+            (self.new ≡ record self.old { now = self.old.now ++ request ∷ [] }) }
         ensures same { OnErr result (self.new ≡ self.old) }
     {
         make_room(
@@ -162,8 +163,8 @@ impl Pending {
         }
     }
 
-    /// Sets a mark. It takes memory for a number, and where it is the only one, for the index of some
-    /// requests that are new since the last.
+    /// Sets a mark. It takes memory for a number, and where it is the only one, for the index of
+    /// some requests that are new since the last.
     pub fn mark(&mut self) -> Result<(), NoMemory>
         ensures marked { OnOk result (self.new ≡ marked_requests self.old) }
         ensures same { OnErr result (self.new ≡ self.old) }

@@ -1,5 +1,6 @@
 -- What an agent's pass of a shared centre knows, and what each call does to it.
-use Rattle.std.specs.Prelude.{◌≡◌, ℕ, ◌+◌, ◌-◌, ◌<◌, ◌≤◌, Option, None, List, [], ◌∷◌, ◌++◌, All}
+use Rattle.std.specs.Prelude.{◌≡◌, ℕ, ◌+◌, ◌-◌, ◌<◌, ◌≤◌, Option, None}
+use Rattle.std.specs.Prelude.{List, [], ◌∷◌, ◌++◌, All}
 use Rattle.std.specs.Prelude.{false, true, length}
 use mathlib.Core.List.{IsPrefix}
 use Rattle.tc_model.specs.Calls.{call_of, calls_of}
@@ -65,7 +66,8 @@ pub record IsFreshPassOf (t : TurnstileState Origin) (p : PassState Entry Origin
   pub none : p.mine ≡ []
 
 -- the pass p after a turn in which it came to know the history, of which these entries are its own
-abbrev pub after_turn : PassState Entry Origin → List Entry → List Entry → PassState Entry Origin
+abbrev pub after_turn : PassState Entry Origin → List Entry → List Entry
+    → PassState Entry Origin
 after_turn p history mine = record p { turns = p.turns - 1; seen = history; mine = mine }
 
 -- q is the centre's pass of the same agent as p, and holds no turn
@@ -84,8 +86,8 @@ pub record Finds (t : TurnstileState Origin) (p : PassState Entry Origin) (found
 
 -- a call was served in a turn that found room: q knows its entry, and then answers to requests,
 -- behind the history that was found, and the caller is told the reply that q's history gives
-pub record CallsInTurn (t : TurnstileState Origin) (p : PassState Entry Origin) (number : ℕ) (op : Op)
-    (told : Answer) (q : PassState Entry Origin) : Type 0 where
+pub record CallsInTurn (t : TurnstileState Origin) (p : PassState Entry Origin) (number : ℕ)
+    (op : Op) (told : Answer) (q : PassState Entry Origin) : Type 0 where
   pub found : List Entry
   pub finds : Finds t p found q
   pub room : IsFull t.origin found → ⊥
@@ -162,7 +164,8 @@ IsLookRefused t p look.NoMemory q = Sees t p q
 
 -- why a wait ended without a reply: no turn is left, and if one was, q knows of no reply to the
 -- call; or memory ran out in a turn
-abbrev pub IsWaitRefused : PassState Entry Origin → ℕ → LookFault → PassState Entry Origin → Type 0
+abbrev pub IsWaitRefused : PassState Entry Origin → ℕ → LookFault → PassState Entry Origin
+    → Type 0
 IsWaitRefused p number look.TurnsSpent q =
     (q.turns ≡ 0) × (p.turns ≡ 0 → q ≡ p)
     × (0 < p.turns → reply_in q.seen (call_of p.number number) ≡ None)

@@ -1,5 +1,6 @@
 //! The centre, its passes, and a turn that is kept.
-ghost use Rattle.std.specs.Prelude.{◌≡◌, [], ◌<◌, ◌≤◌, ℕ, false, Some, length, IfOk, IfErr, OnErr, All};
+ghost use Rattle.std.specs.Prelude.{◌≡◌, [], ◌<◌, ◌≤◌, ℕ, false, Some, length};
+ghost use Rattle.std.specs.Prelude.{IfOk, IfErr, OnErr, All};
 ghost use Rattle.tc_model.specs.Calls.{id_of, calls_of, call_of};
 ghost use Rattle.tc_model.specs.Run.{HasCall};
 ghost use Rattle.tc_model.specs.Replies.{reply_in};
@@ -7,7 +8,8 @@ ghost use Rattle.tc_centre.specs.Owners.{owner_of};
 ghost use Rattle.tc_turn.specs.Owners.{entries_of};
 ghost use Rattle.tc_turn.specs.Passes.{end_of, new_passes, ended_count, AgreesWith};
 ghost use Rattle.tc_shared.specs.Passes.{IsPassOf, IsFreshPassOf, IsAtRest, KeepsPass, CallsInTurn};
-ghost use Rattle.tc_shared.specs.Passes.{PollsInTurn, Sees, Rests, WaitsInTurns, IsSharedPollRefused};
+ghost use Rattle.tc_shared.specs.Passes.{PollsInTurn, Sees, Rests, WaitsInTurns};
+ghost use Rattle.tc_shared.specs.Passes.{IsSharedPollRefused};
 ghost use Rattle.tc_shared.specs.Passes.{IsCallRefused, IsLookRefused, IsWaitRefused};
 ghost use Rattle.tc_shared.specs.Passes.{IsSpent, IsPaused, IsPausedOf};
 
@@ -69,8 +71,8 @@ impl Model for Paused {
     ghost view = { λ p. p.held.value };
 }
 
-// What holds of every core.
-fn vouch(core: &Core)
+/// Tells contracts what holds of every core, and does nothing.
+pub fn vouch(core: &Core)
     ensures { IsAtRest core.now.origin core.now.history }
 {
     let _ = core.history();
@@ -114,11 +116,13 @@ impl SharedCentre {
         requires own { IsPassOf self.now pass.old }
         requires free { pass.old.holds ≡ false }
         requires next { All (λ e. (id_of e).number < number) pass.old.mine }
-        ensures served { IfOk result (λ told. CallsInTurn self.now pass.old number op told pass.new) }
+        ensures served { IfOk result
+            (λ told. CallsInTurn self.now pass.old number op told pass.new) }
         ensures refused { IfErr result (λ fault. IsCallRefused self.now pass.old fault pass.new) }
         ensures spent { pass.old.turns ≡ 0 → result ≡ Err CallFault.TurnsSpent }
         ensures kept { KeepsPass self.now pass.old pass.new }
-        ensures called { IfOk result (λ _. HasCall (call_of pass.new.number number) pass.new.seen) }
+        ensures called { IfOk result
+            (λ _. HasCall (call_of pass.new.number number) pass.new.seen) }
     {
         let Ok(mut held) = self.turnstile.enter(rt, pass) else {
             return Err(CallFault::TurnsSpent);
@@ -222,7 +226,8 @@ impl SharedCentre {
         requires own { IsPassOf self.now pass.old }
         requires free { pass.old.holds ≡ false }
         requires next { All (λ e. (id_of e).number < number) pass.old.mine }
-        ensures told { IfOk result (λ told. PollsInTurn self.now pass.old number asked told pass.new) }
+        ensures told { IfOk result
+            (λ told. PollsInTurn self.now pass.old number asked told pass.new) }
         ensures refused { IfErr result (λ fault.
             IsSharedPollRefused self.now pass.old asked fault pass.new) }
         ensures spent { pass.old.turns ≡ 0 → result ≡ Err SharedPollFault.TurnsSpent }
@@ -301,7 +306,8 @@ impl SharedCentre {
         ensures origin { result.origin ≡ self.origin }
         ensures seen { All (AgreesWith owner_of result.history) ended.items }
         ensures calls { All (λ e. calls_of e.number result.history ≡ e.mine) ended.items }
-        ensures others { (n : ℕ) → self.passes ≤ n → entries_of owner_of n result.history ≡ [] }
+        ensures others { (n : ℕ) → self.passes ≤ n
+            → entries_of owner_of n result.history ≡ [] }
     {
         let SharedCentre {
             turnstile,

@@ -21,5 +21,5 @@ mod centre;
 mod waking;
 
 pub use answers::{CallFault, LookFault, SharedPollFault};
-pub use centre::{CentrePass, EndedPass, Paused, SharedCentre};
+pub use centre::{CentrePass, EndedPass, Paused, SharedCentre, vouch};
 pub use tc_lists::NoMemory;

@@ -1,6 +1,5 @@
 use Rattle.std.proofs.Common.{◌≤◌, length, sym, subst, ◌∙◌, arith}
 use Rattle.std.proofs.lemmas.Option.{slice_get_within}
-use Rattle.tc_lists.proofs.Options.{IfSome-at}
 use Rattle.tc_pending.specs.Answers.{IsKnown}
 use Rattle.tc_centre.proofs.Growing.{answers-more, keeps-more}
 use Rattle.tc_centre.proofs.Known.{known-more}
@@ -9,10 +8,10 @@ use Rattle.tc_centre.proofs.serving.answer_all.Goals as goal
 pub loop-place-preserved : goal.loop-place-preserved
 loop-place-preserved c =
     let old = c.loop-place.held in
-    let new = c.answer.new.held in
-    let told = c.in_ok-answer.ensures in
+    let new = c.answer_one.new.held in
+    let told = c.in_ok-answer_one.ensures in
     let knows = c.loop-place.invariant.known in
-    let next = IfSome-at _ c.in_ok-place.field-0 (c.in-Some.place, c.in-Some.age) c.in-Some.is c.in_ok-place.ensures.found in
+    let next = c.in-Some.ensures.found in
     let inside = slice_get_within old.pending.now c.in-Some.place next.request next.stands in
     record {
       run = told.run;
@@ -26,7 +25,7 @@ loop-place-preserved c =
       };
       answers = answers-more c.args.held.now.history.items old.history.items new.history.items
           c.loop-place.invariant.answers told.answers;
-      keeps = keeps-more c.args.held.now old new c.loop-place.invariant.keeps c.answer.ensures.keeps;
-      spec = c.answer.ensures.spec ∙ c.loop-place.invariant.spec;
+      keeps = keeps-more c.args.held.now old new c.loop-place.invariant.keeps c.answer_one.ensures.keeps;
+      spec = c.answer_one.ensures.spec ∙ c.loop-place.invariant.spec;
       typed = λ all. told.typed (c.loop-place.invariant.typed all);
     }

@@ -19,27 +19,27 @@ use Rattle.tc_centre.proofs.centre.Core.turn.Goals as goal
 pub note_turn-requires-clause-run : goal.note_turn-requires-clause-run
 note_turn-requires-clause-run c =
     subst IsSomeRun (sym c.deref-in-Ok.ensures.value) (
-      origin_of c.guarded.new.held.founding,
-      IsRun-first (origin_of c.guarded.new.held.founding) c.guarded.new.held.history.items c.in-Ok.ensures.served.rest.holds.run,
+      origin_of c.serve.new.held.founding,
+      IsRun-first (origin_of c.serve.new.held.founding) c.serve.new.held.history.items c.in-Ok.ensures.served.rest.holds.run,
     )
 
 pub note_turn-requires-clause-answers : goal.note_turn-requires-clause-answers
 note_turn-requires-clause-answers c =
     subst (λ es. All IsGave (drop (c.len-before.result + 1) es)) (sym c.deref-in-Ok.ensures.value)
-    (grown-answers c.args.id c.args.op c.self.inside.held.history.items c.guarded.new.held.history.items c.len-before.result
+    (grown-answers c.args.id c.args.op c.self.inside.held.history.items c.serve.new.held.history.items c.len-before.result
     (c.len-before.ensures ∙ c.self.inside.held.history.ok.0) c.in-Ok.ensures.served.grown)
 
 pub note_turn-requires-clause-called : goal.note_turn-requires-clause-called
 note_turn-requires-clause-called c =
     subst (λ es. IsCallAt es c.len-before.result c.args.id) (sym c.deref-in-Ok.ensures.value)
-    (grown-call c.args.id c.args.op c.self.inside.held.history.items c.guarded.new.held.history.items c.len-before.result
+    (grown-call c.args.id c.args.op c.self.inside.held.history.items c.serve.new.held.history.items c.len-before.result
     (c.len-before.ensures ∙ c.self.inside.held.history.ok.0) c.in-Ok.ensures.served.grown)
 
 pub note_turn-requires-clause-places : goal.note_turn-requires-clause-places
 note_turn-requires-clause-places c =
     subst (ArePlaces (lists_of c.make_room.new.places.items))
     (sym (ap (take c.len-before.result) c.deref-in-Ok.ensures.value
-    ∙ grown-before c.args.id c.args.op c.self.inside.held.history.items c.guarded.new.held.history.items c.len-before.result
+    ∙ grown-before c.args.id c.args.op c.self.inside.held.history.items c.serve.new.held.history.items c.len-before.result
     (c.len-before.ensures ∙ c.self.inside.held.history.ok.0) c.in-Ok.ensures.served.grown))
     (c.make_room.ensures.kept c.self.inside.held.history.items c.self.invariant.places)
 
@@ -61,7 +61,7 @@ pub invariant_of-self-in-Err : goal.invariant_of-self-in-Err
 invariant_of-self-in-Err c =
     let told = c.in-Err.ensures.same in
     record {
-      rest = same-rest c.self.inside.held c.guarded.new.held told c.self.invariant.rest;
+      rest = same-rest c.self.inside.held c.serve.new.held told c.self.invariant.rest;
       weight = c.self.invariant.weight ∙ ap weight (sym told.history);
       places =
           subst (ArePlaces (lists_of c.make_room.new.places.items)) (sym told.history)
@@ -82,18 +82,18 @@ invariant_of-self-in-Ok c =
     subst (λ (k : Centre). IsNext k.origin k.history c.args.id) (sym c.self.view_is) c.requires in
     record {
       rest = told.rest;
-      weight = weight-grown c.self.inside.held.history.items c.guarded.new.held.history.items c.len-before.result
+      weight = weight-grown c.self.inside.held.history.items c.serve.new.held.history.items c.len-before.result
           c.self.inside.weight c.weigh.result
-          (grown-before c.args.id c.args.op c.self.inside.held.history.items c.guarded.new.held.history.items c.len-before.result
+          (grown-before c.args.id c.args.op c.self.inside.held.history.items c.serve.new.held.history.items c.len-before.result
           (c.len-before.ensures ∙ c.self.inside.held.history.ok.0) told.grown)
           c.self.invariant.weight
-          (c.weigh.ensures ∙ ap weight (slice-whole c.guarded.new.held.history.items c.deref.result.now c.len-before.result c.deref.ensures.value));
+          (c.weigh.ensures ∙ ap weight (slice-whole c.serve.new.held.history.items c.deref.result.now c.len-before.result c.deref.ensures.value));
       places = subst (ArePlaces (lists_of c.note_turn.new.places.items)) c.deref-in-Ok.ensures.value c.note_turn.ensures.places;
       lists = c.note_turn.ensures.agents ∙ c.make_room.ensures.agents ∙ c.self.invariant.lists
           ∙ ap (λ (f : Founding). length f.agents.items) (sym told.kept.founding);
       agents = c.note_number.ensures.agents ∙ c.self.invariant.agents
           ∙ ap (λ (f : Founding). length f.agents.items) (sym told.kept.founding);
-      numbers = turn-numbers c.self.inside.held.history.items c.guarded.new.held.history.items c.args.id c.self.inside.numbers.items
+      numbers = turn-numbers c.self.inside.held.history.items c.serve.new.held.history.items c.args.id c.self.inside.numbers.items
           c.note_number.new.numbers.items next.number c.note_number.ensures.noted c.self.invariant.numbers c.args.op told.grown;
       typed = told.typed c.self.invariant.typed;
       bag_unmarked = told.kept.bag ∙ c.self.invariant.bag_unmarked;
@@ -102,5 +102,5 @@ invariant_of-self-in-Ok c =
 
 pub returns-in-Ok-clause-served : goal.returns-in-Ok-clause-served
 returns-in-Ok-clause-served c =
-    serves-held c.self.inside.held c.guarded.new.held c.args.self.now c.args.id c.args.op c.in-Ok.answer c.self.view_is
+    serves-held c.self.inside.held c.serve.new.held c.args.self.now c.args.id c.args.op c.in-Ok.answer c.self.view_is
     c.in-Ok.ensures.served.kept c.in-Ok.ensures.served.grown c.in-Ok.ensures.served.rest c.in-Ok.ensures.served.answer

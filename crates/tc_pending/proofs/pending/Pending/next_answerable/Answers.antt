@@ -1,6 +1,5 @@
 use Rattle.std.proofs.Common.{ap, take, subst, sym, ◌∙◌}
 use Rattle.std.specs.Option.{IfNone}
-use Rattle.std.specs.Result.{IfOk}
 use Rattle.tc_lists.specs.Firsts.{NoneOf}
 use Rattle.tc_bag.specs.Stock.{tuples_of}
 use Rattle.tc_model.specs.State.{IsAnswerable}
@@ -28,6 +27,6 @@ answerable_from-requires-clause-none c =
 pub returns-clause-none : goal.returns-clause-none
 returns-clause-none c =
     let tuples = tuples_of c.args.bag.now.now in
-    subst (λ (w : Waiting). IfOk c.answerable_from.result (λ found. IfNone found (NoneOf (IsAnswerable tuples) w.now))) c.self.view_is
-    (subst (λ rs. IfOk c.answerable_from.result (λ found. IfNone found (NoneOf (IsAnswerable tuples) rs))) c.deref-4.ensures.value
+    subst (λ (w : Waiting). IfNone c.answerable_from.result (NoneOf (IsAnswerable tuples) w.now)) c.self.view_is
+    (subst (λ rs. IfNone c.answerable_from.result (NoneOf (IsAnswerable tuples) rs)) c.deref-4.ensures.value
     c.answerable_from.ensures.none)

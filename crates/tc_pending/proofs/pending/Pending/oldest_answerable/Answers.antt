@@ -1,6 +1,5 @@
 use Rattle.std.proofs.Common.{subst}
 use Rattle.std.specs.Option.{IfNone}
-use Rattle.std.specs.Result.{IfOk}
 use Rattle.tc_lists.specs.Firsts.{NoneOf}
 use Rattle.tc_bag.specs.Stock.{tuples_of}
 use Rattle.tc_model.specs.State.{IsAnswerable}
@@ -10,6 +9,6 @@ use Rattle.tc_pending.proofs.pending.Pending.oldest_answerable.Goals as goal
 pub returns-clause-none : goal.returns-clause-none
 returns-clause-none c =
     let tuples = tuples_of c.args.bag.now.now in
-    subst (λ (w : Waiting). IfOk c.answerable_from.result (λ found. IfNone found (NoneOf (IsAnswerable tuples) w.now))) c.self.view_is
-    (subst (λ rs. IfOk c.answerable_from.result (λ found. IfNone found (NoneOf (IsAnswerable tuples) rs))) c.deref.ensures.value
+    subst (λ (w : Waiting). IfNone c.answerable_from.result (NoneOf (IsAnswerable tuples) w.now)) c.self.view_is
+    (subst (λ rs. IfNone c.answerable_from.result (NoneOf (IsAnswerable tuples) rs)) c.deref.ensures.value
     c.answerable_from.ensures.none)

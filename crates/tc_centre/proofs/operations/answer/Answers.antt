@@ -2,7 +2,7 @@ use Rattle.tc_cascade.specs.declared.cascade.Cascade.TheVariants.{Whole, Over}
 use Rattle.tc_centre.specs.Held.{origin_of}
 use Rattle.tc_centre.proofs.Answered.{request-agent}
 use Rattle.tc_centre.proofs.Given.{read-stands, gives}
-use Rattle.tc_centre.proofs.operations.give.Goals as goal
+use Rattle.tc_centre.proofs.operations.answer.Goals as goal
 
 pub regime-regime-requires : goal.regime-regime-requires
 regime-regime-requires c =

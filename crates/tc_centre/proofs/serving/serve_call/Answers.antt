@@ -1,12 +1,13 @@
 use Rattle.std.proofs.Common.{◌∙◌, sym, ap, length}
+use Rattle.tc_centre.specs.Operations.{op_of}
 use Rattle.tc_centre.proofs.Known.{known-as}
 use Rattle.tc_centre.proofs.Growing.{new-reply}
-use Rattle.tc_centre.proofs.serving.serve.Goals as goal
+use Rattle.tc_centre.proofs.serving.serve_call.Goals as goal
 
 pub returns-in-Some-clause-answer : goal.returns-in-Some-clause-answer
 returns-in-Some-clause-answer c =
     new-reply c.args.held.now.history.items c.call.new.held.history.items c.answer_all.new.held.history.items c.deref.result.now
-    c.args.id c.args.op c.len-before.result c.requires.may.next.number
+    c.args.id (op_of c.args.op) c.len-before.result c.requires.may.next.number
     c.in_ok-call.ensures.called c.in_ok-answer_all.ensures.answers c.deref.ensures.value
     (c.len-before.ensures ∙ c.args.held.now.history.ok.0)
     ∙ sym c.in_ok-reply.ensures ∙ c.in-Some.is
@@ -14,7 +15,7 @@ returns-in-Some-clause-answer c =
 pub returns-in-None-clause-answer : goal.returns-in-None-clause-answer
 returns-in-None-clause-answer c =
     new-reply c.args.held.now.history.items c.call.new.held.history.items c.answer_all.new.held.history.items c.deref.result.now
-    c.args.id c.args.op c.len-before.result c.requires.may.next.number
+    c.args.id (op_of c.args.op) c.len-before.result c.requires.may.next.number
     c.in_ok-call.ensures.called c.in_ok-answer_all.ensures.answers c.deref.ensures.value
     (c.len-before.ensures ∙ c.args.held.now.history.ok.0)
     ∙ sym c.in_ok-reply.ensures ∙ c.in-None.is

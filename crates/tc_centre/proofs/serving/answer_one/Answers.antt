@@ -7,23 +7,23 @@ use Rattle.tc_model.specs.declared.entries.Entry.TheVariants.{Gave}
 use Rattle.tc_centre.specs.Held.{origin_of, IsHeld}
 use Rattle.tc_centre.proofs.Typed.{typed-push}
 use Rattle.tc_centre.proofs.Answered.{answered}
-use Rattle.tc_centre.proofs.serving.answer.Goals as goal
+use Rattle.tc_centre.proofs.serving.answer_one.Goals as goal
 
 pub returns-clause-run : goal.returns-clause-run
 returns-clause-run c =
     let old = c.args.held.now in
-    let new = c.give.new.held in
+    let new = c.answer.new.held in
     let gives = c.in_ok-id.ensures.gives in
     let entry = Gave c.in_ok-id.id c.in_ok-id.outcome c.in_ok-id.items in
     subst (λ f. IsHeld (origin_of f) c.push.new.self.items new.spec new.bag.now new.bag.next new.pending.now)
-    (sym c.give.ensures.keeps.founding)
+    (sym c.answer.ensures.keeps.founding)
     (subst (λ cs. IsHeld (origin_of old.founding) c.push.new.self.items cs new.bag.now new.bag.next new.pending.now)
-    (sym c.give.ensures.keeps.spec)
+    (sym c.answer.ensures.keeps.spec)
     (answered (origin_of old.founding) old.history.items old.spec old.bag.now old.bag.next old.pending.now c.requires.run
     c.push.new.self.items new.bag.now new.bag.next new.pending.now c.args.place c.args.age gives.request
     c.in_ok-id.id c.in_ok-id.outcome c.in_ok-id.items c.requires.next gives.stands gives.of gives.given gives.state
     c.in_ok-id.ensures.requests
-    (c.in_ok-push.ensures.items ∙ ap (λ es. es ++ entry ∷ []) c.give.ensures.keeps.history)
+    (c.in_ok-push.ensures.items ∙ ap (λ es. es ++ entry ∷ []) c.answer.ensures.keeps.history)
     gives.next))
 
 pub returns-clause-fewer : goal.returns-clause-fewer
@@ -36,6 +36,6 @@ returns-clause-fewer c =
 
 pub returns-clause-typed : goal.returns-clause-typed
 returns-clause-typed c all =
-    typed-push c.give.new.held.history.items c.push.new.self.items (Gave c.in_ok-id.id c.in_ok-id.outcome c.in_ok-id.items)
+    typed-push c.answer.new.held.history.items c.push.new.self.items (Gave c.in_ok-id.id c.in_ok-id.outcome c.in_ok-id.items)
     c.in_ok-push.ensures.items tt
-    (subst (All IsTypedCall) (sym c.give.ensures.keeps.history) all)
+    (subst (All IsTypedCall) (sym c.answer.ensures.keeps.history) all)
