@@ -6,7 +6,7 @@ use crate::tally::Tally;
 use anyhow::anyhow;
 use std::alloc::Global;
 use tc_bag::Bag;
-use tc_body::execute_in;
+use tc_body::execute;
 use tc_lists::NoMemory;
 use tc_model::{Context, Event, Reaction};
 use tc_spec::read_spec;
@@ -80,7 +80,7 @@ fn again(
         failed: 0,
     };
     for _ in 0..count {
-        let (item, _) = execute_in(alloc, &mut store, reaction, 1, 1, event, context, bag)?;
+        let (item, _) = execute(alloc, &mut store, reaction, 1, 1, event, context, bag)?;
         tally.count(&item);
     }
     Ok(tally)

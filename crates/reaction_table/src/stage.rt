@@ -79,7 +79,9 @@ impl Stage {
         let context = Context::new(Name::new(alloc, b"ann")?, Name::new(alloc, b"desk")?);
         let context = context.copy(alloc)?;
         let mut bag = bag_of(alloc, &self.tuples)?;
-        let (item, events) = execute(alloc, reaction, 1, 1, event, &context, &mut bag)?;
+        let mut store = Store::new(alloc, 0)?;
+        let done = execute(alloc, &mut store, reaction, 1, 1, event, &context, &mut bag)?;
+        let (item, events) = done;
         print_outcome(alloc, &item, &events, &bag, into)?;
         Ok(())
     }

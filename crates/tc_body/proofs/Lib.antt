@@ -2,3 +2,4 @@ pub mod Plain
 pub mod Values
 pub mod Steps
 pub mod Leading
+pub mod Outcomes

@@ -20,35 +20,9 @@ use tc_unify::Store;
 /// Runs the body of a reaction over the tuples of the bag: each goal takes the oldest tuple that
 /// matches. A body that fails leaves the bag as it was, and so does want of memory.
 ///
-/// The item names the reaction by `pick` and `clause`; the events are those of its effects.
+/// The item names the reaction by `pick` and `clause`; the events are those of its effects. The
+/// store is made anew in the memory that it has, and what it holds before does not count.
 pub fn execute(
-    alloc: Global,
-    r: &Reaction,
-    pick: u32,
-    clause: u32,
-    e: &Event,
-    context: &Context,
-    bag: &mut Bag,
-) -> Result<(Item, Vec<Event>), NoMemory>
-    requires { bag.old.next + MOST_GOALS ≤ u64.MAX }
-    ensures body { IfOk result
-        (λ x. IsBody TheFirst r.now e.now context.now (tuples_of bag.old.now) x.0) }
-    ensures names { IfOk result (λ x. (pick_of x.0 ≡ pick) × (clause_of x.0 ≡ clause)) }
-    ensures events { IfOk result (λ x. x.1.items ≡ raises x.0) }
-    ensures tuples { IfOk result (λ x. IsLeft x.0 bag.old bag.new) }
-    ensures same { OnErr result (bag.new ≡ bag.old) }
-    ensures saved { bag.new.saved ≡ bag.old.saved }
-    ensures adds { AddsYounger bag.old bag.new }
-    ensures next { bag.new.next ≤ bag.old.next + MOST_GOALS }
-{
-    let mut store = Store::new(alloc, 0)?;
-    let done = execute_in(alloc, &mut store, r, pick, clause, e, context, bag)?;
-    Ok(done)
-}
-
-/// As `execute`, with a store that is made anew in the memory that it has. What it holds before
-/// does not count.
-pub fn execute_in(
     alloc: Global,
     store: &mut Store,
     r: &Reaction,
@@ -112,7 +86,7 @@ pub fn execute_in(
 /// Does the goals of a reaction one after another, and leaves what they did in the bag: which goal
 /// has failed, counted from 1, if one has, and the effects of those before it.
 ///
-/// The store is made anew, as in `execute_in`. Where head and event can't be made equal, the first
+/// The store is made anew, as in `execute`. Where head and event can't be made equal, the first
 /// goal has failed. After a failed goal and after want of memory the caller goes back to a mark.
 pub fn run_goals(
     alloc: Global,

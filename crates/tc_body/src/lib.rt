@@ -4,14 +4,17 @@
 //! event triggers, or how a centre serves a call.
 //!
 //! ```text
-//! let (item, events) = execute(alloc, &reaction, 1, clause, &event, &context, &mut bag)?;
+//! let done = execute(alloc, &mut store, &reaction, 1, clause, &event, &context, &mut bag)?;
+//! let (item, events) = done;
 //! ```
 #![tactic(auto)]
 
 mod body;
 mod events;
 mod goal;
+mod laws;
 
-pub use body::{execute, execute_in, run_goals};
+pub use body::{execute, run_goals};
 pub use goal::step;
+pub use laws::body_has_an_outcome;
 pub use tc_lists::NoMemory;

@@ -17,17 +17,13 @@ items_of (Over items) = items
 
 -- it is whole within the budget, and the tuples are those after its items;
 -- or it goes over the budget
-abbrev pub IsEnd : List Rule → Setting → ℕ → Occurrence → Stock → Stock → Cascade → Type 0
+abbrev pub IsEnd :
+    List Rule → Setting → ℕ → Occurrence → Stock → Stock → Cascade → Type 0
 IsEnd clauses setting budget e old new (Whole items) =
     IsWhole TheFirst clauses setting budget e (tuples_of old.now) items
     × (tuples_of new.now ≡ after_items items (tuples_of old.now))
 IsEnd clauses setting budget e old new (Over items) =
     IsOver TheFirst clauses setting budget e (tuples_of old.now) items
-
--- all is as it was where it went over the budget
-abbrev pub IsUndone : Cascade → Stock → Stock → Type 0
-IsUndone (Whole items) old new = Unit {0}
-IsUndone (Over items) old new = new ≡ old
 
 -- what is left of a bag that was marked before a cascade: all that the cascade has left, with the
 -- marks of before, where it is whole; else the bag of before

@@ -4,13 +4,13 @@ ghost use Rattle.tc_model.specs.Triggers.{IsClause};
 ghost use Rattle.tc_model.specs.declared.limits.TheConstants.{MOST_BUDGET, MOST_GOALS};
 ghost use Rattle.tc_bag.specs.Stock.{AddsYounger, Stock, marked};
 ghost use Rattle.tc_cascade.specs.Ages.{most_ages};
-ghost use Rattle.tc_cascade.specs.Ends.{IsEnd, IsUndone, items_of, kept_or_undone};
+ghost use Rattle.tc_cascade.specs.Ends.{IsEnd, items_of, kept_or_undone};
 ghost use Rattle.tc_cascade.specs.Adding.{Adds, Stands};
 
 use crate::queue::Queue;
 use std::alloc::Global;
 use tc_bag::Bag;
-use tc_body::execute_in;
+use tc_body::execute;
 use tc_lists::{NoMemory, Seq};
 use tc_model::{Clauses, Context, Event, Item, Reaction};
 use tc_spec::Spec;
@@ -29,51 +29,9 @@ pub enum Cascade {
 /// tried as the budget allows.
 ///
 /// After `Whole` the tuples are those that the items leave. After `Over` and after want of memory
-/// the bag is as before.
+/// they may be any: going back is the caller's, by a mark that was set before (`keep_or_undo`). The
+/// store is made anew in the memory that it has, and what it holds before does not count.
 pub fn run(
-    alloc: Global,
-    spec: &Spec,
-    e: &Event,
-    context: &Context,
-    budget: u32,
-    bag: &mut Bag,
-) -> Result<Cascade, NoMemory>
-    requires few { budget ≤ MOST_BUDGET }
-    requires next { bag.old.next + most_ages ≤ u64.MAX }
-    ensures ends { IfOk result (IsEnd spec.now context.now budget e.now bag.old bag.new) }
-    ensures over { IfOk result (λ c. IsUndone c bag.old bag.new) }
-    ensures same { OnErr result (bag.new ≡ bag.old) }
-    ensures per_item { IfOk result (λ c. bag.new.next ≤ bag.old.next + MOST_GOALS * length (items_of c)) }
-    ensures saved { bag.new.saved ≡ bag.old.saved }
-    ensures adds { AddsYounger bag.old bag.new }
-    ensures next { bag.new.next ≤ bag.old.next + most_ages }
-{
-    let mut store = Store::new(alloc, 0)?;
-    bag.mark()?;
-    let end = run_in(alloc, &mut store, spec, e, context, budget, bag);
-    keep_or_undo(&end, bag);
-    end
-}
-
-/// Keeps what a cascade has left, where it is whole, and else goes back to the bag of before it. The
-/// mark that was set then is removed.
-pub fn keep_or_undo(end: &Result<Cascade, NoMemory>, bag: &mut Bag)
-    ensures marked { (before : Stock) → bag.old.saved ≡ (marked before).saved
-        → bag.new ≡ kept_or_undone end.now before bag.old }
-    ensures unmarked { bag.old.saved ≡ [] → bag.new ≡ bag.old }
-{
-    match end {
-        Ok(Cascade::Whole(_)) => bag.keep(),
-        Ok(Cascade::Over(_)) | Err(_) => bag.undo(),
-    }
-}
-
-/// As `run`, but it does not go back, and its store is made anew in the memory that it has. What
-/// the store holds before does not count.
-///
-/// After `Over` and after want of memory the tuples may be any: going back is the caller's, by a
-/// mark that was set before. Marks stay as they were, whatever the answer.
-pub fn run_in(
     alloc: Global,
     store: &mut Store,
     spec: &Spec,
@@ -85,7 +43,10 @@ pub fn run_in(
     requires few { budget ≤ MOST_BUDGET }
     requires next { bag.old.next + most_ages ≤ u64.MAX }
     ensures ends { IfOk result (IsEnd spec.now context.now budget e.now bag.old bag.new) }
-    ensures per_item { IfOk result (λ c. bag.new.next ≤ bag.old.next + MOST_GOALS * length (items_of c)) }
+    ensures per_item { IfOk result
+        (λ c. bag.new.next ≤ bag.old.next + MOST_GOALS * length (items_of c)) }
+
+    // After each answer:
     ensures saved { bag.new.saved ≡ bag.old.saved }
     ensures adds { AddsYounger bag.old bag.new }
     ensures next { bag.new.next ≤ bag.old.next + most_ages }
@@ -105,7 +66,7 @@ pub fn run_in(
             return Ok(Cascade::Whole(Seq::new(items)));
         };
         let reaction = clause_at(spec.clauses(), clause);
-        let (item, events) = execute_in(alloc, store, reaction, 1, clause, event, context, bag)?;
+        let (item, events) = execute(alloc, store, reaction, 1, clause, event, context, bag)?;
         triggered.pass();
         items.push(item)?;
         add_all(
@@ -121,6 +82,19 @@ pub fn run_in(
         Ok(Cascade::Whole(Seq::new(items)))
     } else {
         Ok(Cascade::Over(Seq::new(items)))
+    }
+}
+
+/// Keeps what a cascade has left, where it is whole, and else goes back to the bag of before it.
+/// The mark that was set then is removed.
+pub fn keep_or_undo(end: &Result<Cascade, NoMemory>, bag: &mut Bag)
+    ensures marked { (before : Stock) → bag.old.saved ≡ (marked before).saved
+        → bag.new ≡ kept_or_undone end.now before bag.old }
+    ensures unmarked { bag.old.saved ≡ [] → bag.new ≡ bag.old }
+{
+    match end {
+        Ok(Cascade::Whole(_)) => bag.keep(),
+        Ok(Cascade::Over(_)) | Err(_) => bag.undo(),
     }
 }
 

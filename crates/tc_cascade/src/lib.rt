@@ -5,15 +5,16 @@
 //! what it does with a cascade that went over the budget.
 //!
 //! ```text
-//! match run(alloc, &spec, &event, &context, budget, &mut bag)? {
-//!     Cascade::Whole(items) => { .. } // the tuples are those after the items
-//!     Cascade::Over(items) => { .. }  // the bag is as before
-//! }
+//! bag.mark()?;
+//! let end = run(alloc, &mut store, &spec, &event, &context, budget, &mut bag);
+//! keep_or_undo(&end, &mut bag); // the bag is as before, unless the cascade is whole
 //! ```
 #![tactic(auto)]
 
 mod cascade;
+mod laws;
 mod queue;
 
-pub use cascade::{Cascade, keep_or_undo, run, run_in};
+pub use cascade::{Cascade, keep_or_undo, run};
+pub use laws::cascade_has_an_end;
 pub use tc_lists::NoMemory;

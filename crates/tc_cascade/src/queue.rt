@@ -86,8 +86,8 @@ impl Queue {
         }
     }
 
-    /// Adds the clauses of these numbers, triggered by the event, while fewer are left than there is
-    /// room for.
+    /// Adds the clauses of these numbers, triggered by the event, while fewer are left than there
+    /// is room for.
     pub fn add(&mut self, event: Event, mut numbers: Vec<u32>, room: usize) -> Result<(), NoMemory>
         ensures { OnOk result
             (self.new ≡ self.old ++ take (room - length self.old) (members event numbers.items)) }

@@ -14,7 +14,7 @@ ghost use Rattle.tc_phases.specs.Running.{changed, event_in, taking, IsAllowed};
 use crate::regime::Regime;
 use std::alloc::Global;
 use tc_bag::Bag;
-use tc_cascade::{Cascade, keep_or_undo, run_in};
+use tc_cascade::{Cascade, keep_or_undo, run};
 use tc_lists::{NoMemory, Seq};
 use tc_model::{Context, Event, EventOp, Phase, Sign, Wants};
 use tc_term::{Ground, Pattern};
@@ -103,7 +103,7 @@ fn make_and_run(
     let event = trigger.event(alloc)?;
     let context = context_of(alloc, regime)?;
     make(alloc, change, bag)?;
-    let end = run_in(
+    let end = run(
         alloc,
         store,
         regime.spec,

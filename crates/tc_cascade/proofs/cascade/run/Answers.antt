@@ -1,7 +1,80 @@
-use Rattle.tc_cascade.proofs.Keeping.{AddsYounger-kept_or_undone}
+use Rattle.std.proofs.Common.{◌+◌, ◌-◌, [], ◌∷◌, List, length, drop, refl, sym, ap, subst, ◌∙◌, arith, length-append}
+use Rattle.std.proofs.lemmas.List.{nil_from_length}
+use Rattle.tc_lists.proofs.Bools.{none_from_test}
+use Rattle.tc_model.specs.Reactions.{Rule}
+use Rattle.tc_bag.proofs.Additions.{adds-younger-again}
+use Rattle.tc_model.specs.Triggers.{IsClause}
+use Rattle.tc_cascade.specs.Adding.{Adds, Stands}
+use Rattle.tc_cascade.proofs.Waves.{at_first, at_stands, at_next, at_whole}
 use Rattle.tc_cascade.proofs.cascade.run.Goals as goal
 
-pub returns-clause-adds : goal.returns-clause-adds
-returns-clause-adds c =
-    AddsYounger-kept_or_undone c.run_in-end.result c.args.bag.now c.mark.new.self c.run_in-end.new.bag c.keep_or_undo.new.bag
-    c.in_ok-mark.ensures.marked c.run_in-end.ensures.saved c.keep_or_undo.ensures.marked c.run_in-end.ensures.adds
+pub loop-k-init : goal.loop-k-init
+loop-k-init c =
+    let adds = subst (λ e. Adds c.args.spec.now (e ∷ []) (c.args.budget + 1) c.new-triggered.result c.add.new.triggered) c.in_ok-copy.ensures c.in_ok-add.ensures in
+    record {
+      at = at_first c.args.spec.now c.args.context.now c.args.e.now c.args.bag.now c.new-items.result.items c.new-triggered.result c.add.new.triggered
+          c.args.budget (c.args.budget + 1 - 0) (omega arith) c.new-items.ensures.items c.new-triggered.ensures adds;
+      count = ap length c.new-items.ensures.items;
+      saved = refl;
+      next = omega arith;
+      adds = record { rises = omega arith; added = λ r there older. there };
+    }
+
+pub returns-in_default-clause-ends : goal.returns-in_default-clause-ends
+returns-in_default-clause-ends c =
+    let lt = c.loop-k-test.true in
+    let count = c.loop-k.invariant.count in
+    at_whole c.args.spec.now c.args.context.now c.args.e.now c.args.bag.now c.loop-k.bag c.loop-k.items.items c.new.result c.loop-k.triggered
+    (c.args.budget + 1 - c.loop-k.k) c.args.budget c.loop-k.invariant.at c.in_default.ensures.none
+    (omega (arith, lt)) (omega (arith, lt, count)) c.new.ensures
+
+pub clause_at-reaction-requires : goal.clause_at-reaction-requires
+clause_at-reaction-requires c =
+    subst (λ (cs : List Rule). Stands cs c.in-Some.clause) (sym c.clauses.ensures)
+    (at_stands c.args.spec.now c.args.context.now c.args.e.now c.args.bag.now c.loop-k.bag c.loop-k.items.items c.loop-k.triggered
+    (drop 1 c.loop-k.triggered) (record { clause = c.in-Some.clause; event = c.in-Some.event.now }) (c.args.budget + 1 - c.loop-k.k)
+    (let lt = c.loop-k-test.true in omega (arith, lt)) c.loop-k.invariant.at c.in-Some.ensures.some)
+
+pub loop-k-preserved : goal.loop-k-preserved
+loop-k-preserved c =
+    let cs = c.args.spec.now in
+    let items = c.loop-k.items.items in
+    let item = c.in_ok-item.item in
+    let reaction = c.clause_at-reaction.result.now in
+    let more_room = c.args.budget + 1 - (c.loop-k.k + 1) in
+    let lt = c.loop-k-test.true in
+    let clause : IsClause cs c.in-Some.clause reaction =
+    subst (λ (xs : List Rule). IsClause xs c.in-Some.clause reaction) c.clauses.ensures c.clause_at-reaction.ensures in
+    let adds : Adds cs c.in_ok-item.events.items more_room c.pass.new.self c.add_all.new.triggered =
+    subst (λ n. Adds cs c.in_ok-item.events.items n c.pass.new.self c.add_all.new.triggered) (omega arith) c.in_ok-add_all.ensures in
+    record {
+      at = at_next cs c.args.context.now c.args.e.now c.args.bag.now c.loop-k.bag c.execute.new.bag items c.push.new.self.items
+          (record { clause = c.in-Some.clause; event = c.in-Some.event.now }) c.loop-k.triggered (drop 1 c.loop-k.triggered) c.pass.new.self c.add_all.new.triggered
+          (c.args.budget + 1 - c.loop-k.k) more_room reaction item c.in_ok-item.events.items
+          (omega (arith, lt)) c.loop-k.invariant.at c.in-Some.ensures.some c.pass.ensures clause c.in_ok-item.ensures.body
+          c.in_ok-item.ensures.names c.in_ok-item.ensures.tuples c.in_ok-item.ensures.events adds c.in_ok-push.ensures.items;
+      count = ap length c.in_ok-push.ensures.items ∙ (length-append items (item ∷ []) ∙ ap (λ n. n + 1) c.loop-k.invariant.count);
+      saved = c.in_ok-item.ensures.saved ∙ c.loop-k.invariant.saved;
+      next = omega (arith, c.in_ok-item.ensures.next, c.loop-k.invariant.next);
+      adds = adds-younger-again c.args.bag.now c.loop-k.bag c.execute.new.bag c.loop-k.invariant.adds c.execute.ensures.adds;
+    }
+
+pub returns-then-is_empty-clause-ends : goal.returns-then-is_empty-clause-ends
+returns-then-is_empty-clause-ends c =
+    let end = c.loop-k.auto.k-end in
+    let count = c.loop-k.invariant.count in
+    at_whole c.args.spec.now c.args.context.now c.args.e.now c.args.bag.now c.loop-k.bag c.loop-k.items.items c.new-then-is_empty.result c.loop-k.triggered
+    (c.args.budget + 1 - c.loop-k.k) c.args.budget c.loop-k.invariant.at (nil_from_length c.loop-k.triggered (none_from_test (length c.loop-k.triggered) c.is_empty.result c.is_empty.ensures c.if-is_empty.true))
+    (omega (arith, end)) (omega (arith, end, count)) c.new-then-is_empty.ensures
+
+pub returns-in_err-item-clause-adds : goal.returns-in_err-item-clause-adds
+returns-in_err-item-clause-adds c =
+    adds-younger-again c.args.bag.now c.loop-k.bag c.execute.new.bag c.loop-k.invariant.adds c.execute.ensures.adds
+
+pub returns-in_err-push-clause-adds : goal.returns-in_err-push-clause-adds
+returns-in_err-push-clause-adds c =
+    adds-younger-again c.args.bag.now c.loop-k.bag c.execute.new.bag c.loop-k.invariant.adds c.execute.ensures.adds
+
+pub returns-in_err-add_all-clause-adds : goal.returns-in_err-add_all-clause-adds
+returns-in_err-add_all-clause-adds c =
+    adds-younger-again c.args.bag.now c.loop-k.bag c.execute.new.bag c.loop-k.invariant.adds c.execute.ensures.adds

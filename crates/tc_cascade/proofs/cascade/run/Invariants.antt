@@ -2,7 +2,7 @@ use Rattle.std.proofs.Common.{◌≡◌, ◌≤◌, ◌+◌, ◌-◌, ◌*◌, l
 use Rattle.tc_model.specs.declared.limits.TheConstants.{MOST_GOALS}
 use Rattle.tc_bag.specs.Stock.{AddsYounger}
 use Rattle.tc_cascade.specs.Reached.{IsAt}
-use Rattle.tc_cascade.proofs.cascade.run_in.Given as goal
+use Rattle.tc_cascade.proofs.cascade.run.Given as goal
 
 abbrev pub invariant-loop-k : goal.invariant-loop-k
 invariant-loop-k l = record {
