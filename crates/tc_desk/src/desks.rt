@@ -1,7 +1,8 @@
 //! Desks: what one agent makes its calls at, and what becomes of each.
-ghost use Rattle.std.specs.Prelude.{◌≡◌, true, MatchResult};
-ghost use Rattle.tc_desk.specs.Desks.{DeskState, Keeps, Spends, Waits};
-ghost use Rattle.tc_desk.specs.Desks.{Makes, Refuses, Looks, Stays, Gets, Leaves, Polls};
+ghost use Rattle.std.specs.Prelude.{◌≡◌, ◌<◌, ℕ, true, List, Err, MatchResult, Some};
+ghost use Rattle.std.specs.Prelude.{length, slice_get};
+ghost use Rattle.tc_desk.specs.Desks.{DeskState, HasNoTurnLeft, Keeps, Spends, Waits};
+ghost use Rattle.tc_desk.specs.Desks.{Calls, Looks, Stays, Gets, Leaves, Polls};
 
 use crate::rows::{LogRow, Refusal};
 use std::alloc::Global;
@@ -33,8 +34,8 @@ pub enum DeskFault {
     /// No turn is left at the pending row's centre.
     #[error("no turn is left at the centre of the pending row")]
     TurnsSpent,
-    /// The centre's history is so heavy that it takes no entry of a poll: what it weighs, and how many
-    /// requests are pending.
+    /// The centre's history is so heavy that it takes no entry of a poll: what it weighs, and how
+    /// many requests are pending.
     #[error("the centre is full: its history weighs {weight}, and {pending} requests are pending")]
     Full { weight: u64, pending: u64 },
     /// Memory has run out.
@@ -71,9 +72,25 @@ pub trait Desk {
         ensures kept { Keeps (state self.old) (state self.new) }
         ensures turns { Spends 1 (state self.old) (state self.new) }
         ensures sound { sound self.old → sound self.new }
-        ensures became { MatchResult result
-            (λ served. Makes (state self.old) centre.now ask served (state self.new))
-            (λ why. Refuses (state self.old) centre.now ask why (state self.new)) };
+        ensures became { Calls (state self.old) centre.now ask result (state self.new) };
+
+    /// Makes a call at the centre of this place, from 0: what `call` does by its name.
+    fn call_at<R: Wait>(
+        &mut self,
+        rt: &R,
+        alloc: Global,
+        place: u32,
+        ask: Ask,
+    ) -> Result<Served, Refusal>
+        requires free { (state self.old).free ≡ true }
+        requires inside { place < length (state self.old).names }
+        ensures bond { bond self.new ≡ bond self.old }
+        ensures kept { Keeps (state self.old) (state self.new) }
+        ensures turns { Spends 1 (state self.old) (state self.new) }
+        ensures sound { sound self.old → sound self.new }
+        ensures became { (centre : List ℕ)
+            → slice_get (state self.old).names place ≡ Some centre
+            → Calls (state self.old) centre ask result (state self.new) };
 
     /// Looks whether the pending call has its reply, and puts it into its row.
     fn look<R: Wait>(&mut self, rt: &R, alloc: Global) -> Result<Seen, DeskFault>
@@ -86,12 +103,14 @@ pub trait Desk {
             (λ seen. Looks (state self.old) seen (state self.new))
             (λ why. Stays (state self.old) why (state self.new)) };
 
-    /// Waits until the pending call has its reply, and puts it into its row.
+    /// Waits until the pending call has its reply, and puts it into its row. Where it begins with
+    /// no turn left at that call's centre it doesn't wait.
     fn wait<R: Wait>(&mut self, rt: &R, alloc: Global) -> Result<(), DeskFault>
         requires free { (state self.old).free ≡ true }
         ensures bond { bond self.new ≡ bond self.old }
         ensures kept { Keeps (state self.old) (state self.new) }
         ensures turns { Waits (state self.old) (state self.new) }
+        ensures spent { HasNoTurnLeft (state self.old) → result ≡ Err DeskFault.TurnsSpent }
         ensures sound { sound self.old → sound self.new }
         ensures became { MatchResult result
             (λ _. Gets (state self.old) (state self.new))

@@ -17,16 +17,6 @@ use Rattle.tc_model.specs.declared.asks.Ask.{Ask}
 use Rattle.tc_model.specs.declared.asks.Primitive.{Primitive}
 use Rattle.tc_model.specs.declared.outcomes.Reply.{Reply}
 
--- a write of a row with its reply
-pub put-set : (log front : List LogRow) (row x : LogRow) (back : List LogRow) (reply : Reply) (place : ℕ) → log ≡ front ++ row ∷ back → place ≡ length front
-    → x ≡ get_or log place x → set log place (replied x reply) ≡ front ++ replied row reply ∷ back
-put-set log front row x back reply place from here value =
-    let is : x ≡ row =
-    value ∙ ap (λ l. get_or l place x) from ∙ ap (λ k. get_or (front ++ row ∷ back) k x) here
-    ∙ get_or_from_slice_get (front ++ row ∷ back) (length front) row x (slice_get_seam front row back) in
-    ap (λ l. set l place (replied x reply)) from ∙ set_at front row back (replied x reply) place (sym here)
-    ∙ ap (λ r. front ++ replied r reply ∷ back) is
-
 -- a row that is pending was served
 pending-served : (result : LogResult) → is_served result ≡ false → is_pending result ≡ false
 pending-served (Replied reply) unserved = refl

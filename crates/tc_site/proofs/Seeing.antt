@@ -41,7 +41,8 @@ use Rattle.tc_site.specs.Turns.{HasGrown}
 use Rattle.tc_site.specs.declared.waiting.WaitingAt.{WaitingAt}
 use Rattle.tc_site.proofs.Calling.{are-set, longer-set}
 use Rattle.tc_lists.proofs.Sets.{slice_get-map_at, slice_get-map_from, slice_get-set_other, slice_get-set_same}
-use Rattle.tc_lists.proofs.Places.{slice_get_seam}
+use Rattle.tc_lists.proofs.Places.{slice_get_seam, slice_get_beside}
+use Rattle.tc_desk.proofs.Logs.{any_pending-none}
 use Rattle.tc_lists.proofs.Pairs.{AllPairs-one_place}
 use Rattle.tc_site.proofs.Putting.{put-contains, put-decided, put-read, put-settled, unserved-settled}
 use Rattle.tc_site.proofs.Turned.{none-held}
@@ -129,6 +130,34 @@ module _ {W : Type 0} (d : AgentState W) (is : IsDesk d) (w : WaitingAt)
 
   pub pending-some : any_pending d.log ≡ true
   pending-some = ap any_pending waiting.from ∙ any-middle waiting.front waiting.row_is waiting.back waiting.pending
+
+  -- no other row is pending
+  one-pending : (k : ℕ) (row : LogRow) → slice_get d.log k ≡ Some row → row.result ≡ Pending → row ≡ waiting.row_is
+  one-pending k row at pending =
+      let at-k : slice_get (waiting.front ++ waiting.row_is ∷ waiting.back) k ≡ Some row = ap (λ l. slice_get l k) (sym waiting.from) ∙ at in
+      let done : LogRow = replied waiting.row_is reply.Done in
+      ⊎_elim
+      (λ (here : k ≡ length waiting.front).
+      same_Some row waiting.row_is
+      (sym at-k ∙ ap (slice_get (waiting.front ++ waiting.row_is ∷ waiting.back)) here ∙ slice_get_seam waiting.front waiting.row_is waiting.back))
+      (λ (other : k ≡ length waiting.front → ⊥).
+      absurd
+      (any_pending-none (waiting.front ++ done ∷ waiting.back) k row
+      (put-settled waiting.front waiting.row_is waiting.back reply.Done waiting.pending waiting.settled (unserved-settled waiting.back waiting.unserved_behind))
+      (slice_get_beside waiting.front done waiting.row_is waiting.back k other ∙ at-k) pending))
+      (cases_eq k (length waiting.front))
+
+  -- where the desk has no turn left, the pass of the pending row's centre has none
+  pub pass-spent : (p : PassState Entry Origin) → slice_get d.passes w.centre ≡ Some p → desks.HasNoTurnLeft (desk_of d) → p.turns ≡ 0
+  pass-spent p at-p spent =
+      let f : PassState Entry Origin → ℕ = λ x. x.turns in
+      let stands = spent.is.stands in
+      let row-is : spent.row ≡ waiting.row_is =
+      one-pending stands.0 spent.row (slice_get_read d.log (length d.log) stands.0 spent.row refl stands.1 (sym stands.2)) spent.is.pending in
+      let place : spent.none.place ≡ w.centre =
+      AllPairs-one_place d.site.names spent.none.place w.centre waiting.row_is.centre is.site.differ
+      (spent.none.named ∙ ap (λ (r : LogRow). Some r.centre) row-is) waiting.named in
+      sym (index-was f d.passes w.centre p p at-p) ∙ ap (slice_index (map f d.passes)) (sym place) ∙ spent.none.none
 
   module _ (t : TurnstileState Origin) (p : PassState Entry Origin) (at-t : slice_get d.site.centres w.centre ≡ Some t)
       (at-p : slice_get d.passes w.centre ≡ Some p) where
@@ -588,3 +617,13 @@ has-pass {W = W} {d = d} {w = w} {t = t} {p = p} is same free at at-t value =
         called = waits-called d is w waiting t p at-t at-p;
       };
     }
+
+-- a desk without a pending row isn't one that has no turn left for it
+pub idle-unspent : {W : Type 0} (d s : AgentState W) → IsDesk d → d ≡ s → d.pending ≡ None → desks.HasNoTurnLeft (desk_of s) → ⊥
+idle-unspent {W = W} d s is same none =
+    let idle : any_pending d.log ≡ false = subst (WaitsAt d.site.names d.log) none is.waits in
+    subst (λ (x : AgentState W). desks.HasNoTurnLeft (desk_of x) → ⊥) same
+    (λ (spent : desks.HasNoTurnLeft (desk_of d)).
+    let stands = spent.is.stands in
+    any_pending-none d.log stands.0 spent.row idle
+    (slice_get_read d.log (length d.log) stands.0 spent.row refl stands.1 (sym stands.2)) spent.is.pending)

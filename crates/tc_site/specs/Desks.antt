@@ -1,5 +1,6 @@
 -- What contracts see of an agent's desk.
-use Rattle.std.specs.Prelude.{◌≡◌, ℕ, ◌+◌, ◌<◌, nat_eq, Bool, true, false, List, [], ◌∷◌, ◌++◌, length, map}
+use Rattle.std.specs.Prelude.{◌≡◌, ℕ, ◌+◌, ◌<◌, nat_eq, Bool, true, false, List, []}
+use Rattle.std.specs.Prelude.{◌∷◌, ◌++◌, length, map}
 use Rattle.std.specs.Prelude.{Option, None, Some, slice_get, slice_index}
 use Rattle.std.specs.List.{list_any}
 use Rattle.std.specs.Option.{is_none}
@@ -18,8 +19,8 @@ use Rattle.tc_turn.specs.Passes.{PassState}
 use Rattle.tc_site.specs.Sites.{SiteState, IsSite, ArePasses, AgreesSeen, TURNS, histories_of}
 use Rattle.tc_site.specs.declared.waiting.WaitingAt.{WaitingAt}
 
--- an agent's desk: its site, the agent, its passes, its log, where it has a pending row, and at which centre
--- it holds a turn
+-- an agent's desk: its site, the agent, its passes, its log, where it has a pending row, and at
+-- which centre it holds a turn
 pub record AgentState (W : Type 0) : Type 0 where
   pub site : SiteState W
   pub agent : ℕ
@@ -52,8 +53,8 @@ desk_of d = record {
   free = is_none d.held;
 }
 
--- the row at this place alone is pending, and it is one of this centre; no row behind it was served, but
--- there may be refused ones and ones that polled
+-- the row at this place alone is pending, and it is one of this centre; no row behind it was
+-- served, but there may be refused ones and ones that polled
 pub record IsWaitingAt (names : List (List ℕ)) (log : List LogRow) (w : WaitingAt) : Type 0 where
   pub front : List LogRow
   pub row_is : LogRow
@@ -75,8 +76,9 @@ abbrev pub is_held : Option ℕ → ℕ → Bool
 is_held None k = false
 is_held (Some place) k = nat_eq place k
 
--- what the type promises of a desk: its site is one, the passes are the agent's, the turn that is held is
--- known, the log agrees with what the passes have seen, and the row that is pending is known
+-- what the type promises of a desk: its site is one, the passes are the agent's, the turn that is
+-- held is known, the log agrees with what the passes have seen, and the row that is pending is
+-- known
 pub record IsDesk {W : Type 0} (d : AgentState W) : Type 0 where
   pub site : IsSite d.site.names d.site.centres d.site.roles
   pub agent_is : d.agent < length d.site.roles

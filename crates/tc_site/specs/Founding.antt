@@ -10,7 +10,8 @@ use Rattle.tc_site.specs.Sites.{SiteState, origins_of, roles_of}
 abbrev pub founded_core : Configuration → CentreConf → Centre
 founded_core c centre = record { origin = origin_of c centre; history = [] }
 
--- the site has the configuration's centres, each as it is set up, its agents' roles, and this warden
+-- the site has the configuration's centres, each as it is set up, its agents' roles, and this
+-- warden
 pub record IsFounded {W : Type 0} (c : Configuration) (warden : W) (s : SiteState W) : Type 0 where
   pub names_are : s.names ≡ centre_names c
   pub origins : origins_of s.centres ≡ map (origin_of c) c.centres

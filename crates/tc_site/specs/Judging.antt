@@ -1,7 +1,6 @@
 -- What is decided of a call before a turn is taken.
-use Rattle.std.specs.Prelude.{◌≡◌, ℕ, Bool, true, false, List, Option, Some, Contains, slice_get}
-use Rattle.tc_asks.specs.declared.operands.OperandFault.{OperandFault}
-use Rattle.tc_asks.specs.declared.operands.OperandFault.TheVariants as fault
+use Rattle.std.specs.Prelude.{◌≡◌, ℕ, Bool, true, false, List, Option, Some, Contains}
+use Rattle.std.specs.Prelude.{slice_get}
 use Rattle.tc_desk.specs.Operands.{OpOf, TooBig, NotGround, Faulty}
 use Rattle.tc_desk.specs.declared.rows.Refusal.{Refusal}
 use Rattle.tc_desk.specs.declared.rows.Refusal.TheVariants as refusal
@@ -11,16 +10,10 @@ use Rattle.tc_model.specs.declared.asks.Primitive.{Primitive}
 use Rattle.tc_site.specs.Desks.{WardenPermits}
 use Rattle.tc_site.specs.Sites.{SiteState}
 
--- why an ask is refused whose operand has this fault
-abbrev pub fault_of : OperandFault → Refusal
-fault_of fault.TooBig = refusal.TooBig
-fault_of fault.NotGround = refusal.NotGround
-fault_of (fault.BadSpec bad) = refusal.BadSpec bad
-fault_of fault.NoMemory = refusal.NoMemory
-
 module _ {W : Type 0} (permits : W → ℕ → ℕ → Primitive → Option ℕ) where
   -- the agent, of which no ask waits, may ask this of the centre at the place
-  pub record IsAllowed (s : SiteState W) (agent : ℕ) (waits : Bool) (centre : List ℕ) (ask : Ask)
+  pub record IsAllowed (s : SiteState W) (agent : ℕ) (waits : Bool) (centre : List ℕ)
+      (ask : Ask)
       (place : ℕ) : Type 0 where
     pub named : slice_get s.names place ≡ Some centre
     pub idle : waits ≡ false
@@ -48,7 +41,8 @@ module _ {W : Type 0} (permits : W → ℕ → ℕ → Primitive → Option ℕ)
   -- why it is refused before a turn is taken
   abbrev pub IsRefusedFor : SiteState W → ℕ → Bool → List ℕ → Ask → Refusal → Type 0
   IsRefusedFor s agent waits centre ask refusal.UnknownCentre = Contains s.names centre → ⊥
-  IsRefusedFor s agent waits centre ask refusal.Waiting = Contains s.names centre × (waits ≡ true)
+  IsRefusedFor s agent waits centre ask refusal.Waiting =
+      Contains s.names centre × (waits ≡ true)
   IsRefusedFor s agent waits centre ask refusal.Denied = IsDenied s agent waits centre ask
   IsRefusedFor s agent waits centre ask refusal.TooBig =
       IsFaulty s agent waits centre ask (OpOf ask TooBig)

@@ -1,7 +1,8 @@
 -- What a look for the reply to a pending row makes of a pass and a log.
-use Rattle.std.specs.Prelude.{◌≡◌, ℕ, ◌+◌, ◌<◌, false, List, ◌∷◌, ◌++◌, length, Option, Some, None, Ok, Err}
+use Rattle.std.specs.Prelude.{◌≡◌, ℕ, ◌+◌, ◌<◌, false, List, ◌∷◌, ◌++◌}
+use Rattle.std.specs.Prelude.{length, Option, Some, None, Ok, Err}
 use Rattle.std.specs.declared.result.Result.{Result}
-use Rattle.tc_desk.specs.Desks.{replied}
+use Rattle.tc_desk.specs.Desks.{PutsReply}
 use Rattle.tc_desk.specs.declared.desks.DeskFault.{DeskFault}
 use Rattle.tc_desk.specs.declared.desks.DeskFault.TheVariants as fault
 use Rattle.tc_desk.specs.declared.desks.Seen.{Seen}
@@ -18,28 +19,25 @@ use Rattle.tc_turn.specs.Passes.{TurnstileState, PassState}
 use Rattle.tc_site.specs.declared.waiting.WaitingAt.{WaitingAt}
 
 -- the pass is of the centre, holds no turn, and has seen the call of the log's row at a place
-pub record MayLook (t : TurnstileState Origin) (p : PassState Entry Origin) (log : List LogRow) (place : ℕ)
+pub record MayLook (t : TurnstileState Origin) (p : PassState Entry Origin) (log : List LogRow)
+    (place : ℕ)
     : Type 0 where
   pub own : IsPassOf t p
   pub free : p.holds ≡ false
   pub inside : place < length log
   pub called : HasCall (call_of p.number (place + 1)) p.seen
 
--- the log with this reply in the row at a place
-abbrev pub IsPut : List LogRow → ℕ → Reply → List LogRow → Type 0
-IsPut log place reply after = (front : List LogRow) (row : LogRow) (back : List LogRow)
-    → log ≡ front ++ row ∷ back → place ≡ length front
-    → after ≡ front ++ replied row reply ∷ back
-
 -- the call of the row at a place has a reply in what the pass q has seen, and its row has got it
-pub record HasRowReply (place : ℕ) (log : List LogRow) (q : PassState Entry Origin) (after : List LogRow)
+pub record HasRowReply (place : ℕ) (log : List LogRow) (q : PassState Entry Origin)
+    (after : List LogRow)
     : Type 0 where
   pub reply : Reply
   pub told : reply_in q.seen (call_of q.number (place + 1)) ≡ Some reply
-  pub put : IsPut log place reply after
+  pub put : PutsReply log place reply after
 
 -- it has none, and the log is as it was
-pub record HasNone (place : ℕ) (log : List LogRow) (q : PassState Entry Origin) (after : List LogRow)
+pub record HasNone (place : ℕ) (log : List LogRow) (q : PassState Entry Origin)
+    (after : List LogRow)
     : Type 0 where
   pub none : reply_in q.seen (call_of q.number (place + 1)) ≡ None
   pub same : after ≡ log
@@ -60,7 +58,8 @@ still_of w (Ok seen.Answered) = None
 still_of w (Ok seen.StillPending) = Some w
 still_of w (Err why) = Some w
 
--- why a wait put no reply: no turn is left, and if one was, the call has no reply in what the pass has seen
+-- why a wait put no reply: no turn is left, and if one was, the call has no reply in what the pass
+-- has seen
 pub record HasWaitedInVain (place : ℕ) (p : PassState Entry Origin) (log : List LogRow)
     (q : PassState Entry Origin) (after : List LogRow) : Type 0 where
   pub spent : q.turns ≡ 0
@@ -69,7 +68,8 @@ pub record HasWaitedInVain (place : ℕ) (p : PassState Entry Origin) (log : Lis
   pub log_same : after ≡ log
 
 -- what came of a wait
-abbrev pub IsWait : {A : Type 0} → ℕ → PassState Entry Origin → List LogRow → Result A DeskFault
+abbrev pub IsWait : {A : Type 0} → ℕ → PassState Entry Origin → List LogRow
+    → Result A DeskFault
     → PassState Entry Origin → List LogRow → Type 0
 IsWait place p log (Ok done) q after = HasRowReply place log q after
 IsWait place p log (Err fault.TurnsSpent) q after = HasWaitedInVain place p log q after

@@ -17,8 +17,8 @@ pub record HoldsTurn {W : Type 0} (d : AgentState W) (place : ℕ) (core : Centr
   pub at_pass : slice_get d.passes place ≡ Some p
   pub paused : IsPausedOf t core p
 
--- the desk took one turn at the centre of this place, and holds it, with this core; of its passes this one
--- alone has gone on, and all else is as it was
+-- the desk took one turn at the centre of this place, and holds it, with this core; of its passes
+-- this one alone has gone on, and all else is as it was
 pub record Pauses {W : Type 0} (d : AgentState W) (place : ℕ) (core : Centre) (e : AgentState W)
     : Type 0 where
   pub t : TurnstileState Origin
@@ -33,7 +33,8 @@ pub record Pauses {W : Type 0} (d : AgentState W) (place : ℕ) (core : Centre) 
   pub turn : TakesTurn (desk_of d) centre (desk_of e)
 
 -- no turn is left at the centre of this place, and the desk is as it was
-pub record HasNoneLeft {W : Type 0} (d : AgentState W) (place : ℕ) (e : AgentState W) : Type 0 where
+pub record HasNoneLeft {W : Type 0} (d : AgentState W) (place : ℕ) (e : AgentState W)
+    : Type 0 where
   pub p : PassState Entry Origin
   pub at_pass : slice_get d.passes place ≡ Some p
   pub none : p.turns ≡ 0
@@ -45,4 +46,5 @@ pub record Resumes {W : Type 0} (d e : AgentState W) : Type 0 where
   pub p : PassState Entry Origin
   pub held_is : d.held ≡ Some place
   pub at_pass : slice_get d.passes place ≡ Some p
-  pub after : e ≡ record d { passes = set d.passes place (record p { holds = false }); held = None }
+  pub after : e
+      ≡ record d { passes = set d.passes place (record p { holds = false }); held = None }

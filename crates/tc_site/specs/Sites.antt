@@ -1,5 +1,6 @@
 -- What contracts see of a site, of its kits and of the desks that have ended.
-use Rattle.std.specs.Prelude.{◌≡◌, ◌≢◌, ℕ, ◌<◌, ◌^◌, false, List, [], All, AllPairs}
+use Rattle.std.specs.Prelude.{◌≡◌, ◌≢◌, ℕ, ◌<◌, ◌^◌, false, List, [], All}
+use Rattle.std.specs.Prelude.{AllPairs}
 use Rattle.std.specs.Prelude.{length, map, Some, slice_get}
 use Rattle.tc_centre.specs.Centre.{Centre}
 use Rattle.tc_config.specs.declared.configs.AgentConf.{AgentConf}
@@ -10,7 +11,8 @@ use Rattle.tc_model.specs.declared.entries.Entry.{Entry}
 use Rattle.tc_shared.specs.Passes.{IsPassOf, IsAtRest}
 use Rattle.tc_turn.specs.Passes.{TurnstileState, PassState, new_pass}
 
--- a site: the names of its centres, the centres, the role of each agent, and who decides what these may do
+-- a site: the names of its centres, the centres, the role of each agent, and who decides what these
+-- may do
 pub record SiteState (W : Type 0) : Type 0 where
   pub names : List (List ℕ)
   pub centres : List (TurnstileState Origin)
@@ -23,7 +25,8 @@ pub record HasPasses (agents : ℕ) (t : TurnstileState Origin) : Type 0 where
   pub agents_are : length t.origin.agents ≡ agents
 
 -- each centre has a name of its own, and a pass for each agent
-pub record IsSite (names : List (List ℕ)) (centres : List (TurnstileState Origin)) (roles : List ℕ)
+pub record IsSite (names : List (List ℕ)) (centres : List (TurnstileState Origin))
+    (roles : List ℕ)
     : Type 0 where
   pub whole : length names ≡ length centres
   pub differ : AllPairs ◌≢◌ names
@@ -39,7 +42,8 @@ abbrev pub histories_of : List (PassState Entry Origin) → List (List Entry)
 histories_of passes = map (λ (p : PassState Entry Origin). p.seen) passes
 
 -- an agent's pass of a centre
-pub record IsOwnPass (agent : ℕ) (t : TurnstileState Origin) (p : PassState Entry Origin) : Type 0 where
+pub record IsOwnPass (agent : ℕ) (t : TurnstileState Origin) (p : PassState Entry Origin)
+    : Type 0 where
   pub own : IsPassOf t p
   pub number : p.number ≡ agent
 
@@ -74,7 +78,8 @@ pub record EndedDeskState (W : Type 0) : Type 0 where
   pub log : List LogRow
 
 -- the log agrees with what the agent's passes have seen
-abbrev pub AgreesSeen : List (TurnstileState Origin) → List (List ℕ) → List (PassState Entry Origin)
+abbrev pub AgreesSeen : List (TurnstileState Origin) → List (List ℕ)
+    → List (PassState Entry Origin)
     → ℕ → List LogRow → Type 0
 AgreesSeen centres names passes agent log =
     Agrees (origins_of centres) names (histories_of passes) agent log
@@ -91,8 +96,8 @@ pub record IsEndedDesk {W : Type 0} (e : EndedDeskState W) (passes : List (PassS
 abbrev pub roles_of : List AgentConf → List ℕ
 roles_of agents = map (λ (a : AgentConf). a.role) agents
 
--- centres may be shared: none has served anything, each has as many agents as there are, and a name of its
--- own
+-- centres may be shared: none has served anything, each has as many agents as there are, and a name
+-- of its own
 pub record AreFreshCores (names : List (List ℕ)) (cores : List Centre) (agents : List AgentConf)
     : Type 0 where
   pub whole : length names ≡ length cores
@@ -102,8 +107,10 @@ pub record AreFreshCores (names : List (List ℕ)) (cores : List Centre) (agents
   pub unserved : All (λ (x : Centre). x.history ≡ []) cores
   pub agents_are : All (λ (x : Centre). length x.origin.agents ≡ length agents) cores
 
--- the site has these names, centres that begin as these cores do, the agents' roles, and this warden
-pub record IsSiteOf {W : Type 0} (names : List (List ℕ)) (cores : List Centre) (agents : List AgentConf)
+-- the site has these names, centres that begin as these cores do, the agents' roles, and this
+-- warden
+pub record IsSiteOf {W : Type 0} (names : List (List ℕ)) (cores : List Centre)
+    (agents : List AgentConf)
     (warden : W) (s : SiteState W) : Type 0 where
   pub names_are : s.names ≡ names
   pub origins : origins_of s.centres ≡ map (λ (x : Centre). x.origin) cores

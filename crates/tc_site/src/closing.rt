@@ -1,4 +1,5 @@
-//! How a site is closed: the passes of the desks that have ended are ended too, and each core taken back.
+//! How a site is closed: the passes of the desks that have ended are ended too, and each core taken
+//! back.
 ghost use Rattle.std.specs.Prelude.{◌≡◌, All, length, map, IfOk};
 ghost use Rattle.std.specs.List.{AllZip};
 ghost use Rattle.tc_shared.specs.Passes.{IsAtRest};

@@ -1,23 +1,24 @@
 //! Desks of agents.
-ghost use Rattle.std.specs.Prelude.{◌≡◌, ◌≤◌, ◌<◌, true, ℕ, length, slice_index, IfOk, OnErr, MatchResult};
-ghost use Rattle.tc_desk.specs.Desks.{Keeps, Makes, Polls, Refuses, Spends};
+ghost use Rattle.std.specs.Prelude.{◌≡◌, ◌≤◌, ◌<◌, true, ℕ, List, Some, length};
+ghost use Rattle.std.specs.Prelude.{slice_get, slice_index, IfOk, OnErr};
+ghost use Rattle.tc_desk.specs.Desks.{Calls, Keeps, Polls, Spends};
 ghost use Rattle.tc_model.specs.declared.limits.TheConstants.{MOST_WEIGHT};
 ghost use Rattle.tc_site.specs.Desks.{IsDesk, IsNewDesk, IsDecidedLog, desk_of};
 ghost use Rattle.tc_site.specs.Pausing.{HasNoneLeft, HoldsTurn, Pauses, Resumes};
 ghost use Rattle.tc_site.specs.There.{IsCallThere, IsPollThere, bond_of};
 
-use crate::judging::{Allowed, judge};
+use crate::judging::{judge, place_of};
 use crate::kits::{DeskKit, EndedDesk};
 use crate::looking::{left, look_for, still, wait_for};
 use crate::polling::poll_for;
 use crate::sites::Site;
-use crate::turns::{push_refused, push_row, told, turn_at, waiting};
+use crate::turns::{push_refused, told, turn_at, waiting};
 use crate::waiting::WaitingAt;
 use std::alloc::Global;
 use std::marker::Model;
 use std::snapshot::Snapshot;
 use std::sync::Wait;
-use tc_desk::{Desk, DeskFault, LogRow, Refusal, Seen, Served, Warden};
+use tc_desk::{Desk, DeskFault, LogRow, Refusal, Seen, Served, Warden, push_row};
 use tc_model::Ask;
 use tc_shared::{CentrePass, Paused};
 use tc_term::Name;
@@ -84,8 +85,8 @@ impl<'a, W: Warden + Drop> AgentDesk<'a, W> {
         }
     }
 
-    /// How many entries it has seen at the centre of this place. Places are those of the site's names,
-    /// from 0.
+    /// How many entries it has seen at the centre of this place. Places are those of the site's
+    /// names, from 0.
     pub fn seen(&self, centre: u32) -> u64
         requires inside { centre < length self.now.site.names }
         ensures count { result ≡ slice_index (desk_of self.now).seen centre }
@@ -95,8 +96,8 @@ impl<'a, W: Warden + Drop> AgentDesk<'a, W> {
         self.passes[centre as usize].known()
     }
 
-    /// Takes a turn at the centre of this place and holds it, with the core, until `resume`. Nobody else is
-    /// served there meanwhile, and the desk makes no call.
+    /// Takes a turn at the centre of this place and holds it, with the core, until `resume`. Nobody
+    /// else is served there meanwhile, and the desk makes no call.
     pub fn pause<R: Wait>(&mut self, rt: &R, centre: u32) -> Result<Paused, TurnsSpent>
         requires free { (desk_of self.old).free ≡ true }
         requires inside { centre < length self.old.site.names }
@@ -174,19 +175,50 @@ impl<'a, W: Warden + Drop> Desk for AgentDesk<'a, W> {
         ensures turns { Spends 1 (desk_of self.old) (desk_of self.new) }
         ensures sound { IsDecidedLog W.permits self.old.site self.old.agent self.old.log
             → IsDecidedLog W.permits self.new.site self.new.agent self.new.log }
-        ensures became { MatchResult result
-            (λ served. Makes (desk_of self.old) centre.now ask served (desk_of self.new))
-            (λ why. Refuses (desk_of self.old) centre.now ask why (desk_of self.new)) }
+        ensures became { Calls (desk_of self.old) centre.now ask result (desk_of self.new) }
 
-        // What it came to at the centre of this name.
-        ensures there { IsCallThere self.old centre.now ask result self.new }
+        // What it came to at the centre of this name, and what the warden says of it.
+        ensures there { IsCallThere W.permits self.old centre.now ask result self.new }
+    {
+        if let Some(place) = place_of(self.site.names(), centre) {
+            return self.call_at(rt, alloc, place, ask);
+        }
+        self.log.reserve(1).map_err(|_| Refusal::NoMemory)?;
+        let name = centre.copy(alloc).map_err(|_| Refusal::NoMemory)?;
+        push_refused(&mut self.log, name, ask, Refusal::UnknownCentre);
+        Err(Refusal::UnknownCentre)
+    }
+
+    fn call_at<R: Wait>(
+        &mut self,
+        rt: &R,
+        alloc: Global,
+        place: u32,
+        ask: Ask,
+    ) -> Result<Served, Refusal>
+        requires free { (desk_of self.old).free ≡ true }
+        requires inside { place < length (desk_of self.old).names }
+        ensures bond { bond_of self.new ≡ bond_of self.old }
+        ensures kept { Keeps (desk_of self.old) (desk_of self.new) }
+        ensures turns { Spends 1 (desk_of self.old) (desk_of self.new) }
+        ensures sound { IsDecidedLog W.permits self.old.site self.old.agent self.old.log
+            → IsDecidedLog W.permits self.new.site self.new.agent self.new.log }
+        ensures became { (centre : List ℕ)
+            → slice_get (desk_of self.old).names place ≡ Some centre
+            → Calls (desk_of self.old) centre ask result (desk_of self.new) }
+
+        // The same as of `call`, at the centre of this place.
+        ensures there { (centre : List ℕ)
+            → slice_get (desk_of self.old).names place ≡ Some centre
+            → IsCallThere W.permits self.old centre ask result self.new }
     {
         self.log.reserve(1).map_err(|_| Refusal::NoMemory)?;
+        let centre = self.site.name(place);
         let name = centre.copy(alloc).map_err(|_| Refusal::NoMemory)?;
         let asked = ask.copy(alloc).map_err(|_| Refusal::NoMemory)?;
         let waits = self.pending.is_some();
-        let Allowed { place, op } = match judge(alloc, self.site, self.agent, waits, centre, ask) {
-            Ok(allowed) => allowed,
+        let op = match judge(alloc, self.site, self.agent, waits, place, ask) {
+            Ok(op) => op,
             Err(why) => {
                 push_refused(&mut self.log, name, asked, why);
                 return Err(why);

@@ -1,8 +1,9 @@
 //! Sites: shared centres, a desk at them for each agent, and who decides what agents may do.
 //!
-//! `Site::new` makes the site of a configuration, `Site::of_cores` one round cores that are there. A desk
-//! keeps its agent's log, which agrees with what its passes have seen of the histories. Desks may be used in
-//! threads of their own. Once each has ended, `close` gives the cores back, and the logs.
+//! `Site::new` makes the site of a configuration, `Site::of_cores` one round cores that are there.
+//! A desk keeps its agent's log, which agrees with what its passes have seen of the histories.
+//! Desks may be used in threads of their own. Once each has ended, `close` gives the cores back,
+//! and the logs.
 //!
 //! ```
 //! let (site, kits) = Site::new(alloc, &config, warden)?;
@@ -13,6 +14,20 @@
 //! // with all ended desks, in order:
 //! let Closed { cores, logs } = site.close(alloc, all)?;
 //! ```
+//!
+//! In reading order:
+//!
+//! | File of src/ | Holds |
+//! |---|---|
+//! | sites | `Site`: how it is made, and how it is closed |
+//! | founding | the cores of a configuration |
+//! | sharing | cores that become shared centres, whose passes are dealt out |
+//! | kits | what desks are made of, and what is left of them |
+//! | desks | `AgentDesk`: its calls |
+//! | judging | what is decided of a call before a turn is taken |
+//! | turns, looking, polling | what a call, a look or a wait, and a poll come to at a centre |
+//! | waiting | where a desk has its pending row |
+//! | closing | passes that end, and cores that are taken back |
 #![tactic(auto)]
 
 mod closing;

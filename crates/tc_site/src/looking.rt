@@ -1,13 +1,12 @@
 //! Looks for the reply to a pending row, and waits for it.
-ghost use Rattle.std.specs.Prelude.{◌≡◌, ◌<◌, vec_len};
+ghost use Rattle.std.specs.Prelude.{◌≡◌, Err};
 ghost use Rattle.tc_shared.specs.Passes.{KeepsPass, WaitsInTurns};
-ghost use Rattle.tc_site.specs.Looking.{IsLook, IsPut, IsWait, MayLook, left_of, still_of};
+ghost use Rattle.tc_site.specs.Looking.{IsLook, IsWait, MayLook, left_of, still_of};
 
 use crate::waiting::WaitingAt;
 use std::alloc::Global;
 use std::sync::Wait;
-use tc_desk::{DeskFault, LogResult, LogRow, Seen};
-use tc_model::Reply;
+use tc_desk::{DeskFault, LogRow, Seen, put_reply};
 use tc_shared::{CentrePass, LookFault, SharedCentre};
 
 /// Looks in one turn for the reply to the call of the row at this place, and puts it there.
@@ -46,6 +45,7 @@ pub(crate) fn wait_for<R: Wait>(
     requires may { MayLook centre.now pass.old log.old.items place }
     ensures waited { IsWait place pass.old log.old.items result pass.new log.new.items }
     ensures turns { WaitsInTurns centre.now pass.old pass.new }
+    ensures spent { pass.old.turns ≡ 0 → result ≡ Err DeskFault.TurnsSpent }
     ensures kept { KeepsPass centre.now pass.old pass.new }
 {
     match centre.wait(rt, alloc, pass, place as u64 + 1) {
@@ -56,21 +56,6 @@ pub(crate) fn wait_for<R: Wait>(
         Err(LookFault::TurnsSpent) => Err(DeskFault::TurnsSpent),
         Err(LookFault::NoMemory) => Err(DeskFault::NoMemory),
     }
-}
-
-/// Puts the reply into the row at this place.
-pub(crate) fn put_reply(log: &mut Vec<LogRow>, place: usize, reply: Reply)
-    requires { place < vec_len log.old }
-    ensures { IsPut log.old.items place reply log.new.items }
-{
-    settle(&mut log[place], reply);
-}
-
-// Puts the reply into the row.
-fn settle(row: &mut LogRow, reply: Reply)
-    ensures { row.new ≡ record row.old { result = LogResult.Replied reply } }
-{
-    row.result = LogResult::Replied(reply);
 }
 
 /// Where a row is pending still, after a look.

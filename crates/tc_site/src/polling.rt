@@ -6,16 +6,14 @@ ghost use Rattle.tc_shared.specs.Passes.{KeepsPass};
 ghost use Rattle.tc_site.specs.Looking.{MayLook};
 ghost use Rattle.tc_site.specs.Polling.{IsPolled};
 
-use crate::looking::put_reply;
-use crate::turns::push_row;
 use std::alloc::Global;
 use std::sync::Wait;
 use tc_centre::Poll;
-use tc_desk::{DeskFault, LogResult, LogRow, Refusal, Seen};
+use tc_desk::{DeskFault, LogResult, LogRow, Refusal, Seen, push_row, put_reply};
 use tc_shared::{CentrePass, SharedCentre, SharedPollFault};
 
-/// Polls in one turn for the reply to the call of the row at this place, and puts it there. The poll has a
-/// row of its own. Its room and its copy are taken before the turn.
+/// Polls in one turn for the reply to the call of the row at this place, and puts it there. The
+/// poll has a row of its own. Its room and its copy are taken before the turn.
 pub(crate) fn poll_for<R: Wait>(
     rt: &R,
     alloc: Global,
@@ -27,7 +25,8 @@ pub(crate) fn poll_for<R: Wait>(
     requires may { MayLook centre.now pass.old log.old.items place }
     requires next { All (λ e. (id_of e).number < length log.old.items + 1) pass.old.mine }
     ensures polled { (row : LogRow) → slice_get log.old.items place ≡ Some row
-        → IsPolled centre.now place pass.old row.centre log.old.items result pass.new log.new.items }
+        → IsPolled centre.now place pass.old row.centre log.old.items result
+        pass.new log.new.items }
     ensures kept { KeepsPass centre.now pass.old pass.new }
 {
     if log.reserve(1).is_err() {

@@ -1,4 +1,5 @@
-//! How a site is opened: each core becomes a shared centre, whose passes are dealt out to the agents.
+//! How a site is opened: each core becomes a shared centre, whose passes are dealt out to the
+//! agents.
 ghost use Rattle.std.specs.Prelude.{◌≡◌, ◌<◌, ◌^◌, [], All, length, IfOk, OnOk};
 ghost use Rattle.tc_centre.specs.Centre.{Centre};
 ghost use Rattle.tc_site.specs.Columns.{AreDealt, AreFreshColumns, AreOpened, columns_of};
@@ -44,7 +45,8 @@ pub(crate) fn open_all(alloc: Global, cores: Vec<Core>, agents: usize) -> Result
 // So many columns without a pass, each with room for so many.
 fn empty_columns(alloc: Global, count: usize, room: usize) -> Result<Vec<Vec<CentrePass>>, NoMemory>
     ensures count { IfOk result (λ columns. length columns.items ≡ count) }
-    ensures empty { IfOk result (λ columns. All (λ column. column ≡ []) (columns_of columns.items)) }
+    ensures empty { IfOk result
+        (λ columns. All (λ column. column ≡ []) (columns_of columns.items)) }
 {
     let mut columns = Vec::with_capacity(alloc, count)?;
     for _ in 0..count {
@@ -56,7 +58,8 @@ fn empty_columns(alloc: Global, count: usize, room: usize) -> Result<Vec<Vec<Cen
 // Puts one pass behind each column, in order.
 fn deal(columns: &mut [Vec<CentrePass>], passes: Vec<CentrePass>) -> Result<(), NoMemory>
     requires { length passes.items ≡ length columns.old }
-    ensures { OnOk result (AreDealt (columns_of columns.old) passes.items (columns_of columns.new)) }
+    ensures { OnOk result
+        (AreDealt (columns_of columns.old) passes.items (columns_of columns.new)) }
 {
     let mut rest = passes.into_iter();
     for column in columns.iter_mut() {
@@ -89,7 +92,8 @@ pub(crate) fn kits<W: Warden + Drop>(
     requires few { length columns.items < 2 ^ 32 }
     requires fresh { AreFreshColumns site.now.centres (columns_of columns.items) }
     ensures { IfOk result (λ kits.
-        AreOfSite (λ (k : KitState W). k.site) (λ (k : KitState W). k.agent) site.now kits.items) }
+        AreOfSite (λ (k : KitState W). k.site) (λ (k : KitState W). k.agent)
+        site.now kits.items) }
 {
     let mut kits = Vec::with_capacity(alloc, columns.len())?;
     for passes in columns {

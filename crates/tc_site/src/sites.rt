@@ -1,5 +1,6 @@
 //! Sites.
-ghost use Rattle.std.specs.Prelude.{◌≡◌, ◌≤◌, ◌<◌, [], ℕ, Some, All, length, map, slice_get, IfOk};
+ghost use Rattle.std.specs.Prelude.{◌≡◌, ◌≤◌, ◌<◌, [], ℕ, Some, All, length, map};
+ghost use Rattle.std.specs.Prelude.{slice_get, IfOk};
 ghost use Rattle.tc_centre.specs.Centre.{Centre};
 ghost use Rattle.tc_model.specs.Calls.{calls_of};
 ghost use Rattle.tc_site.specs.Founding.{IsFounded};
@@ -59,6 +60,14 @@ impl<W: Warden> Site<W> {
         &self.names
     }
 
+    /// The name of the centre at a place.
+    pub(crate) fn name(&self, place: u32) -> &Name
+        requires { place < length self.now.names }
+        ensures { slice_get self.now.names place ≡ Some result.now }
+    {
+        &self.names[place as usize]
+    }
+
     /// The role of an agent.
     pub(crate) fn role(&self, agent: u32) -> u32
         requires { agent < length self.now.roles }
@@ -84,7 +93,8 @@ impl<W: Warden> Site<W> {
 }
 
 impl<W: Warden + Drop> Site<W> {
-    /// The site of a configuration, and a kit for each agent, in order. Each pass has 4,294,967,295 turns.
+    /// The site of a configuration, and a kit for each agent, in order. Each pass has 4,294,967,295
+    /// turns.
     ///
     /// Names, tuples and clauses are copied. Where memory ends nothing is left of the site.
     pub fn new(
@@ -102,8 +112,8 @@ impl<W: Warden + Drop> Site<W> {
         Site::of_cores(alloc, names, cores, config.agents(), warden)
     }
 
-    /// A site round cores that have served nothing, and a kit for each agent, in order. Each pass has
-    /// 4,294,967,295 turns. Where memory ends the cores are dropped.
+    /// A site round cores that have served nothing, and a kit for each agent, in order. Each pass
+    /// has 4,294,967,295 turns. Where memory ends the cores are dropped.
     pub fn of_cores(
         alloc: Global,
         names: Vec<Name>,

@@ -1,7 +1,7 @@
 //! An agent's turns at a centre.
 ghost use Rattle.std.specs.Prelude.{◌≡◌, ℕ, ◌+◌, ◌<◌, false, All};
 ghost use Rattle.std.specs.Prelude.{IfOk, OnErr, vec_len, vec_capacity, Ok, Err};
-ghost use Rattle.tc_desk.specs.Desks.{refused_log, with_row};
+ghost use Rattle.tc_desk.specs.Desks.{refused_log};
 ghost use Rattle.tc_model.specs.Calls.{id_of};
 ghost use Rattle.tc_shared.specs.Passes.{IsPassOf, KeepsPass, SeesRoom};
 ghost use Rattle.tc_site.specs.Turns.{HasGrown, IsTurn, became_of, told_of, waiting_of};
@@ -10,7 +10,7 @@ use crate::waiting::WaitingAt;
 use std::alloc::Global;
 use std::sync::Wait;
 use tc_centre::Answer;
-use tc_desk::{LogResult, LogRow, Refusal, Served};
+use tc_desk::{LogResult, LogRow, Refusal, Served, push_row};
 use tc_lists::NoMemory;
 use tc_model::{Ask, Op};
 use tc_shared::{CallFault, CentrePass, SharedCentre};
@@ -52,25 +52,8 @@ fn came_to(answer: Result<Answer, CallFault>) -> Result<LogResult, NoMemory>
     }
 }
 
-/// Puts a row behind the others. There is room.
-pub(crate) fn push_row(log: &mut Vec<LogRow>, centre: Name, ask: Option<Ask>, became: LogResult)
-    requires { vec_len log.old < vec_capacity log.old }
-    ensures { log.new.items ≡ with_row log.old.items centre ask became }
-{
-    let number = log.len() as u64 + 1;
-    let row = LogRow {
-        number,
-        centre,
-        ask,
-        result: became,
-    };
-    match log.push(row) {
-        Ok(()) => {}
-        Err(_) => unreachable!(),
-    }
-}
-
-/// Puts the row of a refused call behind the others. There is room. For want of memory it has no row.
+/// Puts the row of a refused call behind the others. There is room. For want of memory it has no
+/// row.
 pub(crate) fn push_refused(log: &mut Vec<LogRow>, centre: Name, ask: Ask, why: Refusal)
     requires { vec_len log.old < vec_capacity log.old }
     ensures { log.new.items ≡ refused_log log.old.items centre ask why }

@@ -1,6 +1,8 @@
-use Rattle.std.proofs.Common.{ap₂}
+use Rattle.std.proofs.Common.{ap₂, subst, sym}
+use Rattle.tc_desk.specs.Desks.{HasNoTurnLeft}
+use Rattle.tc_site.specs.Desks.{AgentState, desk_of}
 use Rattle.tc_site.proofs.Becoming.{waited-becomes, waited-desk}
-use Rattle.tc_site.proofs.Seeing.{has-pass}
+use Rattle.tc_site.proofs.Seeing.{has-pass, pass-spent}
 use Rattle.tc_site.proofs.desks.AgentDeskDesk.wait.Goals as goal
 
 pub wait_for-waited-requires : goal.wait_for-waited-requires
@@ -31,6 +33,9 @@ returns g c =
       bond = ap₂ (λ site agent. (site, agent)) becomes.site becomes.agent;
       kept = becomes.kept;
       turns = becomes.turns;
+      spent = λ none.
+          c.wait_for-waited.ensures.spent
+          (pass-spent _ c.self.invariant _ has.waiting _ has.at_pass (subst (λ (x : AgentState g.row.W.Denot). HasNoTurnLeft (desk_of x)) (sym c.self.view_is) none));
       sound = becomes.sound;
       became = becomes.came;
     }
