@@ -1,5 +1,5 @@
 -- Clauses that are read one behind another, and what they set up.
-use Rattle.std.proofs.Common.{◌≡◌, ◌<◌, ◌≤◌, ◌+◌, ℕ, IfErr, IsErrAnd, Result, Ok, Err, inl, inr, List, [], ◌∷◌, ◌++◌, All, length, length-append, refl, sym, subst, arith}
+use Rattle.std.proofs.Common.{◌≡◌, ◌<◌, ◌≤◌, ◌+◌, ℕ, IfErr, IsErrAnd, Result, Ok, Err, inl, inr, List, [], ◌∷◌, All, length, length-append, sym, subst, arith}
 use Rattle.std.proofs.lemmas.List.Elements.{All-nil, All-push, All-weaker}
 use Rattle.tc_lists.proofs.Elements.{All-slice_get}
 use Rattle.tc_term.specs.Faults.{Found, Nothing}
@@ -7,13 +7,16 @@ use Rattle.tc_term.specs.Tree.{Tree}
 use Rattle.tc_term.specs.TreeView.{tree_of}
 use Rattle.tc_model.specs.declared.limits.TheConstants.{MOST_TUPLES}
 use Rattle.tc_policy.specs.Places.{grant}
-use Rattle.tc_spec.specs.Texts.{AnswersAt}
+use Rattle.tc_read.specs.Clauses.{AnswersAt, IsFaultyAt}
+use Rattle.tc_read.specs.declared.clauses.Unread.{Unread}
+use Rattle.tc_read.specs.declared.clauses.Unread.TheVariants as unread
+use Rattle.tc_read.proofs.Onward as onward
 use Rattle.tc_config.specs.Answers.{IsConfigFault, IsFaultAt}
 use Rattle.tc_config.specs.Causes.{IsFaulty}
 use Rattle.tc_config.specs.Configurations.{Configuration, nothing}
 use Rattle.tc_config.specs.Drafts.{HasRoom, IsOfClauses}
 use Rattle.tc_config.specs.Meanings.{ClauseMakes, Means, centre, changed, with_clause, with_tuple}
-use Rattle.tc_config.specs.Texts.{AreSpelt, HasFault, IsFaultyAt, IsRefused, Spells}
+use Rattle.tc_config.specs.Texts.{HasFault, IsRefused, Spells, cause_unread, config_language}
 use Rattle.tc_config.specs.declared.configs.CentreConf.{CentreConf}
 use Rattle.tc_config.specs.declared.faults.ConfigCause.{ConfigCause}
 use Rattle.tc_config.specs.declared.faults.ConfigCause.TheVariants as cause
@@ -29,25 +32,6 @@ pub handed_on : {X : Type 0} (r : Result X ConfigFault) (P : ConfigFault → Typ
     → IsErrAnd r (λ (y : ConfigFault). y ≡ fault) → P fault → IfErr r P
 handed_on {X} (Ok x) P fault told is = tt
 handed_on {X} (Err y) P fault told is = subst P (sym told) is
-
--- one clause more
-spelt_more : (text : List ℕ) (start from behind : ℕ) (c d e : Configuration) (ts : List Tree) (t : Tree)
-    → AreSpelt text start c ts from d → AnswersAt text from (Found t behind) → Means d t e
-    → AreSpelt text start c (ts ++ t ∷ []) behind e
-spelt_more text start from behind c d e [] t spelt found means = (
-  behind,
-  e,
-  subst (λ k. AnswersAt text k (Found t behind)) spelt.0 found,
-  subst (λ (x : Configuration). Means x t e) spelt.1 means,
-  (refl, refl),
-)
-spelt_more text start from behind c d e (u ∷ us) t spelt found means = (
-  spelt.0,
-  spelt.1,
-  spelt.2,
-  spelt.3,
-  spelt_more text spelt.0 from behind spelt.1 d e us t spelt.4 found means,
-)
 
 -- it adds one grant at most, and no more than one tuple to a centre
 abbrev HasFew : ℕ → List CentreConf → Type 0
@@ -101,20 +85,12 @@ of-clauses-more count c vars (Script a lines) e h makes = subst (IsOfClauses (co
 
 -- the text up to a place is so many clauses, and this is what they set up
 pub record IsReadTo (text : List ℕ) (from count : ℕ) (c : Configuration) : Type 0 where
-  pub terms : List Tree
-  pub spelt : AreSpelt text 0 nothing terms from c
-  pub counted : count ≡ length terms
-  pub few : count ≤ from
-  pub inside : from ≤ length text
+  pub read : onward.IsReadTo config_language text nothing from count c
   pub small : IsOfClauses count c
 
 pub read_none : (text : List ℕ) → IsReadTo text 0 0 nothing
 read_none text = record {
-  terms = [];
-  spelt = (refl, refl);
-  counted = refl;
-  few = omega arith;
-  inside = omega arith;
+  read = onward.read_none config_language text nothing;
   small = record { grants = omega arith; tuples = All-nil (λ (s : CentreConf). length s.tuples ≤ 0) };
 }
 
@@ -122,11 +98,7 @@ pub read_more : (text : List ℕ) (from count behind : ℕ) (c e : Configuration
     → AnswersAt text from (Found t behind) → Means c t e → from < behind → behind ≤ length text
     → IsReadTo text behind (count + 1) e
 read_more text from count behind c e t h found means further inside = record {
-  terms = h.terms ++ t ∷ [];
-  spelt = spelt_more text 0 from behind nothing c e h.terms t h.spelt found means;
-  counted = omega (arith, length-append h.terms (t ∷ []), h.counted);
-  few = omega (arith, h.few, further);
-  inside = inside;
+  read = onward.read_more config_language text nothing from count behind c e t h.read found means further inside;
   small = of-clauses-more count c _ means.form e h.small means.makes;
 }
 
@@ -134,30 +106,23 @@ read_more text from count behind c e t h found means further inside = record {
 pub room_behind : (text : List ℕ) (from count behind : ℕ) (c : Configuration) → IsReadTo text from count c → from < behind
     → behind ≤ length text → length text ≤ MOST_BYTES → HasRoom c
 room_behind text from count behind c h further inside short = record {
-  grants = omega (arith, h.small.grants, h.few, further, inside, short);
+  grants = omega (arith, h.small.grants, h.read.few, further, inside, short);
   tuples =
       All-weaker (λ (s : CentreConf). length s.tuples ≤ count) (λ (s : CentreConf). length s.tuples < MOST_TUPLES)
-      (λ s less. omega (arith, less, h.few, further, inside, short)) c.centres h.small.tuples;
+      (λ s less. omega (arith, less, h.read.few, further, inside, short)) c.centres h.small.tuples;
 }
 
 -- all clauses are read
 pub read_all : (text : List ℕ) (from count : ℕ) (c : Configuration) → IsReadTo text from count c → length text ≤ MOST_BYTES
     → AnswersAt text from Nothing → Spells text c
-read_all text from count c h short nothing =
-    record { short = short; terms = h.terms; end = from; spelt = h.spelt; nothing = nothing }
+read_all text from count c h short end =
+    record { short = short; clauses = onward.read_all config_language text nothing from count c h.read end }
 
 -- what is wrong with the clause behind them is what is wrong with the text
 has_fault : (text : List ℕ) (from count number : ℕ) (c : Configuration) (why : ConfigCause) → IsReadTo text from count c
-    → length text ≤ MOST_BYTES → number ≡ count + 1 → IsFaultyAt text from c why → HasFault text number why
-has_fault text from count number c why h short counted faulty = record {
-  short = short;
-  terms = h.terms;
-  from = from;
-  before = c;
-  spelt = h.spelt;
-  number = omega (arith, counted, h.counted);
-  faulty = faulty;
-}
+    → length text ≤ MOST_BYTES → number ≡ count + 1 → IsFaultyAt config_language text from c why → HasFault text number why
+has_fault text from count number c why h short counted faulty =
+    record { short = short; faulty = onward.read_fault config_language text nothing from count number c why h.read counted faulty }
 
 -- no form is faulty by the length of the text
 formless : (c : Configuration) (x : Form) → IsFaulty c x cause.Length → ⊥
@@ -169,12 +134,16 @@ formless c (Grant r n p) h = h
 formless c (Agent a r) h = h
 formless c (Script a lines) h = h
 
-no_length : (text : List ℕ) (from : ℕ) (c : Configuration) → IsFaultyAt text from c cause.Length → ⊥
-no_length text from c (inl unread) = unread
+not_length : (u : Unread) → cause_unread u ≡ cause.Length → ⊥
+not_length unread.Syntax same = cc
+not_length unread.Size same = cc
+
+no_length : (text : List ℕ) (from : ℕ) (c : Configuration) → IsFaultyAt config_language text from c cause.Length → ⊥
+no_length text from c (inl (u, h, same)) = not_length u same
 no_length text from c (inr (t, behind, found, first)) = formless c first.has.0 first.has.2
 
 refused : (text : List ℕ) (from count number : ℕ) (c : Configuration) (why : ConfigCause) → IsReadTo text from count c
-    → length text ≤ MOST_BYTES → number ≡ count + 1 → IsFaultyAt text from c why → IsRefused text number why
+    → length text ≤ MOST_BYTES → number ≡ count + 1 → IsFaultyAt config_language text from c why → IsRefused text number why
 refused text from count number c cause.Length h short counted faulty = absurd (no_length text from c faulty)
 refused text from count number c cause.Syntax h short counted faulty = has_fault text from count number c cause.Syntax h short counted faulty
 refused text from count number c cause.Size h short counted faulty = has_fault text from count number c cause.Size h short counted faulty

@@ -1,9 +1,10 @@
 -- What is answered for a text that is to be a configuration.
 use Rattle.std.specs.Prelude.{◌≡◌, ◌+◌, ℕ, false, List}
 use Rattle.tc_term.specs.Tree.{Tree, is_ground}
+use Rattle.tc_read.specs.Clauses.{IsFaultyAt}
 use Rattle.tc_config.specs.Causes.{IsFirstCause, IsFirstFault, IsNoReaction}
 use Rattle.tc_config.specs.Configurations.{Configuration}
-use Rattle.tc_config.specs.Texts.{IsFaultyAt, IsRefused}
+use Rattle.tc_config.specs.Texts.{IsRefused, config_language}
 use Rattle.tc_config.specs.declared.faults.ConfigCause.{ConfigCause}
 use Rattle.tc_config.specs.declared.faults.ConfigCause.TheVariants as cause
 use Rattle.tc_config.specs.declared.faults.ClauseFault.{ClauseFault}
@@ -29,7 +30,8 @@ IsWant NoMemory = Unit {0}
 
 -- the fault is of what stands at this place behind so many clauses, or memory has run out
 abbrev pub IsFaultAt : List ℕ → ℕ → ℕ → Configuration → ConfigFault → Type 0
-IsFaultAt text from count c (Bad number why) = (number ≡ count + 1) × IsFaultyAt text from c why
+IsFaultAt text from count c (Bad number why) =
+    (number ≡ count + 1) × IsFaultyAt config_language text from c why
 IsFaultAt text from count c NoMemory = Unit {0}
 
 -- the fault is the first of a clause of this form, or memory has run out

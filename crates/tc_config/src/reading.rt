@@ -3,8 +3,7 @@ ghost use Rattle.std.specs.Prelude.{◌≡◌, ◌<◌, ◌≤◌, ◌+◌, IfEr
 ghost use Rattle.tc_term.specs.Faults.{Found, Nothing};
 ghost use Rattle.tc_term.specs.NameBytes.{has_read_names};
 ghost use Rattle.tc_term.specs.Tree.{Tree};
-ghost use Rattle.tc_read.specs.ReadAnswers.{IsFault};
-ghost use Rattle.tc_spec.specs.Texts.{AnswersAt};
+ghost use Rattle.tc_read.specs.Clauses.{AnswersAt, IsUnreadOr};
 ghost use Rattle.tc_config.specs.Answers.{IsConfigFault, IsFaultAt, IsTermFault, IsThisFault, IsWant};
 ghost use Rattle.tc_config.specs.Configurations.{Configuration};
 ghost use Rattle.tc_config.specs.Texts.{IsRefused, Spells};
@@ -18,7 +17,7 @@ use crate::draft::{finish, new_draft};
 use crate::faults::{ClauseFault, ConfigCause, ConfigFault};
 use crate::limits::MOST_BYTES;
 use std::alloc::Global;
-use tc_read::{ReadFault, read_clause};
+use tc_read::{Unread, next_clause};
 use tc_term::Pattern;
 
 /// The configuration that the text spells, or its first faulty clause, counted from 1, with its first
@@ -82,24 +81,22 @@ fn clause_at(
     ensures none { IfOk result (λ r. IfNone r (AnswersAt text.now from Nothing)) }
     ensures fault { (c : Configuration) → IfErr result (IsFaultAt text.now from count c) }
 {
-    match read_clause(alloc, text, from) {
+    match next_clause(alloc, text, from) {
         Ok(found) => Ok(found),
-        Err(fault) => Err(unread(fault, count)),
+        Err(why) => Err(no_clause(why, count)),
     }
 }
 
-// What is told of text behind so many clauses that the reader refuses.
-fn unread(fault: ReadFault, count: usize) -> ConfigFault
+// What is told of text behind so many clauses in which the reader finds no clause.
+fn no_clause(why: Option<Unread>, count: usize) -> ConfigFault
     requires { count ≤ MOST_BYTES }
-    ensures { (text : List ℕ) (from : ℕ) (c : Configuration) → IsFault (AnswersAt text from) fault
+    ensures { (text : List ℕ) (from : ℕ) (c : Configuration) → IsUnreadOr text from why
         → IsFaultAt text from count c result }
 {
-    match fault {
-        ReadFault::Syntax(_) => bad(count, ConfigCause::Syntax),
-        ReadFault::WideInt(_) => bad(count, ConfigCause::Size),
-        ReadFault::TooMany(_) => bad(count, ConfigCause::Size),
-        ReadFault::TooBig(_) => bad(count, ConfigCause::Size),
-        ReadFault::NoMemory => ConfigFault::NoMemory,
+    match why {
+        Some(Unread::Syntax) => bad(count, ConfigCause::Syntax),
+        Some(Unread::Size) => bad(count, ConfigCause::Size),
+        None => ConfigFault::NoMemory,
     }
 }
 

@@ -1,5 +1,6 @@
 -- What holds of each element: of parts of a list, and of a list turned round, mapped or shortened.
-use Rattle.std.proofs.Common.{◌≡◌, ℕ, suc, ◌+◌, ◌<◌, ◌≤◌, List, [], ◌∷◌, ◌++◌, All, Some, length, get_or, slice_get, take, drop, map, remove, reverse, take_all, sym, subst, refl}
+use Rattle.std.proofs.Common.{◌≡◌, ℕ, suc, ◌+◌, ◌<◌, ◌≤◌, List, [], ◌∷◌, ◌++◌, All, Some, length, get_or, slice_get, take, drop, map, remove, reverse, length-take, length-drop, get_or-take, get_or-drop, take_all, sym, subst, refl, arith}
+use Rattle.std.specs.List.{AllWithin}
 use Rattle.std.proofs.Math.Seq.{take-append_seam, drop-append_seam}
 use Rattle.std.proofs.lemmas.List.{reverse-append}
 use Rattle.std.proofs.lemmas.List.Elements.{All-nil, All-cons, All-head, All-tail, All-append, All-push, All-pop, All-take, All-drop}
@@ -33,6 +34,17 @@ module _ {X : Type 0} (P : X → Type 0) where
 
   pub All-from_take : (xs : List X) (i : ℕ) → length xs ≤ i → All P (take i xs) → All P xs
   All-from_take xs i past all = subst (All P) (take_all i xs past) all
+
+  -- between what holds within bounds, and of parts
+  pub All-take_within : (xs : List X) (i : ℕ) → AllWithin P xs 0 i → All P (take i xs)
+  All-take_within xs i within k d inside =
+      let below : k < i = omega (arith, inside, length-take i xs) in
+      subst P (sym (get_or-take i xs k d below)) (within k d (omega arith) below)
+
+  pub All-drop_within : (xs : List X) (i : ℕ) → AllWithin P xs i (length xs) → All P (drop i xs)
+  All-drop_within xs i within k d inside =
+      subst P (sym (get_or-drop i xs k d))
+      (within (i + k) d (omega arith) (omega (arith, inside, length-drop i xs)))
 
   pub All-remove : (xs : List X) (n : ℕ) → All P xs → All P (remove xs n)
   All-remove xs n all =

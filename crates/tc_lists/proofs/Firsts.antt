@@ -3,6 +3,9 @@ use Rattle.std.proofs.Common.{◌≡◌, List, [], ◌∷◌, ◌++◌, All, Con
 use Rattle.std.proofs.lemmas.List.Elements.{All-contains, Contains-get_or, Contains-append_right, Contains-append_cases}
 use Rattle.tc_lists.specs.Firsts.{NoneOf, IsFirst}
 
+pub NoneOf-nil : {X : Type 0} (P : X → Type 0) → NoneOf P []
+NoneOf-nil P x inside has = absurd (omega (arith, inside.1))
+
 pub IsFirst-contains : {X : Type 0} (P : X → Type 0) (xs : List X) (x : X) → IsFirst P xs x → Contains xs x
 IsFirst-contains P xs x first =
     subst (λ ys. Contains ys x) (sym first.split)

@@ -1,5 +1,5 @@
 -- Optional values, by what they hold.
-use Rattle.std.proofs.Common.{◌≡◌, false, Option, Some, None, is_some, IfSome, IfNone, MatchOption, option_map, refl, subst}
+use Rattle.std.proofs.Common.{◌≡◌, Bool, true, false, if◌then◌else◌, Option, Some, None, is_some, IfSome, IfNone, MatchOption, option_map, refl, subst}
 
 pub option_map_some : {X Y : Type 0} (f : X → Y) (o : Option X) (y : Y) → option_map f o ≡ Some y → (x : X) × (o ≡ Some x) × (f x ≡ y)
 option_map_some f None y e = absurd (cc)
@@ -20,6 +20,11 @@ IfSome-at P o x is told = subst (λ p. IfSome p P) is told
 
 pub IfNone-at : {X : Type 0} (N : Type 0) (o : Option X) → o ≡ None → IfNone o N → N
 IfNone-at N o is told = subst (λ p. IfNone p N) is told
+
+-- a pair that is there
+pub some_pair_same : {X Y : Type 0} (x u : X) (y v : Y) → ◌≡◌ {A = Option (X × Y)} (Some (x, y)) (Some (u, v))
+    → ◌≡◌ {A = X × Y} (x, y) (u, v)
+some_pair_same x u y v e = cc
 
 -- what holds of whichever value there is, and what holds anyhow
 pub IfSome-from : {X : Type 0} (P : X → Type 0) (o : Option X) → ((x : X) → o ≡ Some x → P x) → IfSome o P
@@ -47,3 +52,7 @@ none_from_is_some (Some x) fails = absurd (cc)
 pub none_from_never : {X : Type 0} (o : Option X) → ((x : X) → o ≡ Some x → ⊥) → o ≡ None
 none_from_never None never = refl
 none_from_never (Some x) never = absurd (never x refl)
+
+pub if_some_none : {X : Type 0} (b : Bool) (x : X) → (if b then Some x else None) ≡ None → b ≡ false
+if_some_none true x e = absurd (cc)
+if_some_none false x e = refl

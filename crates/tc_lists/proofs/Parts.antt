@@ -1,5 +1,5 @@
 -- Parts of a list: its first and its last element, what stands before and behind a place.
-use Rattle.std.proofs.Common.{◌≡◌, ◌⊎◌, ℕ, zero, suc, ◌+◌, ◌-◌, ◌<◌, ◌≤◌, List, [], ◌∷◌, ◌++◌, length, get_or, slice_get, take, drop, Some, inl, inr, refl, sym, ap, ◌∙◌, length-append, take_all, arith}
+use Rattle.std.proofs.Common.{◌≡◌, ◌⊎◌, ℕ, zero, suc, ◌+◌, ◌-◌, ◌<◌, ◌≤◌, List, [], ◌∷◌, ◌++◌, length, get_or, slice_get, take, drop, Some, inl, inr, refl, sym, ap, ◌∙◌, length-append, length-take, length-drop, take_all, arith}
 use Rattle.std.proofs.Math.Seq.{take-append_seam, drop-append_seam}
 use Rattle.std.proofs.lemmas.List.{append_assoc, take_at, take_more, drop_all, drop_more, drop-append-le, take-append-drop, take-append-le}
 use Rattle.std.proofs.lemmas.Option.{same_Some}
@@ -38,6 +38,12 @@ push_from_length xs n some =
       | inl none ↦ absurd (omega (arith, some, ap length none))
       | inr push ↦ push
     ]
+
+-- a list of one element
+pub singleton_read : {X : Type 0} (xs : List X) (x : X) → 1 ≤ length xs → length xs < 2 → x ≡ get_or xs 0 x → xs ≡ x ∷ []
+singleton_read [] x some one is = absurd (omega arith)
+singleton_read (y ∷ []) x some one is = cc
+singleton_read (y ∷ z ∷ xs) x some one is = absurd (omega arith)
 
 -- one more element, once it was read
 pub take_read : {X : Type 0} (xs : List X) (i : ℕ) (x : X) → i < length xs → x ≡ get_or xs i x
@@ -79,9 +85,19 @@ pub drop_behind : {X : Type 0} (whole front rest : List X) (end : ℕ) → whole
 drop_behind whole front rest end split place =
     drop_front whole front rest end split (omega (arith, length-append front rest, ap length split, place))
 
+-- all that stands behind a front, as so many elements from there
+pub take-drop_front : {X : Type 0} (whole front rest : List X) (n : ℕ) → whole ≡ front ++ rest → n ≡ length front
+    → take (length whole - n) (drop n whole) ≡ rest
+take-drop_front whole front rest n split long =
+    ap (take (length whole - n)) (drop_front whole front rest n split long)
+    ∙ take_all (length whole - n) rest (omega (arith, length-append front rest, ap length split, long))
+
 pub take-drop-append : {X : Type 0} (front xs : List X) → take (length xs) (drop (length front) (front ++ xs)) ≡ xs
 take-drop-append front xs =
     ap (take (length xs)) (drop-append_seam front xs) ∙ take_all (length xs) xs (omega arith)
+
+pub length-take-drop : {X : Type 0} (xs : List X) (from n : ℕ) → from + n ≤ length xs → length (take n (drop from xs)) ≡ n
+length-take-drop xs from n within = omega (arith, length-take n (drop from xs), length-drop from xs)
 
 -- the front is exchanged for one that is as long
 pub take-append_all : {X : Type 0} (new old : List X) (n : ℕ) → length new ≡ length old → n ≡ length old

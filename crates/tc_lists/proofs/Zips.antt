@@ -14,6 +14,12 @@ AllZip-slice_get R (u ∷ xs) [] k y zip at = absurd zip
 AllZip-slice_get R (u ∷ xs) (v ∷ ys) zero y zip at = (u, refl, subst (R u) (same_Some v y at) zip.0)
 AllZip-slice_get R (u ∷ xs) (v ∷ ys) (suc k) y zip at = AllZip-slice_get R xs ys k y zip.1 at
 
+pub length-AllZip : {X Y : Type 0} (R : X → Y → Type 0) (xs : List X) (ys : List Y) → AllZip R xs ys → length xs ≡ length ys
+length-AllZip R [] [] zip = refl
+length-AllZip R [] (v ∷ ys) zip = absurd zip
+length-AllZip R (u ∷ xs) [] zip = absurd zip
+length-AllZip R (u ∷ xs) (v ∷ ys) zip = ap suc (length-AllZip R xs ys zip.1)
+
 -- what holds at each place holds with one element more in each list
 pub slice_get-push_both : {X Y : Type 0} (P : X → Y → Type 0) (xs : List X) (ys : List Y) (x : X) (y : Y) → length ys ≡ length xs
     → ((k : ℕ) (a : X) (b : Y) → slice_get xs k ≡ Some a → slice_get ys k ≡ Some b → P a b) → P x y

@@ -2,7 +2,7 @@ use Rattle.std.proofs.Common.{◌≤◌, ◌<◌, ℕ, length, arith}
 use Rattle.tc_lists.proofs.Options.{IfSome-at}
 use Rattle.tc_term.specs.Faults.{Found}
 use Rattle.tc_term.specs.Tree.{Tree}
-use Rattle.tc_spec.specs.Texts.{AnswersAt}
+use Rattle.tc_read.specs.Clauses.{AnswersAt}
 use Rattle.tc_config.specs.Answers.{IsConfigFault}
 use Rattle.tc_config.specs.Drafts.{config_of}
 use Rattle.tc_config.proofs.Onward.{handed_on, read_more, told_refused}
