@@ -20,7 +20,8 @@ pub record IsFirstAt (g : Grant) (grants : List Grant) (place : ℕ) : Type 0 wh
 abbrev pub IsFirstNumber : Grant → List Grant → ℕ → Type 0
 IsFirstNumber g grants number = (place : ℕ) × (number ≡ place + 1) × IsFirstAt g grants place
 
--- the first grant that is equal to this one is gone, and all others are left; where none is, all are
+-- the first grant that is equal to this one is gone, and all others are left;
+-- where none is, all are
 pub record IsWithoutFirst (g : Grant) (old new : List Grant) : Type 0 where
   pub removed : (place : ℕ) → IsFirstAt g old place → new ≡ remove old place
   pub same : (Contains old g → ⊥) → new ≡ old

@@ -42,10 +42,12 @@ primitive_at-number GetSpec = refl
 
 same_primitive : (p q : Primitive) → number_of p ≡ number_of q → p ≡ q
 same_primitive p q e =
-    let same : Some p ≡ Some q = sym (primitive_at-number p) ∙ ap primitive_at e ∙ primitive_at-number q in
+    let same : Some p ≡ Some q =
+    sym (primitive_at-number p) ∙ ap primitive_at e ∙ primitive_at-number q in
     cc
 
-same_parts : (g h : Grant) → g.role ≡ h.role → g.centre ≡ h.centre → g.primitive ≡ h.primitive → g ≡ h
+same_parts : (g h : Grant) → g.role ≡ h.role → g.centre ≡ h.centre
+    → g.primitive ≡ h.primitive → g ≡ h
 same_parts g h role centre primitive =
     ap (λ r. record { role = r; centre = g.centre; primitive = g.primitive }) role
     ∙ ap (λ c. record { role = h.role; centre = c; primitive = g.primitive }) centre

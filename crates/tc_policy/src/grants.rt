@@ -8,7 +8,8 @@ use tc_model::Primitive;
 /// The most grants that roles have.
 pub const MOST_GRANTS: usize = 4_294_967_295;
 
-/// That agents of a role may use a primitive on a centre. The role and the centre are places, from 0.
+/// That agents of a role may use a primitive on a centre. The role and the
+/// centre are places, from 0.
 #[derive(Clone, Copy, Debug)]
 pub struct Grant {
     pub role: u32,

@@ -12,11 +12,12 @@
 #![tactic(auto)]
 
 mod grants;
+mod laws;
 mod places;
 mod roles;
 mod warden;
 
 pub use grants::{Grant, MOST_GRANTS};
+pub use laws::{limits_are_these, numbers_are_of_grants};
 pub use roles::Roles;
 pub use tc_lists::NoMemory;
-pub use warden::numbers_are_of_grants;

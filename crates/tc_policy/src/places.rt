@@ -17,7 +17,8 @@ pub type Places = HashMap<Grant, u32>;
 /// Notes a grant that was appended at this place, where it stands there first. There is room.
 pub fn note(places: &mut Places, g: Grant, place: u32)
     requires { 0 < spare places.old }
-    ensures { (grants : List Grant) → length grants ≡ place → IsIndex (place_in places.old) grants
+    ensures { (grants : List Grant) → length grants ≡ place
+        → IsIndex (place_in places.old) grants
         → IsIndex (place_in places.new) (grants ++ g ∷ []) }
 {
     if places.contains_key(&g) {

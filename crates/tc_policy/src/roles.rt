@@ -51,7 +51,8 @@ impl Roles {
         &self.grants
     }
 
-    /// The number, from 1, of the first grant by which the role may use the primitive on the centre.
+    /// The number, from 1, of the first grant by which the role may use the
+    /// primitive on the centre.
     pub fn permits(&self, role: u32, centre: u32, primitive: Primitive) -> Option<u32>
         ensures first { IfSome result (IsFirstNumber (grant role centre primitive) self.now) }
         ensures none { IfNone result (Contains self.now (grant role centre primitive) → ⊥) }

@@ -1,5 +1,5 @@
 use Rattle.tc_policy.proofs.Numbers.{number-first, number-stands, number-has, number-none}
-use Rattle.tc_policy.proofs.warden.numbers_are_of_grants.Goals as goal
+use Rattle.tc_policy.proofs.laws.numbers_are_of_grants.Goals as goal
 
 pub returns-clause-first : goal.returns-clause-first
 returns-clause-first c = number-first
