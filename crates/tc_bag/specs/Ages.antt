@@ -10,7 +10,8 @@ use Rattle.tc_bag.specs.Pairs.{HasPair}
 abbrev pub Has : Index → ℕ → ℕ → Type 0
 Has index code age = HasPair index.pairs code age
 
--- the index has the age of a tuple by the code of its key, and by that of its key and first argument
+-- the index has the age of a tuple by the code of its key, and by that of its key and first
+-- argument
 abbrev pub HasRow : Index → ℕ → Tree → Type 0
 HasRow index age tuple =
     Has index (key_code (key_of tuple)) age × IfSome (first_code tuple) (λ code. Has index code age)

@@ -9,7 +9,8 @@ abbrev pub arity : Trees → ℕ
 arity (Last t) = 1
 arity (More t ts) = 1 + arity ts
 
--- the key of a term: a variable has any, an atom its name, a compound its name and how many arguments
+-- the key of a term: a variable has any, an atom its name, a compound its name and how many
+-- arguments
 abbrev pub key_of : Tree → Key
 key_of (Variable n) = Any
 key_of (Atomic name) = Atom name

@@ -73,7 +73,8 @@ StartsEmpty (m ∷ ms) = m.taken ≡ 0
 -- what a bag keeps: each slot has a tuple, ages rise and are below the next, neither ages nor
 -- counts fall from mark to mark, and the list has the ages of the rows that were taken while a mark
 -- stood, with room for those that are there
-pub record IsSound (slots : List Slot) (next : ℕ) (log : List ℕ) (room : ℕ) (marks : List Mark) : Type 0 where
+pub record IsSound
+    (slots : List Slot) (next : ℕ) (log : List ℕ) (room : ℕ) (marks : List Mark) : Type 0 where
   pub tuples : All (λ s. IsTuple s.tuple) slots
   pub order : InOrder slots
   pub below : All (λ s. s.age < next) slots

@@ -46,13 +46,13 @@ impl Model for Bag {
 impl Bag {
     ghost use Rattle.std.specs.Prelude.{◌≡◌, ◌^◌, ◌<◌, [], length, slice_get, All};
     ghost use Rattle.std.specs.Prelude.{OnOk, OnErr, IfErr, IfSome, IfNone};
-    ghost use Rattle.std.specs.Option.{option_copied, option_map};
+    ghost use Rattle.std.specs.Option.{option_copied};
     ghost use Rattle.tc_lists.specs.Firsts.{NoneOf, IsFirst};
     ghost use Rattle.tc_lists.specs.Marks.{IsBack, IsGivenUp};
     ghost use Rattle.tc_term.specs.Tree.{Fits, IsTuple};
     ghost use Rattle.tc_term.specs.TreeView.{tree_of};
     ghost use Rattle.tc_bag.specs.Keys.{key_of};
-    ghost use Rattle.tc_bag.specs.Lent.{lent_key};
+    ghost use Rattle.tc_bag.specs.Lent.{lent_key, lent_tree};
     ghost use Rattle.tc_bag.specs.Stock.{row, tuples_of, AgesRiseBelow, IsCandidate, IsCandidateLike};
     ghost use Rattle.tc_bag.specs.Stock.{tuple_at, without_age, with_tuple, saved_of, marked};
 
@@ -95,10 +95,10 @@ impl Bag {
         from: u64,
     ) -> Option<(u64, &Ground)>
         ensures found { IfSome result (λ r. IsFirst
-            (IsCandidateLike key.now (option_map (λ term. tree_of term.now) first.entry) from)
+            (IsCandidateLike key.now (lent_tree first.entry) from)
             self.now.now (row r.0 r.1.now)) }
         ensures none { IfNone result (NoneOf
-            (IsCandidateLike key.now (option_map (λ term. tree_of term.now) first.entry) from)
+            (IsCandidateLike key.now (lent_tree first.entry) from)
             self.now.now) }
 
         // What a search needs that goes on from the age found.
@@ -118,10 +118,10 @@ impl Bag {
     ) -> Option<(u64, &Ground)>
         requires { Fits (tree_of template.now) }
         ensures found { IfSome result (λ r. IsFirst (IsCandidateLike
-            (key_of (tree_of template.now)) (option_map (λ term. tree_of term.now) first.entry) from)
+            (key_of (tree_of template.now)) (lent_tree first.entry) from)
             self.now.now (row r.0 r.1.now)) }
         ensures none { IfNone result (NoneOf (IsCandidateLike
-            (key_of (tree_of template.now)) (option_map (λ term. tree_of term.now) first.entry) from)
+            (key_of (tree_of template.now)) (lent_tree first.entry) from)
             self.now.now) }
 
         // What a search needs that goes on from the age found.
@@ -135,10 +135,10 @@ impl Bag {
     // The same by a key that is lent.
     fn first_candidate(&self, key: Lent, first: Option<&Term>, from: u64) -> Option<(u64, &Ground)>
         ensures found { IfSome result (λ r. IsFirst (IsCandidateLike
-            (lent_key key.entry) (option_map (λ term. tree_of term.now) first.entry) from)
+            (lent_key key.entry) (lent_tree first.entry) from)
             self.now.now (row r.0 r.1.now)) }
         ensures none { IfNone result (NoneOf (IsCandidateLike
-            (lent_key key.entry) (option_map (λ term. tree_of term.now) first.entry) from)
+            (lent_key key.entry) (lent_tree first.entry) from)
             self.now.now) }
         ensures rises { AgesRiseBelow self.now.now self.now.next }
         ensures limit { self.now.next < 2 ^ 64 }

@@ -1,9 +1,8 @@
 //! Codes of terms: numbers by which rows are looked up. Terms of one code may differ.
 ghost use Rattle.std.specs.Prelude.{◌≡◌};
-ghost use Rattle.std.specs.Option.{option_map};
 ghost use Rattle.tc_term.specs.TreeView.{tree_of};
 ghost use Rattle.tc_bag.specs.Keys.{key_of};
-ghost use Rattle.tc_bag.specs.Lent.{lent_key};
+ghost use Rattle.tc_bag.specs.Lent.{lent_key, lent_tree};
 ghost use Rattle.tc_bag.specs.Codes.{key_code, top_code, first_code, code_like};
 
 use crate::key::Lent;
@@ -32,7 +31,7 @@ pub(crate) fn first_code(t: &Term) -> Option<u64>
 
 /// The code of the tuples with a key and, where one is given, a first argument.
 pub(crate) fn code_like(key: Lent, first: Option<&Term>) -> u64
-    ensures { result ≡ code_like (lent_key key.entry) (option_map (λ term. tree_of term.now) first.entry) }
+    ensures { result ≡ code_like (lent_key key.entry) (lent_tree first.entry) }
 {
     let code = key_code(key);
     match first {

@@ -1,10 +1,9 @@
 //! Keys of terms: what a tuple that a template matches has in common with it at its top.
 ghost use Rattle.std.specs.Prelude.{◌≡◌, ◌↔◌, IfOk, IsTrue};
-ghost use Rattle.std.specs.Option.{option_map};
 ghost use Rattle.tc_term.specs.Tree.{Fits};
 ghost use Rattle.tc_term.specs.TreeView.{tree_of};
 ghost use Rattle.tc_bag.specs.Keys.{known_first, HasFirst, IsLike};
-ghost use Rattle.tc_bag.specs.Lent.{lent_key};
+ghost use Rattle.tc_bag.specs.Lent.{lent_key, lent_tree};
 
 use std::alloc::Global;
 use tc_lists::NoMemory;
@@ -101,7 +100,7 @@ impl<'n> Lent<'n> {
 
 /// The first argument of a term, where there is one and no variable stands in it.
 pub fn known_first(t: &Term) -> Option<&Term>
-    ensures { option_map (λ first. tree_of first.now) result ≡ known_first (tree_of t.now) }
+    ensures { lent_tree result ≡ known_first (tree_of t.now) }
 {
     let Term::Comp(_, args) = t else {
         return None;
@@ -113,7 +112,7 @@ pub fn known_first(t: &Term) -> Option<&Term>
 /// Whether a tuple has this key and, where one is given, this first argument.
 pub(crate) fn is_like(key: Lent, first: Option<&Term>, tuple: &Ground) -> bool
     ensures { IsTrue result
-        ↔ IsLike (lent_key key.entry) (option_map (λ term. tree_of term.now) first.entry) tuple.now }
+        ↔ IsLike (lent_key key.entry) (lent_tree first.entry) tuple.now }
 {
     key.agrees(tuple) && has_first(first, tuple.term())
 }
@@ -121,7 +120,7 @@ pub(crate) fn is_like(key: Lent, first: Option<&Term>, tuple: &Ground) -> bool
 // Whether a term has this first argument, where one is given.
 fn has_first(first: Option<&Term>, t: &Term) -> bool
     ensures { IsTrue result
-        ↔ HasFirst (option_map (λ term. tree_of term.now) first.entry) (tree_of t.now) }
+        ↔ HasFirst (lent_tree first.entry) (tree_of t.now) }
 {
     let Some(first) = first else {
         return true;

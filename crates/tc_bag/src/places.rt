@@ -202,7 +202,8 @@ fn clear(places: &mut Vec<Place>, age: u64) -> Option<Ground>
     places[i].tuple.take()
 }
 
-// Drops the gaps behind the last row, and moves so many rows together, where more than half are gaps.
+// Drops the gaps behind the last row, and moves so many rows together, where more than half are
+// gaps.
 fn settle(places: &mut Vec<Place>, filled: usize)
     requires { AgesRise places.old.items }
     ensures slots { slots_of places.new.items ≡ slots_of places.old.items }

@@ -47,12 +47,12 @@ impl Rows {
     ghost use Rattle.std.specs.Prelude.{◌≡◌, ◌<◌, ◌≤◌, ◌^◌, IsTrue, List, [], ◌∷◌, ◌++◌};
     ghost use Rattle.std.specs.Prelude.{length, map, filter, slice_get, is_some, All, OnOk};
     ghost use Rattle.std.specs.Prelude.{OnErr, IfErr, IfSome, IfNone, Option, Some};
-    ghost use Rattle.std.specs.Option.{option_copied, option_map};
+    ghost use Rattle.std.specs.Option.{option_copied};
     ghost use Rattle.tc_lists.specs.Firsts.{NoneOf, IsFirst};
     ghost use Rattle.tc_term.specs.Tree.{Tree};
     ghost use Rattle.tc_term.specs.TreeView.{tree_of};
     ghost use Rattle.tc_bag.specs.Keys.{IsLike};
-    ghost use Rattle.tc_bag.specs.Lent.{lent_key};
+    ghost use Rattle.tc_bag.specs.Lent.{lent_key, lent_tree};
     ghost use Rattle.tc_bag.specs.Codes.{code_like};
     ghost use Rattle.tc_bag.specs.Slots.{Slot, slot, InOrder, IsThereLike, is_there, IsYoungest};
     ghost use Rattle.tc_bag.specs.Slots.{is_older, is_not_of, stays, taken_at, revived_at};
@@ -109,10 +109,10 @@ impl Rows {
         requires order { InOrder self.now }
         requires limit { All (λ s. s.age < 2 ^ 64) self.now }
         ensures found { IfSome result (λ r. IsFirst
-            (IsThereLike (lent_key key.entry) (option_map (λ term. tree_of term.now) first.entry) from)
+            (IsThereLike (lent_key key.entry) (lent_tree first.entry) from)
             self.now (slot r.0 r.1.now)) }
         ensures none { IfNone result (NoneOf
-            (IsThereLike (lent_key key.entry) (option_map (λ term. tree_of term.now) first.entry) from)
+            (IsThereLike (lent_key key.entry) (lent_tree first.entry) from)
             self.now) }
     {
         let code = code_like(key, first);
@@ -133,9 +133,9 @@ impl Rows {
     // argument, where one is given.
     fn like_at(&self, age: u64, key: Lent, first: Option<&Term>) -> Option<&Ground>
         ensures found { IfSome result (λ t. (tuple_there age self.now ≡ Some t.now)
-            × IsLike (lent_key key.entry) (option_map (λ term. tree_of term.now) first.entry) t.now) }
+            × IsLike (lent_key key.entry) (lent_tree first.entry) t.now) }
         ensures none { IfNone result ((t : Tree) → tuple_there age self.now ≡ Some t
-            → IsLike (lent_key key.entry) (option_map (λ term. tree_of term.now) first.entry) t → ⊥) }
+            → IsLike (lent_key key.entry) (lent_tree first.entry) t → ⊥) }
     {
         let tuple = self.get(age)?;
         if is_like(key, first, tuple) {
@@ -155,7 +155,8 @@ impl Rows {
             → IsThereLike (lent_key key.entry) first from s → ⊥) self.now)) }
         ensures none { IfNone result ((first : Option Tree)
             → code ≡ code_like (lent_key key.entry) first
-            → All (λ s. from ≤ s.age → IsThereLike (lent_key key.entry) first from s → ⊥) self.now) }
+            → All (λ s. from ≤ s.age
+            → IsThereLike (lent_key key.entry) first from s → ⊥) self.now) }
     {
         if !self.whole {
             return self.oldest_from(from);
@@ -378,7 +379,8 @@ impl Rows {
 
 // The tuple in a place, where it is no gap.
 fn tuple_in(place: Option<&Place>) -> Option<&Ground>
-    ensures { option_copied result ≡ option_map (λ s. s.tuple) (slot_if (option_copied place.entry)) }
+    ensures { option_copied result
+        ≡ option_map (λ s. s.tuple) (slot_if (option_copied place.entry)) }
 {
     place?.tuple.as_ref()
 }

@@ -1,10 +1,11 @@
 //! Slots and marks. A row that is taken stays in its slot while a mark may bring it back.
 use tc_term::Ground;
 
-/// A place in the list of rows, for the row of an age. Once that is gone it is a gap, without a tuple.
+/// A place in the list of rows, for the row of an age. Once that is gone it is a gap, without a
+/// tuple.
 ///
-/// The row is there where `taken` is 0. Else it was so manieth to be taken, from 1, of the rows that
-/// a mark may bring back.
+/// The row is there where `taken` is 0. Else it was so manieth to be taken, from 1, of the rows
+/// that a mark may bring back.
 #[derive(Drop)]
 pub(crate) struct Place {
     pub(crate) age: u64,

@@ -6,12 +6,8 @@ use Rattle.std.proofs.lemmas.List.Elements.{All-head, All-weaker, All-append, Al
 use Rattle.tc_lists.specs.Firsts.{NoneOf, IsFirst}
 use Rattle.tc_lists.proofs.Elements.{All-append_left, All-append_right}
 use Rattle.tc_lists.proofs.Firsts.{NoneOf-from_All, All-from_NoneOf}
-use Rattle.std.specs.Borrow.{Bor}
-use Rattle.std.specs.Option.{option_map}
-use Rattle.tc_term.specs.declared.terms.Term.{Term}
 use Rattle.tc_term.specs.Equations.{Equation, Matches}
 use Rattle.tc_term.specs.Tree.{Tree, IsTuple}
-use Rattle.tc_term.specs.TreeView.{tree_of}
 use Rattle.tc_bag.specs.declared.key.Key.{Key}
 use Rattle.tc_bag.specs.Keys.{key_of, known_first, IsOfKey, HasFirst, IsLike}
 use Rattle.tc_bag.specs.Stock.{Row, AgesRiseBelow, tuples_of, tuple_at, without_age}
@@ -124,10 +120,6 @@ found_row n es template Q from next rows row rises keys passed first match =
       there = tuple_at-row rows first.before first.behind row next rises first.split;
       left = without_age-row rows first.before first.behind row next rises first.split;
     }
-
--- the tree of a first argument that is lent
-abbrev pub seen : Option (Bor Term) → Option Tree
-seen first = option_map (λ (x : Bor Term). tree_of x.now) first
 
 -- what a template matches agrees with its key and has its first argument
 pub likes_agree : (n : ℕ) (es : List Equation) (template : Tree) (key : Key) (first : Option Tree) (rows : List Row) → key ≡ key_of template

@@ -1,4 +1,5 @@
--- Trees for the variables of a template, and what is bound while it is walked together with a tuple.
+-- Trees for the variables of a template, and what is bound while it is walked together with a
+-- tuple.
 use Rattle.std.specs.Prelude.{◌≡◌, ℕ, IsTrue, List, Option, Some, None, All, slice_index_or}
 use Rattle.std.specs.Borrow.{Bor}
 use Rattle.tc_term.specs.declared.terms.Term.{Term}
@@ -24,8 +25,8 @@ AreGround bound = (n : ℕ) (t : Bor Term) → slice_index_or bound n None ≡ S
 abbrev pub MakesTuple : Tree → Tree → (ℕ → Tree) → Type 0
 MakesTuple term tuple f = instance f term ≡ tuple
 
--- the trees that follow what was bound and meet the one demand are those that follow what is bound and
--- meet the other
+-- the trees that follow what was bound and meet the one demand are those that follow what is bound
+-- and meet the other
 pub record Binds (old : List (Option (Bor Term))) (P : (ℕ → Tree) → Type 0)
     (new : List (Option (Bor Term))) (Q : (ℕ → Tree) → Type 0) : Type 0 where
   pub forth : (f : ℕ → Tree) → FollowsBindings f old → P f → FollowsBindings f new × Q f

@@ -46,7 +46,8 @@ fn agrees<'t>(term: &Term, tuple: &'t Term, bound: &mut [Option<&'t Term>]) -> b
     requires ground { AreGround bound.old }
     ensures yes { IsTrue result
         → Binds bound.old (MakesTuple (tree_of term.now) (tree_of tuple.now)) bound.new Always }
-    ensures no { result ≡ false → NeverBinds bound.old (MakesTuple (tree_of term.now) (tree_of tuple.now)) }
+    ensures no { result ≡ false
+        → NeverBinds bound.old (MakesTuple (tree_of term.now) (tree_of tuple.now)) }
     ensures ground { AreGround bound.new }
 {
     match (term, tuple) {
@@ -80,7 +81,8 @@ fn bind<'t>(variable: usize, tuple: &'t Term, bound: &mut [Option<&'t Term>]) ->
     requires ground { AreGround bound.old }
     ensures yes { IsTrue result
         → Binds bound.old (MakesTuple (Variable variable) (tree_of tuple.now)) bound.new Always }
-    ensures no { result ≡ false → NeverBinds bound.old (MakesTuple (Variable variable) (tree_of tuple.now)) }
+    ensures no { result ≡ false
+        → NeverBinds bound.old (MakesTuple (Variable variable) (tree_of tuple.now)) }
     ensures ground { AreGround bound.new }
 {
     if let Some(first) = bound[variable] {

@@ -14,13 +14,13 @@ use Rattle.tc_term.specs.declared.tuple.NotTuple.{NotTuple}
 use Rattle.tc_term.specs.declared.tuple.NotTuple.TheVariants as cause
 
 -- there is room for what fits
-pub IsWithin-Fits : (t : Tree) → Fits t → IsWithin t most_depth whole
+IsWithin-Fits : (t : Tree) → Fits t → IsWithin t most_depth whole
 IsWithin-Fits t fits = record { nodes = fits.nodes; depth = fits.depth; name_bytes = fits.name_bytes }
 
 -- a tuple has no cause to be none
-pub HasCause-tuple : (t : Term) (why : NotTuple) → IsTuple (tree_of t) → HasTupleCause t why → ⊥
-HasCause-tuple t (cause.TooBig u) tuple because = because.1 (IsWithin-Fits (tree_of t) tuple.fits)
-HasCause-tuple t (cause.NotGround u) tuple because = let ground = tuple.ground in let other = because.2 in absurd (cc)
+pub HasTupleCause-tuple : (t : Term) (why : NotTuple) → IsTuple (tree_of t) → HasTupleCause t why → ⊥
+HasTupleCause-tuple t (cause.TooBig u) tuple because = because.1 (IsWithin-Fits (tree_of t) tuple.fits)
+HasTupleCause-tuple t (cause.NotGround u) tuple because = let ground = tuple.ground in let other = because.2 in absurd (cc)
 
 -- a template has no cause to be none
 pub HasExcess-template : (t : Term) (why : NotPattern) → IsTemplate (tree_of t) → HasExcess t why → ⊥

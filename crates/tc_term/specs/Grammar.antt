@@ -119,7 +119,8 @@ module _ {A : Type 0} (m : Meaning A) where
     -- rest stands behind it.
     pub data Derives : ℕ → List Token → A → List Token → Type 0 where
       operand : {p : ℕ} {ts rest : List Token} {a : A} → Operand ts a rest → Derives p ts a rest
-      prefix : {p : ℕ} {ts rest : List Token} {a : A} → minus_priority ≤ p → NotCalled ts → NotNumber ts
+      prefix : {p : ℕ} {ts rest : List Token} {a : A}
+          → minus_priority ≤ p → NotCalled ts → NotNumber ts
           → Derives minus_priority ts a rest → Derives p (Symbol Minus ∷ ts) (negated a) rest
       infix_term : {p : ℕ} {ts mid rest : List Token} {token : Token} {a b : A} (op : Operator)
           → infix_of token ≡ Some op → op.priority ≤ p
@@ -145,20 +146,22 @@ module _ {A : Type 0} (m : Meaning A) where
 
     -- the arguments of a compound, the first and the others, up to and with the closing bracket
     pub data Arguments : List Token → A → List A → List Token → Type 0 where
-      last_argument : {ts rest : List Token} {a : A} → Derives argument_priority ts a (Close ∷ rest)
-          → Arguments ts a [] rest
+      last_argument : {ts rest : List Token} {a : A}
+          → Derives argument_priority ts a (Close ∷ rest) → Arguments ts a [] rest
       more_arguments : {ts mid rest : List Token} {a b : A} {more : List A}
           → Derives argument_priority ts a (Comma ∷ mid) → Arguments mid b more rest
           → Arguments ts a (b ∷ more) rest
 
     -- a list from an element on, up to and with the closing bracket
     pub data Items : List Token → A → List Token → Type 0 where
-      last_item : {ts rest : List Token} {a : A} → Derives argument_priority ts a (CloseList ∷ rest)
-          → Items ts (cell a nil) rest
-      list_tail : {ts mid rest : List Token} {a b : A} → Derives argument_priority ts a (Bar ∷ mid)
+      last_item : {ts rest : List Token} {a : A}
+          → Derives argument_priority ts a (CloseList ∷ rest) → Items ts (cell a nil) rest
+      list_tail : {ts mid rest : List Token} {a b : A}
+          → Derives argument_priority ts a (Bar ∷ mid)
           → Derives argument_priority mid b (CloseList ∷ rest) → Items ts (cell a b) rest
-      more_items : {ts mid rest : List Token} {a b : A} → Derives argument_priority ts a (Comma ∷ mid)
-          → Items mid b rest → Items ts (cell a b) rest
+      more_items : {ts mid rest : List Token} {a b : A}
+          → Derives argument_priority ts a (Comma ∷ mid) → Items mid b rest
+          → Items ts (cell a b) rest
 
   -- the tokens are a term that means a
   abbrev pub IsTerm : List Token → A → Type 0

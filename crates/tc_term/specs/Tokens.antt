@@ -39,8 +39,8 @@ mark_byte CloseList = 93
 mark_byte Comma = 44
 mark_byte Bar = 124
 
--- a token: a name, a variable, an integer, a quoted name with the bytes that it stands for, a symbol
--- or a mark
+-- a token: a name, a variable, an integer, a quoted name with the bytes that it stands for, a
+-- symbol or a mark
 pub data Lexeme : Type 0 where
   Word : List ℕ → Lexeme
   Variable : List ℕ → Lexeme
@@ -60,8 +60,10 @@ escape b = if b == 39 then Some 39
 pub data Inside : List ℕ → List ℕ → Type 0 where
   closed : Inside (39 ∷ []) []
   doubled : {s m : List ℕ} → Inside s m → Inside (39 ∷ 39 ∷ s) (39 ∷ m)
-  escaped : {b c : ℕ} {s m : List ℕ} → escape b ≡ Some c → Inside s m → Inside (92 ∷ b ∷ s) (c ∷ m)
-  plain : {b : ℕ} {s m : List ℕ} → 32 ≤ b → b ≢ 39 → b ≢ 92 → Inside s m → Inside (b ∷ s) (b ∷ m)
+  escaped : {b c : ℕ} {s m : List ℕ} → escape b ≡ Some c → Inside s m
+      → Inside (92 ∷ b ∷ s) (c ∷ m)
+  plain : {b : ℕ} {s m : List ℕ} → 32 ≤ b → b ≢ 39 → b ≢ 92 → Inside s m
+      → Inside (b ∷ s) (b ∷ m)
 
 -- a first byte of one kind, and word bytes behind it
 abbrev pub IsWordFrom : (ℕ → Bool) → List ℕ → Type 0
@@ -71,7 +73,8 @@ IsWordFrom first (b ∷ s) = (first b ≡ true) × AllByRecursion (λ c. is_word
 -- one digit or more
 abbrev pub IsDigits : List ℕ → Type 0
 IsDigits [] = ⊥
-IsDigits (b ∷ s) = (is_ascii_digit b ≡ true) × AllByRecursion (λ c. is_ascii_digit c ≡ true) s
+IsDigits (b ∷ s) =
+    (is_ascii_digit b ≡ true) × AllByRecursion (λ c. is_ascii_digit c ≡ true) s
 
 -- the number that the digits go on to from n
 abbrev pub decimal_from : ℕ → List ℕ → ℕ
@@ -96,9 +99,10 @@ SpellsToken s (Punctuation t) = s ≡ mark_byte t ∷ []
 pub record Longest (text s : List ℕ) (lexeme : Lexeme) (rest : List ℕ) : Type 0 where
   pub split : text ≡ s ++ rest
   pub spelled : SpellsToken s lexeme
-  pub longest : (s' rest' : List ℕ) (lexeme' : Lexeme) → text ≡ s' ++ rest' → SpellsToken s' lexeme'
-      → length s' ≤ length s
+  pub longest : (s' rest' : List ℕ) (lexeme' : Lexeme)
+      → text ≡ s' ++ rest' → SpellsToken s' lexeme' → length s' ≤ length s
 
 -- the text begins with no token
 abbrev pub BeginsNone : List ℕ → Type 0
-BeginsNone text = (s rest : List ℕ) (lexeme : Lexeme) → text ≡ s ++ rest → SpellsToken s lexeme → ⊥
+BeginsNone text = (s rest : List ℕ) (lexeme : Lexeme)
+    → text ≡ s ++ rest → SpellsToken s lexeme → ⊥

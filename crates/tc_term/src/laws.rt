@@ -1,9 +1,18 @@
 //! Laws of terms and equations, each the contract of a function that does nothing.
 ghost use Rattle.std.specs.Prelude.{◌≡◌, ◌≤◌, ◌++◌, ℕ, IsTrue, List, [], length};
 ghost use Rattle.tc_term.specs.Equations.{Equation, Solves, Solvable, HasValue, Matches};
+ghost use Rattle.tc_term.specs.Ground.{HasTupleCause};
+ghost use Rattle.tc_term.specs.Pattern.{HasExcess};
 ghost use Rattle.tc_term.specs.Text.{canonical, text_of};
 ghost use Rattle.tc_term.specs.Tree.{Tree, is_ground, IsTuple};
-ghost use Rattle.tc_term.specs.Variables.{var_bound, variables, renumbered, IsPattern};
+ghost use Rattle.tc_term.specs.TreeView.{tree_of};
+ghost use Rattle.tc_term.specs.Variables.{var_bound, variables, renumbered, IsPattern, IsTemplate};
+ghost use Rattle.tc_term.specs.declared.limits.TheConstants.{MAX_NODES, MAX_DEPTH};
+ghost use Rattle.tc_term.specs.declared.limits.TheConstants.{MAX_NAME_BYTES, MAX_VARIABLES};
+ghost use Rattle.tc_term.specs.declared.limits.TheConstants.{MAX_BRACKETS};
+ghost use Rattle.tc_term.specs.declared.template.NotPattern.{NotPattern};
+ghost use Rattle.tc_term.specs.declared.terms.Term.{Term};
+ghost use Rattle.tc_term.specs.declared.tuple.NotTuple.{NotTuple};
 
 /// A term has one value at most.
 pub fn value_is_unique()
@@ -41,6 +50,14 @@ pub fn renumbering_keeps_matches()
         → Matches m [] (renumbered t) u → Matches n [] t u }
 {}
 
+/// A tuple is not refused as a tuple, and a term that can be numbered as a template not as one.
+pub fn good_terms_are_not_refused()
+    ensures tuple { (t : Term) (why : NotTuple)
+        → IsTuple (tree_of t) → HasTupleCause t why → ⊥ }
+    ensures template { (t : Term) (why : NotPattern)
+        → IsTemplate (tree_of t) → HasExcess t why → ⊥ }
+{}
+
 /// A tuple is a template.
 pub fn tuple_is_a_template()
     ensures { (t : Tree) → IsTuple t → IsPattern t }
@@ -50,4 +67,13 @@ pub fn tuple_is_a_template()
 pub fn template_keeps_its_numbers()
     ensures same { (t : Tree) → IsPattern t → renumbered t ≡ t }
     ensures text { (t : Tree) → IsPattern t → canonical t ≡ text_of t }
+{}
+
+/// How large terms and their texts may be.
+pub fn limits_of_terms()
+    ensures nodes { MAX_NODES ≡ 10000 }
+    ensures depth { MAX_DEPTH ≡ 1000 }
+    ensures name_bytes { MAX_NAME_BYTES ≡ 65535 }
+    ensures variables { MAX_VARIABLES ≡ 256 }
+    ensures brackets { MAX_BRACKETS ≡ 200 }
 {}

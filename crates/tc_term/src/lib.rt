@@ -29,7 +29,8 @@ mod tuple;
 pub use bytes::{is_name, is_variable_start, is_word};
 pub use comparison::Cmp;
 pub use laws::{
-    fewer_equations_have_more_solutions, ground_template_matches_itself, renumbering_keeps_matches,
+    fewer_equations_have_more_solutions, good_terms_are_not_refused,
+    ground_template_matches_itself, limits_of_terms, renumbering_keeps_matches,
     template_keeps_its_numbers, tuple_is_a_template, value_is_a_tuple, value_is_unique,
 };
 pub use limits::{MAX_BRACKETS, MAX_DEPTH, MAX_NAME_BYTES, MAX_NODES, MAX_VARIABLES, Room, fits};

@@ -10,7 +10,8 @@ use tc_lists::NoMemory;
 /// The most bytes of a name for which no memory is taken.
 const SHORT: usize = 14;
 
-/// A list of bytes, of any length and in any encoding. Up to 14 lie in the name itself, which takes 16 bytes.
+/// A list of bytes, of any length and in any encoding. Up to 14 lie in the name itself, which takes
+/// 16 bytes.
 #[derive(Debug)]
 pub struct Name {
     letters: Letters,
@@ -23,7 +24,8 @@ impl Drop for Name {
     }
 }
 
-// Where the bytes lie: in the first places of so many, or in memory of their own, behind one pointer.
+// Where the bytes lie: in the first places of so many, or in memory of their own, behind one
+// pointer.
 #[derive(Debug, Drop)]
 enum Letters {
     Short(u8, [u8; SHORT]),
@@ -53,8 +55,8 @@ impl Name {
         Name::long(alloc, Vec::from_slice(alloc, bytes)?)
     }
 
-    /// The name of bytes that are handed over and not copied where they are more than 14. Up to 14 take no
-    /// memory.
+    /// The name of bytes that are handed over and not copied where they are more than 14. Up to 14
+    /// take no memory.
     pub fn from_vec(alloc: Global, bytes: Vec<u8>) -> Result<Name, NoMemory>
         ensures { IfOk result (λ name. name ≡ bytes.items) }
     {

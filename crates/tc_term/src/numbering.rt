@@ -1,6 +1,7 @@
 //! The variables of a term, by first appearance.
 ghost use Rattle.std.specs.Prelude.{◌≡◌, ◌<◌, ◌≤◌, IsTrue, false, [], length};
 ghost use Rattle.std.specs.List.{range_with_len};
+ghost use Rattle.tc_term.specs.Limits.{most_variables};
 ghost use Rattle.tc_term.specs.TreeView.{tree_of};
 ghost use Rattle.tc_term.specs.Variables.{place_in, variables_after, with_number};
 
@@ -17,12 +18,13 @@ pub(crate) struct Seen {
 
 impl Model for Seen {
     ghost use Rattle.std.specs.Prelude.{List, ℕ, ◌≤◌, take};
+    ghost use Rattle.tc_term.specs.Limits.{most_variables};
 
     ghost Value = { List ℕ };
 
     ghost view = { λ s. take s.count s.numbers };
 
-    ghost invariant = { λ s. s.count ≤ 256 };
+    ghost invariant = { λ s. s.count ≤ most_variables };
 }
 
 impl Seen {
@@ -37,7 +39,7 @@ impl Seen {
 
     pub(crate) fn numbers(&self) -> &[u32]
         ensures numbers { result.now ≡ self.now }
-        ensures few { length result.now ≤ 256 }
+        ensures few { length result.now ≤ most_variables }
     {
         &self.numbers[..self.count]
     }
@@ -45,7 +47,7 @@ impl Seen {
     // Notes a number that wasn't seen yet, where there is room for it.
     fn add(&mut self, n: u32) -> bool
         ensures noted { IsTrue result → self.new ≡ with_number self.old n }
-        ensures full { result ≡ false → 256 < length (with_number self.old n) }
+        ensures full { result ≡ false → most_variables < length (with_number self.old n) }
     {
         if place(self.numbers(), n) < self.count {
             return true;
@@ -62,7 +64,7 @@ impl Seen {
 // Notes the variables of a term that weren't seen yet, where there is room for them.
 pub(crate) fn note(t: &Term, seen: &mut Seen) -> bool
     ensures noted { IsTrue result → seen.new ≡ variables_after seen.old (tree_of t.now) }
-    ensures full { result ≡ false → 256 < length (variables_after seen.old (tree_of t.now)) }
+    ensures full { result ≡ false → most_variables < length (variables_after seen.old (tree_of t.now)) }
 {
     match t {
         Term::Var(n) => seen.add(*n),

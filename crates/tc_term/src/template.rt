@@ -1,5 +1,6 @@
 //! Templates: terms within the limits, whose few variables are numbered by first appearance.
 ghost use Rattle.std.specs.Prelude.{◌≡◌, ◌≤◌, IfErr, IfOk, length};
+ghost use Rattle.tc_term.specs.Limits.{most_variables};
 ghost use Rattle.tc_term.specs.TreeView.{tree_of};
 ghost use Rattle.tc_term.specs.Variables.{var_bound, variables, renumbered, IsTemplate, IsPattern};
 
@@ -121,7 +122,7 @@ impl Pattern {
 // The term with its variables numbered anew; these are the numbers that they have, by first
 // appearance. Most terms are numbered so already.
 fn renumbered(mut t: Term, numbers: &[u32]) -> Term
-    requires few { length numbers.now ≤ 256 }
+    requires few { length numbers.now ≤ most_variables }
     requires seen { numbers.now ≡ variables (tree_of t) }
     ensures { tree_of result ≡ renumbered (tree_of t) }
 {

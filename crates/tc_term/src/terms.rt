@@ -1,6 +1,7 @@
 //! Terms, and the arguments of compounds.
 ghost use Rattle.std.specs.Prelude.{◌≡◌, ◌<◌, ◌≤◌, All, IfNone, IfOk, IfSome, length};
 ghost use Rattle.tc_term.specs.Cells.{IsCell, IsNoCell};
+ghost use Rattle.tc_term.specs.Limits.{most_variables};
 ghost use Rattle.tc_term.specs.Tree.{depth, depth_of_all, is_ground};
 ghost use Rattle.tc_term.specs.TreeView.{tree_of, trees_of};
 ghost use Rattle.tc_term.specs.Variables.{renamed, all_renamed, place_in};
@@ -82,7 +83,7 @@ impl Args {
     // Gives each variable its place among these numbers.
     #[cycle(renumber)]
     fn renumber(&mut self, numbers: &[u32])
-        requires { length numbers.now ≤ 256 }
+        requires { length numbers.now ≤ most_variables }
         ensures { self.new ≡ all_renamed (place_in numbers.now) self.old }
     {
         for i in 0..self.terms.len() {
@@ -122,7 +123,8 @@ impl Term {
         }
     }
 
-    /// The head and the tail, where the term is a list cell. A walk along the tails falls by `depth`.
+    /// The head and the tail, where the term is a list cell. A walk along the tails falls by
+    /// `depth`.
     pub fn as_cell(&self) -> Option<(&Term, &Term)>
         ensures some { IfSome result
             (λ c. IsCell (tree_of self.now) (tree_of c.0.now) (tree_of c.1.now)) }
@@ -141,7 +143,7 @@ impl Term {
     // Gives each variable its place among these numbers.
     #[cycle(renumber)]
     pub(crate) fn renumber(&mut self, numbers: &[u32])
-        requires { length numbers.now ≤ 256 }
+        requires { length numbers.now ≤ most_variables }
         ensures { tree_of self.new ≡ renamed (place_in numbers.now) (tree_of self.old) }
     {
         match self {

@@ -17,10 +17,13 @@ node_shape text (Atom from len) = AtomNode (take len (drop from text))
 node_shape text (Int n) = NumberNode n
 node_shape text (Apply head argument) = ApplyNode head argument
 
--- what a node number is that stands for no term of the arena: an atom with a short name, or a variable
+-- what a node number is that stands for no term of the arena: an atom with a short name, or a
+-- variable
 unfoldable pub outer_shape : ℕ → Shape
 outer_shape k =
-    if nat_lt k FIRST_VARIABLE then AtomNode (name_at (k - FIRST_NAME)) else VariableNode (k - FIRST_VARIABLE)
+    if nat_lt k FIRST_VARIABLE
+    then AtomNode (name_at (k - FIRST_NAME))
+    else VariableNode (k - FIRST_VARIABLE)
 
 -- what a node number is; past the terms, the atom without a name
 unfoldable pub shape_in : List Node → List ℕ → ℕ → Shape
@@ -33,7 +36,8 @@ IsInside nodes count k = (k < length nodes) ⊎ ((FIRST_NAME ≤ k) × (k < FIRS
 
 -- the node of a term, or of one of so many variables: it has a link
 abbrev pub HasLink : List Node → ℕ → ℕ → Type 0
-HasLink nodes count k = (k < length nodes) ⊎ ((FIRST_VARIABLE ≤ k) × (k < FIRST_VARIABLE + count))
+HasLink nodes count k =
+    (k < length nodes) ⊎ ((FIRST_VARIABLE ≤ k) × (k < FIRST_VARIABLE + count))
 
 -- the name is not short and stands in the text, and the nodes that the node names are inside
 abbrev pub IsNodeWithin : List Node → List ℕ → ℕ → Node → Type 0

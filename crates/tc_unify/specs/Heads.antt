@@ -13,4 +13,5 @@ IsHeads arena a b Same = Joins (shape_of arena) a b []
 IsHeads arena a b (Last arguments) =
     Joins (shape_of arena) a b (arguments ∷ []) × AreNodesOf arena (arguments ∷ [])
 IsHeads arena a b (Pairs arguments heads) =
-    Joins (shape_of arena) a b (arguments ∷ heads ∷ []) × AreNodesOf arena (arguments ∷ heads ∷ [])
+    Joins (shape_of arena) a b (arguments ∷ heads ∷ [])
+    × AreNodesOf arena (arguments ∷ heads ∷ [])

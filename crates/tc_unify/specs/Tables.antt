@@ -35,7 +35,8 @@ abbrev pub rewound : (ℕ → ℕ) → List ℕ → ℕ → ℕ
 rewound link [] k = link k
 rewound link (n ∷ nodes) k = if k == n then k else rewound link nodes k
 
--- new links of some nodes stand in the trail after the old ones, and without them the links are as before
+-- new links of some nodes stand in the trail after the old ones, and without them the links are as
+-- before
 pub record Extends (old new : Links) : Type 0 where
   pub more : List ℕ
   pub trail : new.trail.items ≡ old.trail.items ++ more

@@ -26,7 +26,8 @@ pub record AreSolved (a : Arena) (l : Links) : Type 0 where
 
 -- every solution of the links makes this tree of it
 abbrev pub IsFixed : Arena → Links → (List Tree → Tree) → Tree → Type 0
-IsFixed a l V t = (v : List Tree) → IsSolution a.variables (shape_of a) (link_of l) v → V v ≡ t
+IsFixed a l V t =
+    (v : List Tree) → IsSolution a.variables (shape_of a) (link_of l) v → V v ≡ t
 
 -- what a valuation makes of a node
 abbrev pub of_node : Arena → ℕ → List Tree → Tree
@@ -38,9 +39,10 @@ of_term shift t v = under v (raised shift (tree_of t))
 
 -- the value is the term that was found, which has spent room, or there is none within the room
 pub record IsValue
-    (a : Arena) (l : Links) (V : List Tree → Tree) (limit : ℕ) (room left : Room) (found : Option Term)
-    : Type 0 where
-  pub value : IfSome found (λ t. IsFixed a l V (tree_of t) × TakesRoom (tree_of t) limit room left)
+    (a : Arena) (l : Links) (V : List Tree → Tree)
+    (limit : ℕ) (room left : Room) (found : Option Term) : Type 0 where
+  pub value : IfSome found
+      (λ t. IsFixed a l V (tree_of t) × TakesRoom (tree_of t) limit room left)
   pub none : IfNone found ((t : Tree) → IsFixed a l V t → IsWithin t limit room → ⊥)
 
 -- the atom and the arguments of a node, the last argument first

@@ -1,4 +1,5 @@
--- A walk over the nodes below some node, which shows that they are finite or finds a node below itself.
+-- A walk over the nodes below some node, which shows that they are finite or finds a node below
+-- itself.
 use Rattle.std.specs.Prelude.{◌≡◌, ℕ, ◌<◌, ◌⊎◌, List, [], ◌∷◌, All}
 use Rattle.tc_term.specs.Tree.{Tree, nodes}
 use Rattle.tc_unify.specs.Nodes.{Shape, VariableNode, AtomNode, NumberNode, ApplyNode, IsVariable, label}

@@ -12,7 +12,8 @@ use tc_term::Term;
 pub(crate) fn copy(arena: &mut Arena, term: &Term, shift: u32) -> Result<usize, NoMemory>
     requires arena { IsArena arena.old }
     requires variables { var_bound (raised shift (tree_of term.now)) ≤ arena.old.variables }
-    ensures copied { IfOk result (λ node. IsNodeFor arena.new node (raised shift (tree_of term.now))) }
+    ensures copied { IfOk result
+        (λ node. IsNodeFor arena.new node (raised shift (tree_of term.now))) }
     ensures arena { IsArena arena.new }
     ensures grows { Grows arena.old arena.new }
 {

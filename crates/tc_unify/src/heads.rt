@@ -7,8 +7,8 @@ use tc_term::{Name, Term};
 
 /// Whether the heads of two terms differ, so that nothing makes the terms equal.
 ///
-/// Compares kinds, numbers and the first bytes of names alone, so that most terms that can't be made
-/// equal cost next to nothing.
+/// Compares kinds, numbers and the first bytes of names alone, so that most terms that can't be
+/// made equal cost next to nothing.
 pub(crate) fn heads_differ(s: &Term, t: &Term) -> bool
     ensures { IsTrue result → NeverEqual (tree_of s.now) (tree_of t.now) }
 {

@@ -136,7 +136,8 @@ impl Arena {
         Ok(Spine { atom, arguments })
     }
 
-    /// The name of an atom's node. None where it has more than so many bytes, and then none is copied.
+    /// The name of an atom's node. None where it has more than so many bytes, and then none is
+    /// copied.
     pub(crate) fn atom_name(
         &self,
         alloc: Global,
@@ -149,7 +150,8 @@ impl Arena {
         ensures name { IfOk result
             (λ found. IfSome found (λ name. shape_of self.now atom ≡ AtomNode name)) }
         ensures longer { IfOk result (λ found. IfNone found
-            ((name : List ℕ) × (shape_of self.now atom ≡ AtomNode name) × (most < length name))) }
+            ((name : List ℕ)
+            × (shape_of self.now atom ≡ AtomNode name) × (most < length name))) }
     {
         if atom >= FIRST_NAME {
             let name = Name::from_vec(alloc, name_of(alloc, atom - FIRST_NAME)?)?;

@@ -20,7 +20,8 @@ pub(crate) fn unify(
     requires nodes { AreNodesOf arena.now waiting.old.items }
     ensures met { IfOk result
         (λ met. IsTrue met → Leads arena.now links.old waiting.old.items links.new []) }
-    ensures failed { IfOk result (λ met. met ≡ false → Fails arena.now links.old waiting.old.items) }
+    ensures failed { IfOk result
+        (λ met. met ≡ false → Fails arena.now links.old waiting.old.items) }
     ensures linked { IsLinked arena.now links.new }
     ensures extends { Extends links.old links.new }
 {
@@ -43,11 +44,13 @@ fn meet(
     requires nodes { AreNodesOf arena.now (waiting.old.items ++ pair ∷ []) }
     ensures met { IfOk result
         (λ met. IsTrue met
-        → Leads arena.now links.old (waiting.old.items ++ pair ∷ []) links.new waiting.new.items) }
+        → Leads arena.now links.old (waiting.old.items ++ pair ∷ [])
+        links.new waiting.new.items) }
     ensures failed { IfOk result
         (λ met. met ≡ false → Fails arena.now links.old (waiting.old.items ++ pair ∷ [])) }
     ensures nodes { OnOk result (AreNodesOf arena.now waiting.new.items) }
-    ensures work { OnOk result (work links.new waiting.new.items ≤ work links.old waiting.old.items) }
+    ensures work { OnOk result
+        (work links.new waiting.new.items ≤ work links.old waiting.old.items) }
     ensures linked { IsLinked arena.now links.new }
     ensures extends { Extends links.old links.new }
 {

@@ -30,7 +30,8 @@ pub(crate) fn part_value(
     requires solved { AreSolved arena.now links.now }
     requires variables { var_bound (raised shift (tree_of term.now)) ≤ arena.now.variables }
     ensures { IfOk result
-        (λ found. IsValue arena.now links.now (of_term shift term.now) depth room.old room.new found) }
+        (λ found. IsValue arena.now links.now (of_term shift term.now)
+        depth room.old room.new found) }
 {
     match term {
         Term::Var(n) => {
@@ -79,7 +80,8 @@ fn node_value(
     requires solved { AreSolved arena.now links.now }
     requires node { IsNodeOf arena.now node }
     ensures { IfOk result
-        (λ found. IsValue arena.now links.now (of_node arena.now node) depth room.old room.new found) }
+        (λ found. IsValue arena.now links.now (of_node arena.now node)
+        depth room.old room.new found) }
 {
     let end = links.end(node);
     if end >= FIRST_VARIABLE {

@@ -6,8 +6,8 @@ ghost use Rattle.tc_unify.specs.Links.{IsFiniteVariable};
 ghost use Rattle.tc_unify.specs.Tables.{link_of};
 ghost use Rattle.tc_unify.specs.Meeting.{IsLinked};
 ghost use Rattle.tc_unify.specs.Walks.{HasNoTrees};
-ghost use Rattle.tc_unify.specs.Marks.{IsUnmarked, IsMarked, IsStarted, IsEndless};
-ghost use Rattle.tc_unify.specs.Marks.{IsListed, Knows, KeepsBelow, steps_of, walk_work};
+ghost use Rattle.tc_unify.specs.WalkMarks.{IsUnmarked, IsMarked, IsStarted, IsEndless};
+ghost use Rattle.tc_unify.specs.WalkMarks.{IsListed, Knows, KeepsBelow, steps_of, walk_work};
 
 use crate::links::Links;
 use crate::nodes::{Arena, FIRST_NAME, FIRST_VARIABLE, Node};
@@ -183,7 +183,8 @@ fn enter(arena: &Arena, links: &Links, walk: &mut Walk, node: usize) -> Result<b
     requires node { IsNodeOf arena.now node }
     ensures keeps { IfOk result
         (λ entered. IsTrue entered
-        → KeepsBelow arena.now links.now (Step.Enter node ∷ steps_of walk.old) (steps_of walk.new)) }
+        → KeepsBelow arena.now links.now
+        (Step.Enter node ∷ steps_of walk.old) (steps_of walk.new)) }
     ensures endless { IfOk result
         (λ entered. entered ≡ false
         → IsEndless arena.now links.now (Step.Enter node ∷ steps_of walk.old)) }

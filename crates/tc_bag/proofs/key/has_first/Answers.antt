@@ -1,6 +1,6 @@
 use Rattle.std.proofs.Common.{◌≡◌, ap, sym, ◌∙◌}
-use Rattle.std.specs.Option.{option_map}
 use Rattle.tc_term.specs.TreeView.{tree_of}
+use Rattle.tc_bag.specs.Lent.{lent_tree}
 use Rattle.tc_bag.proofs.Agreement.{first_of-read, HasFirst-read}
 use Rattle.tc_bag.specs.Keys.{first_of}
 use Rattle.tc_bag.proofs.key.has_first.Goals as goal
@@ -13,5 +13,5 @@ returns-in-Comp c =
     ∙ first_of-read c.items.result.now item c.items.ensures.some
     ∙ ap tree_of (sym c.index-items-0.is) in
     HasFirst-read (tree_of c.args.t.now) (tree_of item) (tree_of c.in-Some.first.now)
-    (option_map (λ term. tree_of term.now) c.args.first) c.eq.result
-    (cc) c.eq.ensures (ap (λ o. option_map (λ term. tree_of term.now) o) c.in-Some.is)
+    (lent_tree c.args.first) c.eq.result
+    (cc) c.eq.ensures (ap lent_tree c.in-Some.is)

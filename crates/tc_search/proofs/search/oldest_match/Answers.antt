@@ -6,21 +6,22 @@ use Rattle.tc_term.specs.Tree.{Tree, IsTuple}
 use Rattle.tc_term.specs.TreeView.{tree_of}
 use Rattle.tc_bag.specs.declared.key.Key.{Key}
 use Rattle.tc_bag.specs.Keys.{IsLike, key_of, known_first}
+use Rattle.tc_bag.specs.Lent.{lent_tree}
 use Rattle.tc_bag.specs.Stock.{Row}
-use Rattle.tc_search.proofs.Passing.{IsKey, candidate_below, passed_more, passed_all, found_row, likes_agree, seen}
+use Rattle.tc_search.proofs.Passing.{IsKey, candidate_below, passed_more, passed_all, found_row, likes_agree}
 use Rattle.tc_search.proofs.search.oldest_match.Goals as goal
 
 -- what the template matches is a candidate
 keys : (es : Equations) (template : Tree) (key : Key) (first : Option (Bor Term)) (rows : List Row) → key ≡ key_of template
-    → seen first ≡ known_first template → All (λ r. IsTuple r.tuple) rows → IsKey (Matches es.vars es.pairs template) (IsLike key (seen first)) rows
-keys es template key first rows same known tuples = likes_agree es.vars es.pairs template key (seen first) rows same known tuples
+    → lent_tree first ≡ known_first template → All (λ r. IsTuple r.tuple) rows → IsKey (Matches es.vars es.pairs template) (IsLike key (lent_tree first)) rows
+keys es template key first rows same known tuples = likes_agree es.vars es.pairs template key (lent_tree first) rows same known tuples
 
 pub returns-then-branch-clause-found : goal.returns-then-branch-clause-found
 returns-then-branch-clause-found c =
     let before = c.args.store.now in
     let template = tree_of c.args.template.now in
     let row : Row = record { age = c.in-Some.age; tuple = c.in-Some.tuple.now } in
-    found_row before.vars before.pairs template (IsLike c.args.key.now (seen c.known_first-first.result)) c.loop-age.from c.args.bag.now.next c.args.bag.now.now row
+    found_row before.vars before.pairs template (IsLike c.args.key.now (lent_tree c.known_first-first.result)) c.loop-age.from c.args.bag.now.next c.args.bag.now.now row
     c.in-Some.ensures.rises
     (keys before template c.args.key.now c.known_first-first.result c.args.bag.now.now c.requires.key c.known_first-first.ensures c.in-Some.ensures.tuples)
     c.loop-age.invariant.passed c.in-Some.ensures.found
@@ -35,7 +36,7 @@ loop-age-preserved c =
     let row : Row = record { age = c.in-Some.age; tuple = c.in-Some.tuple.now } in
     record {
       same = c.in_ok-is_added.ensures.same_no c.if-branch.false ∙ c.loop-age.invariant.same;
-      passed = passed_more (Matches before.vars before.pairs template) (IsLike c.args.key.now (seen c.known_first-first.result)) c.loop-age.from
+      passed = passed_more (Matches before.vars before.pairs template) (IsLike c.args.key.now (lent_tree c.known_first-first.result)) c.loop-age.from
           c.args.bag.now.next rows row c.in-Some.ensures.rises
           (keys before template c.args.key.now c.known_first-first.result rows c.requires.key c.known_first-first.ensures c.in-Some.ensures.tuples) c.loop-age.invariant.passed
           c.in-Some.ensures.found
@@ -46,7 +47,7 @@ loop-age-preserved c =
 -- the candidate's age
 below : (c : goal.Else-branch) → c.in-Some.age < c.args.bag.now.next
 below c =
-    candidate_below (IsLike c.args.key.now (seen c.known_first-first.result)) c.loop-age.from c.args.bag.now.next c.args.bag.now.now
+    candidate_below (IsLike c.args.key.now (lent_tree c.known_first-first.result)) c.loop-age.from c.args.bag.now.next c.args.bag.now.now
     (record { age = c.in-Some.age; tuple = c.in-Some.tuple.now }) c.in-Some.ensures.rises c.in-Some.ensures.found
 
 pub overflow_add-from : goal.overflow_add-from
@@ -60,6 +61,6 @@ returns-clause-none c =
     let before = c.args.store.now in
     let template = tree_of c.args.template.now in
     let rows = c.args.bag.now.now in
-    passed_all (Matches before.vars before.pairs template) (IsLike c.args.key.now (seen c.known_first-first.result)) c.loop-age.from rows
+    passed_all (Matches before.vars before.pairs template) (IsLike c.args.key.now (lent_tree c.known_first-first.result)) c.loop-age.from rows
     (keys before template c.args.key.now c.known_first-first.result rows c.requires.key c.known_first-first.ensures c.in_default.ensures.tuples) c.loop-age.invariant.passed
     c.in_default.ensures.none

@@ -7,15 +7,16 @@ use Rattle.tc_term.specs.TreeView.{tree_of}
 use Rattle.tc_term.specs.Variables.{var_bound}
 use Rattle.tc_bag.specs.declared.key.Key.{Key}
 use Rattle.tc_bag.specs.Keys.{IsLike, key_of, known_first}
+use Rattle.tc_bag.specs.Lent.{lent_tree}
 use Rattle.tc_bag.specs.Stock.{Row}
-use Rattle.tc_search.proofs.Passing.{IsKey, candidate_below, passed_more, passed_all, passed_none, found_row, likes_agree, seen}
+use Rattle.tc_search.proofs.Passing.{IsKey, candidate_below, passed_more, passed_all, passed_none, found_row, likes_agree}
 use Rattle.tc_search.proofs.search.oldest_match_of.Goals as goal
 
 -- what the template matches is a candidate
 likes : (template : Tree) (term : Tree) (key : Key) (first : Option (Bor Term)) (rows : List Row) → key ≡ key_of template → term ≡ template
-    → seen first ≡ known_first term → All (λ r. IsTuple r.tuple) rows → IsKey (Matches (var_bound template) [] template) (IsLike key (seen first)) rows
+    → lent_tree first ≡ known_first term → All (λ r. IsTuple r.tuple) rows → IsKey (Matches (var_bound template) [] template) (IsLike key (lent_tree first)) rows
 likes template term key first rows same is known tuples =
-    likes_agree (var_bound template) [] template key (seen first) rows same (known ∙ ap known_first is) tuples
+    likes_agree (var_bound template) [] template key (lent_tree first) rows same (known ∙ ap known_first is) tuples
 
 pub loop-age-init : goal.loop-age-init
 loop-age-init c = passed_none (Matches (var_bound c.args.template.now) [] c.args.template.now) c.args.bag.now.now
@@ -25,7 +26,7 @@ returns-then-does_match-clause-found c =
     let template = c.args.template.now in
     let rows = c.args.bag.now.now in
     let row : Row = record { age = c.in-Some.age; tuple = c.in-Some.tuple.now } in
-    found_row (var_bound template) [] template (IsLike (key_of (tree_of c.term-term.result.now)) (seen c.known_first-first.result)) c.loop-age.start c.args.bag.now.next rows row
+    found_row (var_bound template) [] template (IsLike (key_of (tree_of c.term-term.result.now)) (lent_tree c.known_first-first.result)) c.loop-age.start c.args.bag.now.next rows row
     c.in-Some.ensures.rises
     (likes template (tree_of c.term-term.result.now) (key_of (tree_of c.term-term.result.now)) c.known_first-first.result rows (ap key_of c.term-term.ensures.term) c.term-term.ensures.term c.known_first-first.ensures c.in-Some.ensures.tuples)
     c.loop-age.invariant c.in-Some.ensures.found (c.does_match.ensures.0 c.if-does_match.true)
@@ -35,7 +36,7 @@ loop-age-preserved c =
     let template = c.args.template.now in
     let rows = c.args.bag.now.now in
     let row : Row = record { age = c.in-Some.age; tuple = c.in-Some.tuple.now } in
-    passed_more (Matches (var_bound template) [] template) (IsLike (key_of (tree_of c.term-term.result.now)) (seen c.known_first-first.result)) c.loop-age.start
+    passed_more (Matches (var_bound template) [] template) (IsLike (key_of (tree_of c.term-term.result.now)) (lent_tree c.known_first-first.result)) c.loop-age.start
     c.args.bag.now.next rows row c.in-Some.ensures.rises
     (likes template (tree_of c.term-term.result.now) (key_of (tree_of c.term-term.result.now)) c.known_first-first.result rows (ap key_of c.term-term.ensures.term) c.term-term.ensures.term c.known_first-first.ensures c.in-Some.ensures.tuples)
     c.loop-age.invariant c.in-Some.ensures.found
@@ -48,7 +49,7 @@ loop-age-preserved c =
 -- the candidate's age
 below : (c : goal.Else-does_match) → c.in-Some.age < c.args.bag.now.next
 below c =
-    candidate_below (IsLike (key_of (tree_of c.term-term.result.now)) (seen c.known_first-first.result)) c.loop-age.start c.args.bag.now.next c.args.bag.now.now
+    candidate_below (IsLike (key_of (tree_of c.term-term.result.now)) (lent_tree c.known_first-first.result)) c.loop-age.start c.args.bag.now.next c.args.bag.now.now
     (record { age = c.in-Some.age; tuple = c.in-Some.tuple.now }) c.in-Some.ensures.rises c.in-Some.ensures.found
 
 pub overflow_add-start : goal.overflow_add-start
@@ -61,6 +62,6 @@ pub returns-clause-none : goal.returns-clause-none
 returns-clause-none c =
     let template = c.args.template.now in
     let rows = c.args.bag.now.now in
-    passed_all (Matches (var_bound template) [] template) (IsLike (key_of (tree_of c.term-term.result.now)) (seen c.known_first-first.result)) c.loop-age.start rows
+    passed_all (Matches (var_bound template) [] template) (IsLike (key_of (tree_of c.term-term.result.now)) (lent_tree c.known_first-first.result)) c.loop-age.start rows
     (likes template (tree_of c.term-term.result.now) (key_of (tree_of c.term-term.result.now)) c.known_first-first.result rows (ap key_of c.term-term.ensures.term) c.term-term.ensures.term c.known_first-first.ensures c.in_default.ensures.tuples)
     c.loop-age.invariant c.in_default.ensures.none

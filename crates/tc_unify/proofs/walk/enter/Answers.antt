@@ -2,7 +2,7 @@ use Rattle.std.proofs.Common.{refl, ◌∙◌, arith, true≢false}
 use Rattle.tc_unify.specs.declared.nodes.Node.TheVariants.{Apply}
 use Rattle.tc_unify.proofs.Arenas.{outer_plain, shape_of-read, plain_read, named_node}
 use Rattle.tc_unify.proofs.Meetings.{root_term}
-use Rattle.tc_unify.proofs.Marks.{Keeps-passed, finite_plain, finite_marked, endless_open, Keeps-entered, Knows-entered, work_entered, mark_read}
+use Rattle.tc_unify.proofs.WalkMarks.{Keeps-passed, finite_plain, finite_marked, endless_open, Keeps-entered, Knows-entered, work_entered, mark_read}
 use Rattle.tc_unify.proofs.walk.enter.Goals as goal
 
 pub returns-then-root-ge-FIRST_NAME-clause-keeps : goal.returns-then-root-ge-FIRST_NAME-clause-keeps

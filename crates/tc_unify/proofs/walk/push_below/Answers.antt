@@ -1,6 +1,6 @@
 use Rattle.std.proofs.Common.{refl}
 use Rattle.tc_unify.specs.declared.walk.Mark.TheVariants.{Open}
-use Rattle.tc_unify.proofs.Marks.{IsMarked-seen, IsMarked-opened}
+use Rattle.tc_unify.proofs.WalkMarks.{IsMarked-seen, IsMarked-opened}
 use Rattle.tc_unify.proofs.walk.push_below.Goals as goal
 
 pub returns-in_err-push-2-clause-marked : goal.returns-in_err-push-2-clause-marked

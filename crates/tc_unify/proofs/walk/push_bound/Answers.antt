@@ -3,8 +3,8 @@ use Rattle.std.proofs.lemmas.List.{get_or_default}
 use Rattle.std.proofs.lemmas.List.Elements.{All-get_or}
 use Rattle.tc_unify.specs.declared.walk.Step.TheVariants.{Enter}
 use Rattle.tc_unify.specs.Arena.{IsNodeOf}
-use Rattle.tc_unify.specs.Marks.{IsStarted}
-use Rattle.tc_unify.proofs.Marks.{IsStarted-push, IsStarted-pass}
+use Rattle.tc_unify.specs.WalkMarks.{IsStarted}
+use Rattle.tc_unify.proofs.WalkMarks.{IsStarted-push, IsStarted-pass}
 use Rattle.tc_unify.proofs.walk.push_bound.Goals.{then-is_bound+in_ok-push, else-is_bound}
 use Rattle.tc_unify.proofs.walk.push_bound.Goals as goal
 

@@ -1,5 +1,5 @@
 use Rattle.std.proofs.Common.{take}
-use Rattle.tc_unify.specs.Marks.{IsStarted}
+use Rattle.tc_unify.specs.WalkMarks.{IsStarted}
 use Rattle.tc_unify.proofs.walk.push_bound.Given as goal
 
 abbrev pub invariant-loop-node : goal.invariant-loop-node

@@ -2,7 +2,7 @@ use Rattle.std.proofs.Common.{◌<◌, arith, ◌∙◌, sym, subst, get_or, len
 use Rattle.std.proofs.lemmas.List.{get_or_default}
 use Rattle.std.proofs.lemmas.List.Elements.{All-get_or}
 use Rattle.tc_unify.specs.declared.walk.Mark.TheVariants.{Unseen}
-use Rattle.tc_unify.proofs.Marks.{unmark_step, unmark_end}
+use Rattle.tc_unify.proofs.WalkMarks.{unmark_step, unmark_end}
 use Rattle.tc_unify.proofs.walk.take_back.Goals as goal
 
 pub loop-node-preserved : goal.loop-node-preserved

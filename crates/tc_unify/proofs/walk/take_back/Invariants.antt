@@ -1,6 +1,6 @@
 use Rattle.std.proofs.Common.{◌≡◌, ℕ, ◌<◌, ◌⊎◌, length, get_or, drop, All}
 use Rattle.tc_unify.specs.declared.walk.Mark.TheVariants.{Unseen}
-use Rattle.tc_unify.specs.Marks.{IsListed}
+use Rattle.tc_unify.specs.WalkMarks.{IsListed}
 use Rattle.tc_unify.proofs.walk.take_back.Given as goal
 
 abbrev pub invariant-loop-node : goal.invariant-loop-node

@@ -8,7 +8,7 @@ use Rattle.tc_unify.specs.Tables.{link_of}
 use Rattle.tc_unify.specs.Walks.{Awaits, Descends}
 use Rattle.tc_unify.proofs.Roots.{root-fixed}
 use Rattle.tc_unify.proofs.Walks.{Awaits-left}
-use Rattle.tc_unify.proofs.Marks.{step_taken, IsMarked-unseen, Knows-unseen, Knows-left, IsMarked-left, unseen-finite}
+use Rattle.tc_unify.proofs.WalkMarks.{step_taken, IsMarked-unseen, Knows-unseen, Knows-left, IsMarked-left, unseen-finite}
 use Rattle.tc_unify.proofs.walk.walk_below.Goals as goal
 
 pub loop-step-init : goal.loop-step-init

@@ -5,7 +5,7 @@ use Rattle.tc_unify.specs.Links.{Respects, IsFinite}
 use Rattle.tc_unify.specs.Arena.{shape_of}
 use Rattle.tc_unify.specs.Tables.{link_of}
 use Rattle.tc_unify.specs.Walks.{Awaits, Descends}
-use Rattle.tc_unify.specs.Marks.{IsMarked, Knows, steps_of, walk_work}
+use Rattle.tc_unify.specs.WalkMarks.{IsMarked, Knows, steps_of, walk_work}
 use Rattle.tc_unify.proofs.walk.walk_below.Given as goal
 
 abbrev pub invariant-loop-step : goal.invariant-loop-step

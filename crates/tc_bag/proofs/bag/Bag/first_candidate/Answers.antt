@@ -1,12 +1,10 @@
 use Rattle.std.proofs.Common.{All, subst}
-use Rattle.std.specs.Option.{option_map}
 use Rattle.tc_lists.specs.Firsts.{NoneOf, IsFirst}
 use Rattle.tc_lists.proofs.Options.{IfNone-weaker}
 use Rattle.tc_term.specs.Tree.{IsTuple}
-use Rattle.tc_term.specs.TreeView.{tree_of}
 use Rattle.tc_bag.specs.Stock.{Stock, row, AgesRiseBelow, IsCandidateLike}
 use Rattle.tc_bag.specs.Slots.{IsThereLike}
-use Rattle.tc_bag.specs.Lent.{lent_key}
+use Rattle.tc_bag.specs.Lent.{lent_key, lent_tree}
 use Rattle.std.proofs.Common.{vec_capacity}
 use Rattle.std.proofs.lemmas.Option.{IfSome_then}
 use Rattle.tc_bag.proofs.Stocks.{sound-rises, sound-tuples, first-like, none-like}
@@ -14,7 +12,7 @@ use Rattle.tc_bag.proofs.bag.Bag.first_candidate.Goals as goal
 
 pub returns-clause-found : goal.returns-clause-found
 returns-clause-found c =
-    let first = option_map (λ term. tree_of term.now) c.args.first in
+    let first = lent_tree c.args.first in
     let key = lent_key c.args.key in
     let from = c.args.from in
     IfSome_then c.first_like.result c.first_like.ensures.found
@@ -23,7 +21,7 @@ returns-clause-found c =
 
 pub returns-clause-none : goal.returns-clause-none
 returns-clause-none c =
-    let first = option_map (λ term. tree_of term.now) c.args.first in
+    let first = lent_tree c.args.first in
     let key = lent_key c.args.key in
     let from = c.args.from in
     IfNone-weaker c.first_like.result (NoneOf (IsThereLike key first from) c.self.inside.rows)

@@ -1,16 +1,14 @@
 use Rattle.std.proofs.Common.{refl, arith}
 use Rattle.std.proofs.lemmas.Bool.{eq-eqb}
-use Rattle.std.specs.Option.{option_map}
-use Rattle.tc_term.specs.TreeView.{tree_of}
 use Rattle.tc_bag.specs.Slots.{IsThereLike}
 use Rattle.tc_bag.proofs.Searching.{first_at, passed_to, passed_with}
-use Rattle.tc_bag.specs.Lent.{lent_key}
+use Rattle.tc_bag.specs.Lent.{lent_key, lent_tree}
 use Rattle.tc_bag.proofs.rows.Rows.first_like.Goals as goal
 use Rattle.tc_lists.proofs.Firsts.{NoneOf-from_All}
 
 pub returns-in-Some-like_at-clause-found : goal.returns-in-Some-like_at-clause-found
 returns-in-Some-like_at-clause-found c =
-    let first = option_map (λ term. tree_of term.now) c.args.first in
+    let first = lent_tree c.args.first in
     let key = lent_key c.args.key in
     let ss = c.args.self.now in
     let age = c.in-Some.age in
@@ -22,7 +20,7 @@ returns-in-Some-like_at-clause-found c =
 
 pub loop-age-preserved : goal.loop-age-preserved
 loop-age-preserved c =
-    let first = option_map (λ term. tree_of term.now) c.args.first in
+    let first = lent_tree c.args.first in
     let key = lent_key c.args.key in
     let ss = c.args.self.now in
     let age = c.in-Some.age in
@@ -34,7 +32,7 @@ loop-age-preserved c =
 
 pub returns-then-age-clause-none : goal.returns-then-age-clause-none
 returns-then-age-clause-none c =
-    let first = option_map (λ term. tree_of term.now) c.args.first in
+    let first = lent_tree c.args.first in
     let key = lent_key c.args.key in
     let ss = c.args.self.now in
     let age = c.in-Some.age in

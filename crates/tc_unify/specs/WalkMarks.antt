@@ -45,7 +45,8 @@ IsStep a l seen (Leave r) = (r < length a.nodes.items) × (link_of l r ≡ r) ×
 
 -- the steps enter what is to be walked for these nodes
 pub record IsStarted (a : Arena) (l : Links) (nodes : List ℕ) (steps : List Step) : Type 0 where
-  pub awaits : Awaits (shape_of a) (link_of l) nodes (IsFinite (shape_of a) (link_of l)) (reverse steps)
+  pub awaits :
+      Awaits (shape_of a) (link_of l) nodes (IsFinite (shape_of a) (link_of l)) (reverse steps)
   pub descends : (F : ℕ → Tree) → Descends F (reverse steps)
   pub below : (F : ℕ → Tree) (t : Tree) → IsBelowAll F t (reverse steps)
   pub enters : All (IsStep a l []) steps

@@ -19,7 +19,7 @@ use Rattle.tc_unify.specs.Arena.{IsNodeOf, shape_of}
 use Rattle.tc_unify.specs.Tables.{link_of}
 use Rattle.tc_unify.specs.Meeting.{IsLinked}
 use Rattle.tc_unify.specs.Walks.{Awaits, Descends, IsBelowAll, IsOpenIn}
-use Rattle.tc_unify.specs.Marks.{mark_of, steps_of, IsListed, IsMarked, IsStarted, IsStep, Knows, KeepsBelow, IsEndless, unseen, walk_work}
+use Rattle.tc_unify.specs.WalkMarks.{mark_of, steps_of, IsListed, IsMarked, IsStarted, IsStep, Knows, KeepsBelow, IsEndless, unseen, walk_work}
 use Rattle.tc_unify.proofs.Roots.{root-ends, root-fixed}
 use Rattle.tc_unify.proofs.Walks.{IsFinite-same, Awaits-more, Awaits-skipped, Awaits-passed, Awaits-entered, Descends-entered, Descends-open}
 use Rattle.tc_lists.proofs.Reversals.{reverse_push}

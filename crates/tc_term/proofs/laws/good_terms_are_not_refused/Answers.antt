@@ -1,0 +1,8 @@
+use Rattle.tc_term.proofs.Causes.{HasTupleCause-tuple, HasExcess-template}
+use Rattle.tc_term.proofs.laws.good_terms_are_not_refused.Goals as goal
+
+pub returns-clause-tuple : goal.returns-clause-tuple
+returns-clause-tuple c = HasTupleCause-tuple
+
+pub returns-clause-template : goal.returns-clause-template
+returns-clause-template c = HasExcess-template
