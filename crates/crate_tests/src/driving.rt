@@ -85,6 +85,17 @@ impl Desk for ClosedDesk {
         }
     }
 
+    // No actor here asks by a place.
+    fn call_at<R: Wait>(
+        &mut self,
+        _rt: &R,
+        _alloc: Global,
+        _place: u32,
+        _ask: Ask,
+    ) -> Result<Served, Refusal> {
+        Err(Refusal::NoMemory)
+    }
+
     fn look<R: Wait>(&mut self, _rt: &R, _alloc: Global) -> Result<Seen, DeskFault> {
         Err(DeskFault::Idle)
     }

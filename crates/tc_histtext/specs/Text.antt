@@ -1,5 +1,6 @@
 -- The text of histories and logs.
-use Rattle.std.specs.Prelude.{ℕ, decimal, Bool, true, false, List, [], ◌∷◌, ◌++◌, codes, Option, Some, None}
+use Rattle.std.specs.Prelude.{ℕ, decimal, Bool, true, false, List, [], ◌∷◌, ◌++◌, codes}
+use Rattle.std.specs.Prelude.{Option, Some, None}
 use Rattle.std.specs.List.{flat_map}
 use Rattle.std.proofs.Common.{get_or}
 use Rattle.tc_lists.specs.Texts.{joined}
@@ -14,7 +15,8 @@ use Rattle.tc_model.specs.declared.entries.Entry.TheVariants.{Called, Gave, Look
 use Rattle.tc_model.specs.declared.events.Phase.{Phase}
 use Rattle.tc_model.specs.declared.events.Phase.TheVariants.{Pre, Post}
 use Rattle.tc_model.specs.declared.faults.SpecCause.{SpecCause}
-use Rattle.tc_model.specs.declared.faults.SpecCause.TheVariants.{Syntax, Size, Shape, Head, Goal, Count}
+use Rattle.tc_model.specs.declared.faults.SpecCause.TheVariants.{Syntax, Size, Shape, Head, Goal}
+use Rattle.tc_model.specs.declared.faults.SpecCause.TheVariants.{Count}
 use Rattle.tc_model.specs.declared.items.Effect.{Effect}
 use Rattle.tc_model.specs.declared.items.Effect.TheVariants.{Put, Took, Read}
 use Rattle.tc_model.specs.declared.items.Item.{Item}
@@ -43,7 +45,8 @@ op_text (In t) = bracketed (codes "in") t
 op_text (Rd t) = bracketed (codes "rd") t
 op_text (Inp t) = bracketed (codes "inp") t
 op_text (Rdp t) = bracketed (codes "rdp") t
-op_text (SetSpec clauses) = joined (codes "set_spec(" ∷ quoted (clauses_text clauses) ∷ codes ")" ∷ [])
+op_text (SetSpec clauses) =
+    joined (codes "set_spec(" ∷ quoted (clauses_text clauses) ∷ codes ")" ∷ [])
 op_text GetSpec = codes "get_spec"
 
 -- that the reactions of a phase went over the budget
@@ -95,8 +98,8 @@ item_text (Fired pick clause effects) =
     codes "\n" ∷ [])
 item_text (Failed pick clause goal effects) =
     joined (
-    codes "  " ∷ decimal pick ∷ codes " failed " ∷ decimal clause ∷ codes " at " ∷ decimal goal ∷
-    effects_text effects ∷ codes "\n" ∷ [])
+    codes "  " ∷ decimal pick ∷ codes " failed " ∷ decimal clause ∷ codes " at " ∷
+    decimal goal ∷ effects_text effects ∷ codes "\n" ∷ [])
 
 abbrev pub items_text : List Item → List ℕ
 items_text items = flat_map item_text items
@@ -169,8 +172,8 @@ line_of row = record { number = row.number; centre = row.centre; result = row.re
 abbrev pub line_text : Version → LogLine → List ℕ
 line_text v line =
     joined (
-    decimal line.number ∷ codes " " ∷ atom_text line.centre ∷ codes " " ∷ result_text v line.result ∷
-    codes "\n" ∷ [])
+    decimal line.number ∷ codes " " ∷ atom_text line.centre ∷ codes " " ∷
+    result_text v line.result ∷ codes "\n" ∷ [])
 
 abbrev pub row_text : Version → LogRow → List ℕ
 row_text v row = line_text v (line_of row)
@@ -210,7 +213,8 @@ end_text false = codes "end ended\n"
 
 -- the text of the histories of these centres and of the logs of these agents
 abbrev pub run_text :
-    Version → List (List ℕ) → List (List ℕ) → List (List Entry) → List (List LogRow) → List ℕ
+    Version → List (List ℕ) → List (List ℕ) → List (List Entry) → List (List LogRow)
+    → List ℕ
 run_text v centres agents histories logs =
     joined (
     version_text v ∷ histories_text agents centres histories ∷ logs_text v agents logs ∷

@@ -2,7 +2,8 @@
 ghost use Rattle.std.specs.Prelude.{◌≡◌, ◌++◌, OnErr, OnOk, codes};
 ghost use mathlib.Core.List.{IsPrefix};
 ghost use Rattle.tc_term.specs.Text.{canonical, quoted};
-ghost use Rattle.tc_histtext.specs.Text.{chosen_text, outcome_text, over_text, reply_text, told_text};
+ghost use Rattle.tc_histtext.specs.Text.{chosen_text, outcome_text, over_text, reply_text};
+ghost use Rattle.tc_histtext.specs.Text.{told_text};
 
 use std::alloc::Global;
 use tc_lists::{NoMemory, cut_back};

@@ -1,9 +1,11 @@
 //! Entries of histories as text.
-ghost use Rattle.std.specs.Prelude.{◌≡◌, ◌<◌, ◌++◌, OnErr, OnOk, codes, decimal, length, ◌∷◌, []};
+ghost use Rattle.std.specs.Prelude.{◌≡◌, ◌<◌, ◌++◌, OnErr, OnOk, codes, decimal};
+ghost use Rattle.std.specs.Prelude.{length, ◌∷◌, []};
 ghost use mathlib.Core.List.{IsPrefix};
 ghost use Rattle.tc_lists.specs.Texts.{joined};
 ghost use Rattle.tc_model.specs.Calls.{id_of};
-ghost use Rattle.tc_histtext.specs.Text.{call_text, entry_text, items_text, op_text, outcome_text, told_text};
+ghost use Rattle.tc_histtext.specs.Text.{call_text, entry_text, items_text, op_text, outcome_text};
+ghost use Rattle.tc_histtext.specs.Text.{told_text};
 
 use crate::answers::{write_outcome, write_told};
 use crate::items::write_items;
@@ -24,7 +26,8 @@ pub fn print_entry(
     into: &mut Vec<u8>,
 ) -> Result<(), NoMemory>
     requires agent { (id_of e.now).agent < length agents.now }
-    ensures appended { OnOk result (into.new.items ≡ into.old.items ++ entry_text agents.now e.now) }
+    ensures appended { OnOk result
+        (into.new.items ≡ into.old.items ++ entry_text agents.now e.now) }
     ensures same { OnErr result (into.new.items ≡ into.old.items) }
 {
     let before = into.len();
@@ -39,7 +42,8 @@ fn write_entry(
     into: &mut Vec<u8>,
 ) -> Result<(), NoMemory>
     requires agent { (id_of e.now).agent < length agents.now }
-    ensures appended { OnOk result (into.new.items ≡ into.old.items ++ entry_text agents.now e.now) }
+    ensures appended { OnOk result
+        (into.new.items ≡ into.old.items ++ entry_text agents.now e.now) }
     ensures kept { IsPrefix into.old.items into.new.items }
 {
     match e {
@@ -108,7 +112,8 @@ fn write_result(
     into: &mut Vec<u8>,
 ) -> Result<(), NoMemory>
     ensures appended { OnOk result (into.new.items ≡ into.old.items
-        ++ joined (codes " = " ∷ outcome_text outcome.now ∷ codes "\n" ∷ items_text items.now ∷ [])) }
+        ++ joined (codes " = " ∷ outcome_text outcome.now ∷ codes "\n" ∷
+        items_text items.now ∷ [])) }
     ensures kept { IsPrefix into.old.items into.new.items }
 {
     into.extend_from_slice(b" = ")?;
@@ -125,7 +130,8 @@ fn write_look(
     into: &mut Vec<u8>,
 ) -> Result<(), NoMemory>
     ensures appended { OnOk result (into.new.items ≡ into.old.items
-        ++ joined (codes " " ∷ decimal asked ∷ codes " = " ∷ told_text told.now ∷ codes "\n" ∷ [])) }
+        ++ joined (codes " " ∷ decimal asked ∷ codes " = " ∷ told_text told.now ∷
+        codes "\n" ∷ [])) }
     ensures kept { IsPrefix into.old.items into.new.items }
 {
     write_asked(asked, into)?;

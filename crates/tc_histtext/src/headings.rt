@@ -35,7 +35,8 @@ pub fn print_heading(
     name: &Name,
     into: &mut Vec<u8>,
 ) -> Result<(), NoMemory>
-    ensures appended { OnOk result (into.new.items ≡ into.old.items ++ heading_text word name.now) }
+    ensures appended { OnOk result
+        (into.new.items ≡ into.old.items ++ heading_text word name.now) }
     ensures same { OnErr result (into.new.items ≡ into.old.items) }
 {
     let before = into.len();
@@ -61,7 +62,8 @@ fn write_heading(
     name: &Name,
     into: &mut Vec<u8>,
 ) -> Result<(), NoMemory>
-    ensures appended { OnOk result (into.new.items ≡ into.old.items ++ heading_text word name.now) }
+    ensures appended { OnOk result
+        (into.new.items ≡ into.old.items ++ heading_text word name.now) }
     ensures kept { IsPrefix into.old.items into.new.items }
 {
     match word {

@@ -1,5 +1,6 @@
 //! What can be printed, and how texts grow, for callers to cite.
-ghost use Rattle.std.specs.Prelude.{◌≡◌, ◌<◌, ◌++◌, ◌∷◌, [], ℕ, List, All, length};
+ghost use Rattle.std.specs.Prelude.{◌≡◌, ◌<◌, ◌++◌, ◌∷◌, [], ℕ, List, All};
+ghost use Rattle.std.specs.Prelude.{length};
 ghost use Rattle.tc_model.specs.Calls.{id_of};
 ghost use Rattle.tc_model.specs.Run.{IsRun};
 ghost use Rattle.tc_model.specs.State.{Origin};
@@ -31,7 +32,8 @@ pub fn text_grows_by_parts()
     ensures log { (v : Version) (name : List ℕ) → log_text v name [] ≡ agent_heading name }
     ensures row { (v : Version) (name : List ℕ) (log : List LogRow) (r : LogRow)
         → log_text v name (log ++ r ∷ []) ≡ log_text v name log ++ row_text v r }
-    ensures logs { (v : Version) (names : List (List ℕ)) (logs : List (List LogRow)) (name : List ℕ)
+    ensures logs { (v : Version) (names : List (List ℕ)) (logs : List (List LogRow))
+        (name : List ℕ)
         (log : List LogRow) → length names ≡ length logs
         → logs_text v (names ++ name ∷ []) (logs ++ log ∷ [])
         ≡ logs_text v names logs ++ log_text v name log }

@@ -1,8 +1,8 @@
 //! The text of histories and logs, line by line: headings, entries with their reactions, and rows.
 //!
-//! What a text is, specs/Text defines, by version. After want of memory the lent text is as before. The
-//! parts, one behind another, are the text of a run, so a caller may write it away in pieces as it grows.
-//! An operation, a reply, a result and a refusal can be printed alone too.
+//! What a text is, specs/Text defines, by version. After want of memory the lent text is as before.
+//! The parts, one behind another, are the text of a run, so a caller may write it away in pieces as
+//! it grows. An operation, a reply, a result and a refusal can be printed alone too.
 //!
 //! ```
 //! let mut text = Vec::new(alloc);

@@ -1,9 +1,11 @@
 //! Rows of logs as text.
-ghost use Rattle.std.specs.Prelude.{◌≡◌, ◌++◌, ◌∷◌, [], OnErr, OnOk, codes, decimal};
+ghost use Rattle.std.specs.Prelude.{◌≡◌, ◌++◌, ◌∷◌, [], OnErr, OnOk, codes};
+ghost use Rattle.std.specs.Prelude.{decimal};
 ghost use mathlib.Core.List.{IsPrefix};
 ghost use Rattle.tc_lists.specs.Texts.{joined};
 ghost use Rattle.tc_term.specs.Text.{atom_text};
-ghost use Rattle.tc_histtext.specs.Text.{cause_text, full_text, refusal_text, result_text, row_text};
+ghost use Rattle.tc_histtext.specs.Text.{cause_text, full_text, refusal_text, result_text};
+ghost use Rattle.tc_histtext.specs.Text.{row_text};
 
 use crate::answers::{write_reply, write_told};
 use crate::versions::Version;
