@@ -3,7 +3,7 @@ ghost use Rattle.std.specs.Prelude.{◌≡◌, ◌≤◌, ◌+◌, IfOk, OnErr, 
 ghost use Rattle.tc_model.specs.Bodies.{IsBody, IsFired, IsFailed};
 ghost use Rattle.tc_model.specs.Choices.{TheFirst};
 ghost use Rattle.tc_model.specs.Tuples.{after_effects};
-ghost use Rattle.tc_model.specs.Cascades.{pick_of, clause_of};
+ghost use Rattle.tc_model.specs.Items.{pick_of, clause_of};
 ghost use Rattle.tc_model.specs.Triggers.{raises};
 ghost use Rattle.tc_model.specs.declared.limits.TheConstants.{MOST_GOALS};
 ghost use Rattle.tc_bag.specs.Stock.{tuples_of, AddsYounger};

@@ -8,7 +8,8 @@ use Rattle.tc_model.specs.Reactions.{Rule}
 use Rattle.tc_model.specs.Triggers.{Member, IsClause, Triggers, raises}
 use Rattle.tc_model.specs.Tuples.{after_item, after_items}
 use Rattle.tc_model.specs.Bodies.{IsBody}
-use Rattle.tc_model.specs.Cascades.{Wave, IsTried, Cascades, IsWhole, pick_of, clause_of, without}
+use Rattle.tc_model.specs.Items.{pick_of, clause_of}
+use Rattle.tc_model.specs.Cascades.{Wave, IsTried, Cascades, IsWhole, without}
 use Rattle.tc_model.specs.declared.items.Item.{Item}
 use Rattle.tc_model.specs.declared.items.Item.TheVariants.{Fired, Failed}
 use Rattle.tc_bag.specs.Stock.{Stock, tuples_of}

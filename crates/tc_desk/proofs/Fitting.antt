@@ -19,6 +19,7 @@ use Rattle.tc_model.specs.declared.calls.CallId.{CallId}
 use Rattle.tc_model.specs.declared.calls.Op.{Op}
 use Rattle.tc_model.specs.declared.calls.Op.TheVariants.{Out, In, Rd, Inp, Rdp, SetSpec, GetSpec}
 use Rattle.tc_model.specs.declared.calls.Request.{Request}
+use Rattle.tc_model.specs.declared.calls.Wants.TheVariants.{Take, Look}
 use Rattle.tc_model.specs.declared.items.Item.{Item}
 use Rattle.tc_model.specs.declared.outcomes.Outcome.{Outcome}
 use Rattle.tc_model.specs.declared.outcomes.Outcome.TheVariants.{Done, Took, NoTuple, Pending, Spec, Over}
@@ -173,12 +174,12 @@ module _ (history : List Entry) (id : CallId) (items : List Item) (s : State) wh
   reached-asked GetSpec result all = all
   reached-asked (In t) result all =
       let e : Entry = Called id (In t) result items in
-      let q : Request = record { id = id; takes = true; template = t } in
+      let q : Request = record { id = id; wants = Take; template = t } in
       let asked : Asked (history ++ e ∷ []) q = record { op = In t; result = result; items = items; stands = Contains-push history e; waits = refl } in
       All-push (Asked (history ++ e ∷ [])) s.pending q all asked
   reached-asked (Rd t) result all =
       let e : Entry = Called id (Rd t) result items in
-      let q : Request = record { id = id; takes = false; template = t } in
+      let q : Request = record { id = id; wants = Look; template = t } in
       let asked : Asked (history ++ e ∷ []) q = record { op = Rd t; result = result; items = items; stands = Contains-push history e; waits = refl } in
       All-push (Asked (history ++ e ∷ [])) s.pending q all asked
 

@@ -10,3 +10,4 @@ pub mod Rules
 pub mod TypedStates
 pub mod TypedRuns
 pub mod Removals
+pub mod Written

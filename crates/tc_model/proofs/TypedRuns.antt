@@ -28,6 +28,7 @@ use Rattle.tc_model.specs.declared.calls.CallId.{CallId}
 use Rattle.tc_model.specs.declared.calls.Op.{Op}
 use Rattle.tc_model.specs.declared.calls.Op.TheVariants.{Out, In, Rd, Inp, Rdp, SetSpec, GetSpec}
 use Rattle.tc_model.specs.declared.calls.Request.{Request}
+use Rattle.tc_model.specs.declared.calls.Wants.TheVariants.{Take}
 use Rattle.tc_model.specs.declared.events.Phase.TheVariants.{Pre, Post}
 use Rattle.tc_model.specs.declared.goals.Goal.{Goal}
 use Rattle.tc_model.specs.declared.goals.Goal.TheVariants as goal
@@ -184,8 +185,8 @@ module _ (origin : Origin) (s : State) (typed : IsTypedState s) where
   with_put : (t : Tree) → IsTuple t → All IsTuple (s.tuples ++ t ∷ [])
   with_put t tuple = All-push IsTuple s.tuples t typed.tuples tuple
 
-  without : (u : Tree) → All IsTuple (after_taking true u s.tuples)
-  without u = after_taking-typed true u s.tuples typed.tuples
+  without : (u : Tree) → All IsTuple (after_taking Take u s.tuples)
+  without u = after_taking-typed Take u s.tuples typed.tuples
 
   served-typed : (id : CallId) (op : Op) (result : Outcome) (items : List Item) → IsTypedOp op
       → IsServed TheFirst origin s id op result items → All IsTypedItem items
@@ -211,11 +212,11 @@ module _ (origin : Origin) (s : State) (typed : IsTypedState s) where
       → IsGiven TheFirst origin s r result items → IsTypedOutcome result × All IsTypedItem items
   given-typed r (outcome.Took u) items h = (
     first-typed (IsMatch r.template) s.tuples u typed.tuples h.0,
-    whole r.id _ _ items h.1 (after_taking-typed r.takes u s.tuples typed.tuples),
+    whole r.id _ _ items h.1 (after_taking-typed r.wants u s.tuples typed.tuples),
   )
   given-typed r (outcome.Over Post (Some u)) items h = (
     first-typed (IsMatch r.template) s.tuples u typed.tuples h.0,
-    over r.id _ _ items h.1 (after_taking-typed r.takes u s.tuples typed.tuples),
+    over r.id _ _ items h.1 (after_taking-typed r.wants u s.tuples typed.tuples),
   )
   given-typed r _ items h = absurd h
 

@@ -1,17 +1,19 @@
 -- A typed history leads from a typed origin to a typed state.
-use Rattle.std.proofs.Common.{Bool, true, false, if◌then◌else◌, List, [], ◌∷◌, ◌++◌, All}
+use Rattle.std.proofs.Common.{true, false, if◌then◌else◌, List, [], ◌∷◌, ◌++◌, All}
 use Rattle.std.proofs.lemmas.List.Elements.{All-nil, All-cons, All-head, All-tail, All-push}
 use Rattle.tc_term.specs.Tree.{Tree, IsTuple}
 use Rattle.tc_term.specs.Same.{same_tree}
 use Rattle.tc_model.specs.Calls.{same_id}
 use Rattle.tc_model.specs.Tuples.{without_first, after_effect, after_effects, after_item, after_items}
 use Rattle.tc_model.specs.Typed.{IsTypedId, IsTypedOp, IsTypedRequest, IsTypedEffect, IsTypedItem, IsTyped}
-use Rattle.tc_model.specs.State.{State, Origin, IsOrigin, IsTypedState, opening, without_request, takes_tuple}
+use Rattle.tc_model.specs.State.{State, Origin, IsOrigin, IsTypedState, opening, without_request, wants_of}
 use Rattle.tc_model.specs.State.{after_taking, after_search, unless_over, reached_by, after_answer, after_entry, after_history}
 use Rattle.tc_model.specs.declared.calls.CallId.{CallId}
 use Rattle.tc_model.specs.declared.calls.Op.{Op}
 use Rattle.tc_model.specs.declared.calls.Op.TheVariants.{Out, In, Rd, Inp, Rdp, SetSpec, GetSpec}
 use Rattle.tc_model.specs.declared.calls.Request.{Request}
+use Rattle.tc_model.specs.declared.calls.Wants.{Wants}
+use Rattle.tc_model.specs.declared.calls.Wants.TheVariants.{Take, Look}
 use Rattle.tc_model.specs.declared.items.Effect.{Effect}
 use Rattle.tc_model.specs.declared.items.Effect.TheVariants.{Put, Took, Read}
 use Rattle.tc_model.specs.declared.items.Item.{Item}
@@ -54,19 +56,19 @@ after_items-typed (i ∷ items) tuples typed all =
     after_items-typed items (after_item i tuples) (All-tail IsTypedItem i items typed)
     (after_item-typed i tuples (All-head IsTypedItem i items typed) all)
 
-pub after_taking-typed : (takes : Bool) (tuple : Tree) (tuples : List Tree)
-    → All IsTuple tuples → All IsTuple (after_taking takes tuple tuples)
-after_taking-typed true tuple tuples all = All-without_first IsTuple tuple tuples all
-after_taking-typed false tuple tuples all = all
+pub after_taking-typed : (wants : Wants) (tuple : Tree) (tuples : List Tree)
+    → All IsTuple tuples → All IsTuple (after_taking wants tuple tuples)
+after_taking-typed Take tuple tuples all = All-without_first IsTuple tuple tuples all
+after_taking-typed Look tuple tuples all = all
 
-after_search-typed : (takes : Bool) (result : Outcome) (tuples : List Tree)
-    → All IsTuple tuples → All IsTuple (after_search takes result tuples)
-after_search-typed takes outcome.Done tuples all = all
-after_search-typed takes (outcome.Took u) tuples all = after_taking-typed takes u tuples all
-after_search-typed takes outcome.NoTuple tuples all = all
-after_search-typed takes outcome.Pending tuples all = all
-after_search-typed takes (outcome.Spec text) tuples all = all
-after_search-typed takes (outcome.Over phase tuple) tuples all = all
+after_search-typed : (wants : Wants) (result : Outcome) (tuples : List Tree)
+    → All IsTuple tuples → All IsTuple (after_search wants result tuples)
+after_search-typed wants outcome.Done tuples all = all
+after_search-typed wants (outcome.Took u) tuples all = after_taking-typed wants u tuples all
+after_search-typed wants outcome.NoTuple tuples all = all
+after_search-typed wants outcome.Pending tuples all = all
+after_search-typed wants (outcome.Spec text) tuples all = all
+after_search-typed wants (outcome.Over phase tuple) tuples all = all
 
 unless_over-typed : (result : Outcome) (before reached : State)
     → IsTypedState before → IsTypedState reached → IsTypedState (unless_over result before reached)
@@ -92,16 +94,16 @@ module _ (s : State) (typed : IsTypedState s) where
   with_tuples-typed : (tuples : List Tree) → All IsTuple tuples → IsTypedState (record s { tuples = tuples })
   with_tuples-typed tuples all = record { tuples = all; clauses = typed.clauses; pending = typed.pending }
 
-  waits-typed : (id : CallId) (takes : Bool) (template : Tree) (items : List Item)
-      → All IsTypedItem items → IsTypedRequest (record { id = id; takes = takes; template = template })
+  waits-typed : (id : CallId) (wants : Wants) (template : Tree) (items : List Item)
+      → All IsTypedItem items → IsTypedRequest (record { id = id; wants = wants; template = template })
       → IsTypedState (record s {
         tuples = after_items items s.tuples;
-        pending = s.pending ++ record { id = id; takes = takes; template = template } ∷ [];
+        pending = s.pending ++ record { id = id; wants = wants; template = template } ∷ [];
       })
-  waits-typed id takes template items all request = record {
+  waits-typed id wants template items all request = record {
     tuples = after_items-typed items s.tuples all typed.tuples;
     clauses = typed.clauses;
-    pending = All-push IsTypedRequest s.pending (record { id = id; takes = takes; template = template }) typed.pending request;
+    pending = All-push IsTypedRequest s.pending (record { id = id; wants = wants; template = template }) typed.pending request;
   }
 
   reached_by-typed : (id : CallId) (op : Op) (result : Outcome) (items : List Item)
@@ -110,15 +112,15 @@ module _ (s : State) (typed : IsTypedState s) where
       with_tuples-typed (after_items items (s.tuples ++ t ∷ []))
       (after_items-typed items (s.tuples ++ t ∷ []) all (All-push IsTuple s.tuples t typed.tuples asked))
   reached_by-typed id (In t) result items call asked all =
-      waits-typed id true t items all (record { id = call; template = asked })
+      waits-typed id Take t items all (record { id = call; template = asked })
   reached_by-typed id (Rd t) result items call asked all =
-      waits-typed id false t items all (record { id = call; template = asked })
+      waits-typed id Look t items all (record { id = call; template = asked })
   reached_by-typed id (Inp t) result items call asked all =
-      with_tuples-typed (after_items items (after_search true result s.tuples))
-      (after_items-typed items (after_search true result s.tuples) all (after_search-typed true result s.tuples typed.tuples))
+      with_tuples-typed (after_items items (after_search Take result s.tuples))
+      (after_items-typed items (after_search Take result s.tuples) all (after_search-typed Take result s.tuples typed.tuples))
   reached_by-typed id (Rdp t) result items call asked all =
-      with_tuples-typed (after_items items (after_search false result s.tuples))
-      (after_items-typed items (after_search false result s.tuples) all (after_search-typed false result s.tuples typed.tuples))
+      with_tuples-typed (after_items items (after_search Look result s.tuples))
+      (after_items-typed items (after_search Look result s.tuples) all (after_search-typed Look result s.tuples typed.tuples))
   reached_by-typed id (SetSpec clauses) result items call asked all =
       record { tuples = typed.tuples; clauses = asked; pending = typed.pending }
   reached_by-typed id GetSpec result items call asked all = typed
@@ -126,13 +128,13 @@ module _ (s : State) (typed : IsTypedState s) where
   answered-typed : (id : CallId) (result : Outcome) (items : List Item)
       → All IsTypedItem items → IsTypedState (after_answer id result items s)
   answered-typed id result items all =
-      let takes : Bool = takes_tuple id s.pending in
-      let left : List Tree = after_search takes result s.tuples in
+      let wants : Wants = wants_of id s.pending in
+      let left : List Tree = after_search wants result s.tuples in
       let reached : State = record s { tuples = after_items items left } in
       let ended : IsTypedState (unless_over result s reached) =
       unless_over-typed result s reached typed
       (with_tuples-typed (after_items items left)
-      (after_items-typed items left all (after_search-typed takes result s.tuples typed.tuples))) in
+      (after_items-typed items left all (after_search-typed wants result s.tuples typed.tuples))) in
       record {
         tuples = ended.tuples;
         clauses = ended.clauses;

@@ -11,7 +11,7 @@ use Rattle.tc_model.specs.Choices.{AnyOne}
 use Rattle.tc_model.specs.Entries.{IsAnswerOutcome, IsWellFormed}
 use Rattle.tc_model.specs.Replies.{reply_of, reply_in}
 use Rattle.tc_model.specs.Run.{HasCall, IsNext, IsAnswered, IsLegal, IsRun}
-use Rattle.tc_model.specs.State.{State, Origin, opening, without_request, takes_tuple}
+use Rattle.tc_model.specs.State.{State, Origin, opening, without_request, wants_of}
 use Rattle.tc_model.specs.State.{after_call, after_answer, after_entry, after_history}
 use Rattle.tc_model.specs.Tables.{IsServed}
 use Rattle.tc_model.specs.Waiting.{HasRequest, AreWaiting}
@@ -19,6 +19,7 @@ use Rattle.tc_model.specs.declared.calls.CallId.{CallId}
 use Rattle.tc_model.specs.declared.calls.Op.{Op}
 use Rattle.tc_model.specs.declared.calls.Op.TheVariants.{Out, In, Rd}
 use Rattle.tc_model.specs.declared.calls.Request.{Request}
+use Rattle.tc_model.specs.declared.calls.Wants.TheVariants.{Take, Look}
 use Rattle.tc_model.specs.declared.items.Item.{Item}
 use Rattle.tc_model.specs.declared.outcomes.Outcome.{Outcome}
 use Rattle.tc_model.specs.declared.outcomes.Outcome.TheVariants.{Took, Pending, Over}
@@ -55,17 +56,17 @@ removed-is-without id (q ∷ requests) (suc place) r once at e =
     rw (first-differs id q requests place r once at e)
     (ap (λ rs. q ∷ rs) (removed-is-without id requests place r (AllPairs-tail Differ q requests once) at e))
 
--- and it takes its tuple where that one does
-pub takes-is : (id : CallId) (requests : List Request) (place : ℕ) (r : Request)
+-- and it wants what that one does
+pub wants-is : (id : CallId) (requests : List Request) (place : ℕ) (r : Request)
     → AllPairs (λ q r. same_id q.id r.id ≡ false) requests → slice_get requests place ≡ Some r → r.id ≡ id
-    → takes_tuple id requests ≡ r.takes
-takes-is id [] place r once at e = absurd (cc)
-takes-is id (q ∷ requests) zero r once at e =
+    → wants_of id requests ≡ r.wants
+wants-is id [] place r once at e = absurd (cc)
+wants-is id (q ∷ requests) zero r once at e =
     let here : q ≡ r = same_Some q r at in
-    rw (same_id-at q.id id (ap (λ (x : Request). x.id) here ∙ e)) (ap (λ (x : Request). x.takes) here)
-takes-is id (q ∷ requests) (suc place) r once at e =
+    rw (same_id-at q.id id (ap (λ (x : Request). x.id) here ∙ e)) (ap (λ (x : Request). x.wants) here)
+wants-is id (q ∷ requests) (suc place) r once at e =
     rw (first-differs id q requests place r once at e)
-    (takes-is id requests place r (AllPairs-tail Differ q requests once) at e)
+    (wants-is id requests place r (AllPairs-tail Differ q requests once) at e)
 
 waiting-none : AreWaiting [] []
 waiting-none = record {
@@ -214,11 +215,11 @@ module _ (origin : Origin) (history : List Entry) (s : State) (waiting : AreWait
   waiting-called_next id (In t) Pending items next served =
       let none = reply_in-called history id (In t) Pending items next.number in
       waiting-grows history (Called id (In t) Pending items) s.pending waiting
-      (λ j. HasCall-other history id j next.number) (record { id = id; takes = true; template = t }) refl none
+      (λ j. HasCall-other history id j next.number) (record { id = id; wants = Take; template = t }) refl none
   waiting-called_next id (Rd t) Pending items next served =
       let none = reply_in-called history id (Rd t) Pending items next.number in
       waiting-grows history (Called id (Rd t) Pending items) s.pending waiting
-      (λ j. HasCall-other history id j next.number) (record { id = id; takes = false; template = t }) refl none
+      (λ j. HasCall-other history id j next.number) (record { id = id; wants = Look; template = t }) refl none
   waiting-called_next id _ Pending items next served = absurd served
   waiting-called_next id (In t) (Over phase tuple) items next served =
       waiting-replied id (In t) (Over phase tuple) items next (λ none. absurd (cc))

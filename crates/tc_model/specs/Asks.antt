@@ -1,11 +1,21 @@
 -- What is asked, and what it takes.
-use Rattle.std.specs.Prelude.{Option, Some, None}
+use Rattle.std.specs.Prelude.{ℕ, List, codes, Option, Some, None}
 use Rattle.tc_term.specs.Tree.{Tree}
 use Rattle.tc_term.specs.TreeView.{tree_of}
 use Rattle.tc_model.specs.declared.asks.Ask.{Ask}
 use Rattle.tc_model.specs.declared.asks.Ask.TheVariants.{Out, In, Rd, Inp, Rdp, SetSpec, GetSpec}
 use Rattle.tc_model.specs.declared.asks.Primitive.{Primitive}
 use Rattle.tc_model.specs.declared.asks.Primitive.TheVariants as primitive
+
+-- the table of names: how a primitive is written, wherever it is
+abbrev pub primitive_name : Primitive → List ℕ
+primitive_name primitive.Out = codes "out"
+primitive_name primitive.In = codes "in"
+primitive_name primitive.Rd = codes "rd"
+primitive_name primitive.Inp = codes "inp"
+primitive_name primitive.Rdp = codes "rdp"
+primitive_name primitive.SetSpec = codes "set_spec"
+primitive_name primitive.GetSpec = codes "get_spec"
 
 -- what has to be permitted for an ask
 abbrev pub primitive_of : Ask → Primitive

@@ -22,8 +22,8 @@ beginning r e tuples = record {
   effects = [];
 }
 
--- every goal has done its step, with these effects; a rule has a goal, whose step says that head and
--- event can be made equal
+-- every goal has done its step, with these effects; a rule has a goal, whose step says that head
+-- and event can be made equal
 pub record IsFired
     (choice : Choice) (r : Rule) (e : Occurrence) (setting : Setting) (tuples : List Tree)
     (effects : List Effect) : Type 0 where
@@ -34,8 +34,8 @@ pub record IsFired
 -- the goals before the one of this number have done their steps, with these effects, and it can do
 -- none; goals count from 1
 pub record IsFailed
-    (choice : Choice) (r : Rule) (e : Occurrence) (setting : Setting) (tuples : List Tree) (number : ℕ)
-    (effects : List Effect) : Type 0 where
+    (choice : Choice) (r : Rule) (e : Occurrence) (setting : Setting) (tuples : List Tree)
+    (number : ℕ) (effects : List Effect) : Type 0 where
   pub place : ℕ
   pub at : number ≡ place + 1
   pub goal : Goal

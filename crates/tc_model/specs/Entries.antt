@@ -1,5 +1,6 @@
 -- What entries weigh, and which are well formed.
-use Rattle.std.specs.Prelude.{ℕ, ◌+◌, ◌*◌, ◌<◌, ◌≤◌, Some, None, List, All, length, sum_by}
+use Rattle.std.specs.Prelude.{ℕ, ◌+◌, ◌*◌, ◌<◌, ◌≤◌, Some, None, List, All}
+use Rattle.std.specs.Prelude.{length, sum_by}
 use Rattle.tc_model.specs.State.{Origin, opening, after_history}
 use Rattle.tc_model.specs.declared.limits.TheConstants.{MOST_WEIGHT}
 use Rattle.tc_model.specs.declared.events.Phase.TheVariants.{Pre, Post}

@@ -2,7 +2,9 @@
 use Rattle.std.specs.Prelude.{◌≡◌, ◌≤◌, ℕ, IsTrue, List, length, codes}
 use Rattle.tc_term.specs.Tree.{Tree, is_ground}
 use Rattle.tc_term.specs.Variables.{IsPattern}
+use Rattle.tc_model.specs.Asks.{primitive_name}
 use Rattle.tc_model.specs.declared.limits.TheConstants.{MOST_NAME_BYTES}
+use Rattle.tc_model.specs.declared.asks.Primitive.TheVariants as primitive
 use Rattle.tc_model.specs.declared.events.EventOp.{EventOp}
 use Rattle.tc_model.specs.declared.events.EventOp.TheVariants as op
 use Rattle.tc_model.specs.declared.events.Phase.{Phase}
@@ -53,7 +55,8 @@ pub record IsSetting (setting : Setting) : Type 0 where
 
 -- an operation has succeeded with this tuple
 abbrev pub success_event : EventOp → Tree → Occurrence
-success_event operation tuple = record { op = operation; term = tuple; phase = Post; sign = Success }
+success_event operation tuple =
+    record { op = operation; term = tuple; phase = Post; sign = Success }
 
 -- an operation has found no tuple for the template
 abbrev pub failure_event : EventOp → Tree → Occurrence
@@ -71,13 +74,13 @@ event_of (Put tuple) = success_event op.OutR tuple
 event_of (Took tuple) = success_event op.InR tuple
 event_of (Read tuple) = success_event op.RdR tuple
 
--- the name of an operation
+-- the name of an operation: that of the primitive, where an agent asks for it
 abbrev pub op_name : EventOp → List ℕ
-op_name op.Out = codes "out"
-op_name op.In = codes "in"
-op_name op.Rd = codes "rd"
-op_name op.Inp = codes "inp"
-op_name op.Rdp = codes "rdp"
+op_name op.Out = primitive_name primitive.Out
+op_name op.In = primitive_name primitive.In
+op_name op.Rd = primitive_name primitive.Rd
+op_name op.Inp = primitive_name primitive.Inp
+op_name op.Rdp = primitive_name primitive.Rdp
 op_name op.OutR = codes "out_r"
 op_name op.InR = codes "in_r"
 op_name op.RdR = codes "rd_r"

@@ -1,5 +1,6 @@
 -- What one goal of a reaction does, and what several do one after another.
-use Rattle.std.specs.Prelude.{◌≡◌, ◌+◌, ℕ, ℤ, IsTrue, Some, List, [], ◌∷◌, ◌++◌}
+use Rattle.std.specs.Prelude.{◌≡◌, ◌+◌, ℕ, ℤ, IsTrue, Some, List, [], ◌∷◌}
+use Rattle.std.specs.Prelude.{◌++◌}
 use Rattle.tc_lists.specs.Firsts.{NoneOf}
 use Rattle.tc_term.specs.Tree.{Tree, Atomic, Number}
 use Rattle.tc_term.specs.TreeView.{tree_of}
@@ -99,7 +100,8 @@ module _ (choice : Choice) (scene : Scene) where
   Does (Tuple t) m move = move ≡ Equates (tree_of t) (event_term scene)
   Does (Equal s t) m move = move ≡ Equates (tree_of s) (tree_of t)
   Does (Differ s t) m move =
-      (Solvable (width scene) (m.pairs ++ (tree_of s, tree_of t) ∷ []) → ⊥) × (move ≡ Nothing)
+      (Solvable (width scene) (m.pairs ++ (tree_of s, tree_of t) ∷ []) → ⊥)
+      × (move ≡ Nothing)
   Does (Is s t) m move =
       (i : ℤ) × Evaluates scene m (tree_of t) i × (move ≡ Equates (tree_of s) (Number i))
   Does (Compare comparison s t) m move =

@@ -1,14 +1,16 @@
 pub mod Choices
+pub mod Asks
 pub mod Events
 pub mod Reactions
 pub mod ReactionViews
 pub mod Within
-pub mod Asks
+pub mod Lines
 pub mod Scripts
 pub mod Tuples
 pub mod Goals
 pub mod Bodies
 pub mod Triggers
+pub mod Items
 pub mod Cascades
 pub mod Typed
 pub mod State

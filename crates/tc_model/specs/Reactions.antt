@@ -1,5 +1,6 @@
 -- Reactions: a head, a body of goals, and the clause that they are written as.
-use Rattle.std.specs.Prelude.{◌≡◌, ◌≤◌, ℕ, List, [], ◌∷◌, ◌++◌, All, length, codes}
+use Rattle.std.specs.Prelude.{◌≡◌, ◌≤◌, ℕ, List, [], ◌∷◌, ◌++◌, All, length}
+use Rattle.std.specs.Prelude.{codes}
 use Rattle.std.specs.List.{flat_map}
 use Rattle.tc_term.specs.Tree.{Tree, Atomic, Compound, Last, More}
 use Rattle.tc_term.specs.TreeView.{tree_of}
@@ -11,6 +12,7 @@ use Rattle.tc_term.specs.declared.comparison.Cmp.TheVariants as cmp
 use Rattle.tc_model.specs.Events.{op_name}
 use Rattle.tc_model.specs.declared.limits.TheConstants.{MOST_GOALS, MOST_CLAUSES}
 use Rattle.tc_model.specs.declared.events.EventOp.{EventOp}
+use Rattle.tc_model.specs.declared.events.EventOp.TheVariants as op
 use Rattle.tc_model.specs.declared.goals.Goal.{Goal}
 use Rattle.tc_model.specs.declared.goals.Goal.TheVariants.{OutR, InR, RdR, NoR, Pre, Post}
 use Rattle.tc_model.specs.declared.goals.Goal.TheVariants.{Success, Failure, True, Agent}
@@ -42,10 +44,10 @@ cmp_name cmp.Ge = codes ">="
 
 -- the term that a goal is written as
 abbrev pub goal_term : Goal → Tree
-goal_term (OutR t) = of_one (codes "out_r") (tree_of t)
-goal_term (InR t) = of_one (codes "in_r") (tree_of t)
-goal_term (RdR t) = of_one (codes "rd_r") (tree_of t)
-goal_term (NoR t) = of_one (codes "no_r") (tree_of t)
+goal_term (OutR t) = of_one (op_name op.OutR) (tree_of t)
+goal_term (InR t) = of_one (op_name op.InR) (tree_of t)
+goal_term (RdR t) = of_one (op_name op.RdR) (tree_of t)
+goal_term (NoR t) = of_one (op_name op.NoR) (tree_of t)
 goal_term Pre = Atomic (codes "pre")
 goal_term Post = Atomic (codes "post")
 goal_term Success = Atomic (codes "success")

@@ -1,5 +1,6 @@
 -- The runs of a centre: histories whose every entry is legal where it stands.
-use Rattle.std.specs.Prelude.{◌≡◌, ℕ, ◌<◌, List, Some, All, Contains, length, slice_get, take}
+use Rattle.std.specs.Prelude.{◌≡◌, ℕ, ◌<◌, List, Some, All, Contains, length, slice_get}
+use Rattle.std.specs.Prelude.{take}
 use Rattle.tc_model.specs.Choices.{Choice, AnyOne, TheFirst, IsChosen}
 use Rattle.tc_model.specs.State.{State, Origin, IsAnswerable, IsQuiescent, opening, after_history}
 use Rattle.tc_model.specs.Calls.{call_of, id_of, calls_of, IsCallOf}
@@ -27,15 +28,16 @@ pub record HasCall (id : CallId) (history : List Entry) : Type 0 where
 
 -- a request that may be chosen is answered
 pub record IsAnswered
-    (choice : Choice) (origin : Origin) (s : State) (id : CallId) (result : Outcome) (items : List Item)
-    : Type 0 where
+    (choice : Choice) (origin : Origin) (s : State) (id : CallId) (result : Outcome)
+    (items : List Item) : Type 0 where
   pub request : Request
   pub chosen : IsChosen choice (IsAnswerable s.tuples) s.pending request
   pub asked : request.id ≡ id
   pub given : IsGiven choice origin s request result items
 
 -- an agent is told what became of an earlier call of its own
-pub record IsTold (history : List Entry) (id : CallId) (asked : ℕ) (reply : Option Reply) : Type 0 where
+pub record IsTold (history : List Entry) (id : CallId) (asked : ℕ) (reply : Option Reply)
+    : Type 0 where
   pub called : HasCall (call_of id.agent asked) history
   pub told : reply ≡ reply_in history (call_of id.agent asked)
 
@@ -49,7 +51,8 @@ IsLegal choice origin history s (Looked id asked reply) =
     IsQuiescent s × IsNext origin history id × IsTold history id asked reply
 
 -- each entry has this relation to the entries before it and the state to which they lead
-abbrev pub EachEntry : (List Entry → State → Entry → Type 0) → State → List Entry → Type 0
+abbrev pub EachEntry :
+    (List Entry → State → Entry → Type 0) → State → List Entry → Type 0
 EachEntry R s history =
     (k : ℕ) (e : Entry) → slice_get history k ≡ Some e
     → R (take k history) (after_history s (take k history)) e

@@ -1,5 +1,5 @@
 -- The state of a centre, and what each entry of its history makes of it.
-use Rattle.std.specs.Prelude.{◌≢◌, ℕ, ◌<◌, ◌≤◌, ◌^◌, Bool, true, false, if◌then◌else◌}
+use Rattle.std.specs.Prelude.{◌≢◌, ℕ, ◌<◌, ◌≤◌, ◌^◌, if◌then◌else◌}
 use Rattle.std.specs.Prelude.{List, [], ◌∷◌, ◌++◌, All, AllPairs, Contains, length}
 use Rattle.tc_lists.specs.Firsts.{NoneOf}
 use Rattle.tc_term.specs.Tree.{Tree, IsTuple}
@@ -14,6 +14,8 @@ use Rattle.tc_model.specs.declared.calls.CallId.{CallId}
 use Rattle.tc_model.specs.declared.calls.Op.{Op}
 use Rattle.tc_model.specs.declared.calls.Op.TheVariants.{Out, In, Rd, Inp, Rdp, SetSpec, GetSpec}
 use Rattle.tc_model.specs.declared.calls.Request.{Request}
+use Rattle.tc_model.specs.declared.calls.Wants.{Wants}
+use Rattle.tc_model.specs.declared.calls.Wants.TheVariants.{Take, Look}
 use Rattle.tc_model.specs.declared.items.Item.{Item}
 use Rattle.tc_model.specs.declared.outcomes.Outcome.{Outcome}
 use Rattle.tc_model.specs.declared.outcomes.Outcome.TheVariants as outcome
@@ -91,36 +93,42 @@ abbrev pub without_request : CallId → List Request → List Request
 without_request id [] = []
 without_request id (r ∷ rs) = if same_id r.id id then rs else r ∷ without_request id rs
 
--- whether the first request of this call takes its tuple
-abbrev pub takes_tuple : CallId → List Request → Bool
-takes_tuple id [] = false
-takes_tuple id (r ∷ rs) = if same_id r.id id then r.takes else takes_tuple id rs
+-- what the first request of this call wants
+abbrev pub wants_of : CallId → List Request → Wants
+wants_of id [] = Look
+wants_of id (r ∷ rs) = if same_id r.id id then r.wants else wants_of id rs
 
--- the tuples without the one that is taken; one that is read stays
-abbrev pub after_taking : Bool → Tree → List Tree → List Tree
-after_taking takes tuple tuples = if takes then without_first tuple tuples else tuples
+-- the tuples without the one that is taken; one that is looked at stays
+abbrev pub after_taking : Wants → Tree → List Tree → List Tree
+after_taking Take tuple tuples = without_first tuple tuples
+after_taking Look tuple tuples = tuples
 
+-- the state with these tuples, or with these clauses
 abbrev pub with_tuples : List Tree → State → State
 with_tuples tuples s = record s { tuples = tuples }
 
 abbrev pub with_clauses : List Rule → State → State
 with_clauses clauses s = record s { clauses = clauses }
 
-abbrev pub with_request : CallId → Bool → Tree → State → State
-with_request id takes template s =
-    record s { pending = s.pending ++ record { id = id; takes = takes; template = template } ∷ [] }
+-- the state with a request more, behind the others
+abbrev pub with_request : CallId → Wants → Tree → State → State
+with_request id wants template s =
+    record s {
+      pending = s.pending ++ record { id = id; wants = wants; template = template } ∷ [];
+    }
 
+-- the state without the request of this call
 abbrev pub with_answered : CallId → State → State
 with_answered id s = record s { pending = without_request id s.pending }
 
 -- the tuples after a search with this outcome: the one that it tells is taken, or stays
-abbrev pub after_search : Bool → Outcome → List Tree → List Tree
-after_search takes (outcome.Took u) tuples = after_taking takes u tuples
-after_search takes outcome.NoTuple tuples = tuples
-after_search takes outcome.Done tuples = tuples
-after_search takes outcome.Pending tuples = tuples
-after_search takes (outcome.Spec text) tuples = tuples
-after_search takes (outcome.Over phase tuple) tuples = tuples
+abbrev pub after_search : Wants → Outcome → List Tree → List Tree
+after_search wants (outcome.Took u) tuples = after_taking wants u tuples
+after_search wants outcome.NoTuple tuples = tuples
+after_search wants outcome.Done tuples = tuples
+after_search wants outcome.Pending tuples = tuples
+after_search wants (outcome.Spec text) tuples = tuples
+after_search wants (outcome.Over phase tuple) tuples = tuples
 
 -- the state that was reached; where the reactions went over the budget, the state before
 abbrev pub unless_over : Outcome → State → State → State
@@ -135,13 +143,13 @@ unless_over (outcome.Spec text) before reached = reached
 abbrev pub reached_by : CallId → Op → Outcome → List Item → State → State
 reached_by id (Out t) result items s = with_tuples (after_items items (s.tuples ++ t ∷ [])) s
 reached_by id (Inp t) result items s =
-    with_tuples (after_items items (after_search true result s.tuples)) s
+    with_tuples (after_items items (after_search Take result s.tuples)) s
 reached_by id (Rdp t) result items s =
-    with_tuples (after_items items (after_search false result s.tuples)) s
+    with_tuples (after_items items (after_search Look result s.tuples)) s
 reached_by id (In t) result items s =
-    with_request id true t (with_tuples (after_items items s.tuples) s)
+    with_request id Take t (with_tuples (after_items items s.tuples) s)
 reached_by id (Rd t) result items s =
-    with_request id false t (with_tuples (after_items items s.tuples) s)
+    with_request id Look t (with_tuples (after_items items s.tuples) s)
 reached_by id (SetSpec clauses) result items s = with_clauses clauses s
 reached_by id GetSpec result items s = s
 
@@ -154,7 +162,7 @@ abbrev pub after_answer : CallId → Outcome → List Item → State → State
 after_answer id result items s =
     with_answered id
     (unless_over result s
-    (with_tuples (after_items items (after_search (takes_tuple id s.pending) result s.tuples)) s))
+    (with_tuples (after_items items (after_search (wants_of id s.pending) result s.tuples)) s))
 
 -- the state after an entry
 abbrev pub after_entry : Entry → State → State

@@ -1,5 +1,5 @@
 -- The tables of calls and of answers: which outcome and which reactions each may have.
-use Rattle.std.specs.Prelude.{◌≡◌, Bool, Some, None, List, [], ◌∷◌, ◌++◌, if◌then◌else◌}
+use Rattle.std.specs.Prelude.{◌≡◌, Some, None, List, [], ◌∷◌, ◌++◌}
 use Rattle.std.proofs.Common.{get_or}
 use Rattle.tc_lists.specs.Firsts.{NoneOf}
 use Rattle.tc_term.specs.Tree.{Tree}
@@ -13,16 +13,24 @@ use Rattle.tc_model.specs.declared.calls.CallId.{CallId}
 use Rattle.tc_model.specs.declared.calls.Op.{Op}
 use Rattle.tc_model.specs.declared.calls.Op.TheVariants.{Out, In, Rd, Inp, Rdp, SetSpec, GetSpec}
 use Rattle.tc_model.specs.declared.calls.Request.{Request}
+use Rattle.tc_model.specs.declared.calls.Wants.{Wants}
+use Rattle.tc_model.specs.declared.calls.Wants.TheVariants.{Take, Look}
 use Rattle.tc_model.specs.declared.events.EventOp.{EventOp}
 use Rattle.tc_model.specs.declared.events.EventOp.TheVariants as op
 use Rattle.tc_model.specs.declared.events.Phase.TheVariants.{Pre, Post}
 use Rattle.tc_model.specs.declared.items.Item.{Item}
 use Rattle.tc_model.specs.declared.outcomes.Outcome.{Outcome}
-use Rattle.tc_model.specs.declared.outcomes.Outcome.TheVariants.{Done, Took, NoTuple, Pending, Spec, Over}
+use Rattle.tc_model.specs.declared.outcomes.Outcome.TheVariants.{Done, Took, NoTuple, Pending, Spec}
+use Rattle.tc_model.specs.declared.outcomes.Outcome.TheVariants.{Over}
 
 -- reactions run in the name of the agent whose call or request they belong to
 abbrev pub setting_of : Origin → CallId → Setting
 setting_of origin id = record { agent = get_or origin.agents id.agent []; centre = origin.name }
+
+-- the operation that asks for what a request wants
+abbrev pub asking_op : Wants → EventOp
+asking_op Take = op.In
+asking_op Look = op.Rd
 
 module _ (choice : Choice) (origin : Origin) (s : State) where
   -- the reactions to a phase of a call, over these tuples: all within the budget
@@ -72,16 +80,12 @@ module _ (choice : Choice) (origin : Origin) (s : State) where
   IsServed id GetSpec (Spec text) items = (text ≡ clauses_text s.clauses) × (items ≡ [])
   IsServed id operation result items = ⊥
 
-  -- the operation of the event that answers a request
-  abbrev pub answer_op : Bool → EventOp
-  answer_op takes = if takes then op.In else op.Rd
-
   -- the table of answers: a request has no outcome that isn't listed
   abbrev pub IsGiven : Request → Outcome → List Item → Type 0
   IsGiven r (Took u) items =
       IsChosenTuple r.template u
-      × Reacts r.id (success_event (answer_op r.takes) u) (after_taking r.takes u s.tuples) items
+      × Reacts r.id (success_event (asking_op r.wants) u) (after_taking r.wants u s.tuples) items
   IsGiven r (Over Post (Some u)) items =
       IsChosenTuple r.template u
-      × Overruns r.id (success_event (answer_op r.takes) u) (after_taking r.takes u s.tuples) items
+      × Overruns r.id (success_event (asking_op r.wants) u) (after_taking r.wants u s.tuples) items
   IsGiven r result items = ⊥

@@ -1,5 +1,6 @@
 -- Which clauses an event triggers.
-use Rattle.std.specs.Prelude.{◌≡◌, ◌<◌, ◌+◌, ◌↔◌, ℕ, Some, List, [], ◌∷◌}
+use Rattle.std.specs.Prelude.{◌≡◌, ◌<◌, ◌+◌, ◌↔◌, ℕ, Some, List, []}
+use Rattle.std.specs.Prelude.{◌∷◌}
 use Rattle.std.specs.Prelude.{◌++◌, AllPairs, Contains, map, slice_get}
 use Rattle.tc_term.specs.Variables.{raised, var_bound}
 use Rattle.tc_term.specs.Equations.{Solvable}
@@ -8,8 +9,8 @@ use Rattle.tc_model.specs.Reactions.{Rule}
 use Rattle.tc_model.specs.declared.items.Item.{Item}
 use Rattle.tc_model.specs.declared.items.Item.TheVariants.{Fired, Failed}
 
--- the reaction's operation is the event's, and its head can be made equal to the event's term, their
--- variables kept apart
+-- the reaction's operation is the event's, and its head can be made equal to the event's term,
+-- their variables kept apart
 pub record IsTriggered (r : Rule) (e : Occurrence) : Type 0 where
   pub op : r.op ≡ e.op
   pub solvable : Solvable (r.vars + var_bound e.term) ((r.head, raised r.vars e.term) ∷ [])
@@ -23,7 +24,8 @@ pub record IsClause (clauses : List Rule) (number : ℕ) (r : Rule) : Type 0 whe
 -- the numbers are, rising, those of all the clauses that the event triggers
 pub record AreTriggered (clauses : List Rule) (e : Occurrence) (numbers : List ℕ) : Type 0 where
   pub rising : AllPairs ◌<◌ numbers
-  pub exact : (n : ℕ) (r : Rule) → IsClause clauses n r → (Contains numbers n ↔ IsTriggered r e)
+  pub exact : (n : ℕ) (r : Rule) → IsClause clauses n r
+      → (Contains numbers n ↔ IsTriggered r e)
   pub only : (n : ℕ) → Contains numbers n → (r : Rule) × IsClause clauses n r
 
 -- a clause that is triggered, and the event that triggered it

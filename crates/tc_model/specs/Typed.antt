@@ -86,7 +86,8 @@ IsTyped (Called id op result items) =
 IsTyped (Gave id result items) = IsTypedId id × IsTypedOutcome result × All IsTypedItem items
 IsTyped (Looked id asked told) = IsTypedId id × Is64 asked × IfSome told IsTypedReply
 
--- what is typed of an entry before it is known where it stands: the call, and its outcome; a look's id
+-- what is typed of an entry before it is known where it stands: the call, and its outcome; a
+-- look's id
 abbrev pub IsTypedCall : Entry → Type 0
 IsTypedCall (Called id op result items) = IsTypedId id × IsTypedOp op × IsTypedOutcome result
 IsTypedCall (Gave id result items) = Unit {0}

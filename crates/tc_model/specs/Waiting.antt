@@ -43,4 +43,5 @@ pub record AreWaiting (history : List Entry) (requests : List Request) : Type 0 
   pub called : All (λ r. HasCall r.id history) requests
   pub unanswered : All (λ r. reply_in history r.id ≡ None) requests
   pub once : AllPairs (λ q r. same_id q.id r.id ≡ false) requests
-  pub all : (id : CallId) → HasCall id history → reply_in history id ≡ None → HasRequest id requests
+  pub all : (id : CallId) → HasCall id history → reply_in history id ≡ None
+      → HasRequest id requests

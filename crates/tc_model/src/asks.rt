@@ -1,5 +1,7 @@
 //! What agents ask, as it is written.
-ghost use Rattle.std.specs.Prelude.{◌≡◌, IfOk};
+ghost use Rattle.std.specs.Prelude.{◌≡◌, ◌≢◌, IfNone, IfOk, IfSome};
+ghost use Rattle.tc_model.specs.Asks.{primitive_name};
+ghost use Rattle.tc_model.specs.declared.asks.Primitive.{Primitive};
 
 use crate::goals::copy_term;
 use std::alloc::Global;
@@ -18,8 +20,49 @@ pub enum Primitive {
     GetSpec,
 }
 
-/// What an agent asks of a centre. The operand is any term: whether it is a tuple, a template or the
-/// text of clauses is seen when it is served.
+impl Primitive {
+    /// Its name, wherever it is written.
+    pub fn name(&self) -> &'static [u8]
+        ensures { result.now ≡ primitive_name self.now }
+    {
+        match self {
+            Primitive::Out => b"out",
+            Primitive::In => b"in",
+            Primitive::Rd => b"rd",
+            Primitive::Inp => b"inp",
+            Primitive::Rdp => b"rdp",
+            Primitive::SetSpec => b"set_spec",
+            Primitive::GetSpec => b"get_spec",
+        }
+    }
+}
+
+/// The primitive of this name, if there is one. No memory is taken.
+pub fn primitive_of(name: &[u8]) -> Option<Primitive>
+    ensures some { IfSome result (λ p. primitive_name p ≡ name.now) }
+    ensures none { IfNone result ((p : Primitive) → primitive_name p ≢ name.now) }
+{
+    if name == Primitive::Out.name() {
+        Some(Primitive::Out)
+    } else if name == Primitive::In.name() {
+        Some(Primitive::In)
+    } else if name == Primitive::Rd.name() {
+        Some(Primitive::Rd)
+    } else if name == Primitive::Inp.name() {
+        Some(Primitive::Inp)
+    } else if name == Primitive::Rdp.name() {
+        Some(Primitive::Rdp)
+    } else if name == Primitive::SetSpec.name() {
+        Some(Primitive::SetSpec)
+    } else if name == Primitive::GetSpec.name() {
+        Some(Primitive::GetSpec)
+    } else {
+        None
+    }
+}
+
+/// What an agent asks of a centre. The operand is any term: whether it is a tuple, a template or
+/// the text of clauses is seen when it is served.
 #[derive(Drop)]
 pub enum Ask {
     Out(Term),

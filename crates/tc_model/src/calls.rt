@@ -34,12 +34,20 @@ pub enum Op {
     GetSpec,
 }
 
-/// A call that waits for a tuple.
+/// What is wanted of the tuples that match a template.
+#[derive(Clone, Copy, Debug, PartialEq, Eq)]
+pub enum Wants {
+    /// One of them, which is then removed.
+    Take,
+    /// One of them, which stays.
+    Look,
+}
+
+/// A call that waits for what it wants.
 #[derive(Drop)]
 pub struct Request {
     pub id: CallId,
-    /// Whether the tuple is removed that answers it.
-    pub takes: bool,
+    pub wants: Wants,
     pub template: Pattern,
 }
 
@@ -87,7 +95,7 @@ impl Request {
     {
         Ok(Request {
             id: self.id,
-            takes: self.takes,
+            wants: self.wants,
             template: self.template.copy(alloc)?,
         })
     }

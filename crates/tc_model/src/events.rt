@@ -3,10 +3,11 @@ ghost use Rattle.std.specs.Prelude.{◌≡◌, IfOk, IfSome, IfNone};
 ghost use Rattle.tc_model.specs.Events.{op_name};
 ghost use Rattle.tc_model.specs.declared.events.EventOp.{EventOp};
 
+use crate::asks::Primitive;
 use std::alloc::Global;
 use std::marker::Model;
 use tc_lists::NoMemory;
-use tc_term::{Name, Pattern};
+use tc_term::{Ground, Name, Pattern};
 
 /// An operation as events and heads of reactions name it: of an agent, or of a reaction's goal.
 #[derive(Clone, Copy, Debug, PartialEq, Eq)]
@@ -31,11 +32,11 @@ impl EventOp {
         ensures { result.now ≡ op_name self.now }
     {
         match self {
-            EventOp::Out => b"out",
-            EventOp::In => b"in",
-            EventOp::Rd => b"rd",
-            EventOp::Inp => b"inp",
-            EventOp::Rdp => b"rdp",
+            EventOp::Out => Primitive::Out.name(),
+            EventOp::In => Primitive::In.name(),
+            EventOp::Rd => Primitive::Rd.name(),
+            EventOp::Inp => Primitive::Inp.name(),
+            EventOp::Rdp => Primitive::Rdp.name(),
             EventOp::OutR => b"out_r",
             EventOp::InR => b"in_r",
             EventOp::RdR => b"rd_r",
@@ -49,17 +50,27 @@ pub fn event_op_of(name: &Name) -> Option<EventOp>
     ensures found { IfSome result (λ o. op_name o ≡ name.now) }
     ensures none { IfNone result ((o : EventOp) → op_name o ≡ name.now → ⊥) }
 {
-    match name.bytes() {
-        b"out" => Some(EventOp::Out),
-        b"in" => Some(EventOp::In),
-        b"rd" => Some(EventOp::Rd),
-        b"inp" => Some(EventOp::Inp),
-        b"rdp" => Some(EventOp::Rdp),
-        b"out_r" => Some(EventOp::OutR),
-        b"in_r" => Some(EventOp::InR),
-        b"rd_r" => Some(EventOp::RdR),
-        b"no_r" => Some(EventOp::NoR),
-        _ => None,
+    let name = name.bytes();
+    if name == EventOp::Out.name() {
+        Some(EventOp::Out)
+    } else if name == EventOp::In.name() {
+        Some(EventOp::In)
+    } else if name == EventOp::Rd.name() {
+        Some(EventOp::Rd)
+    } else if name == EventOp::Inp.name() {
+        Some(EventOp::Inp)
+    } else if name == EventOp::Rdp.name() {
+        Some(EventOp::Rdp)
+    } else if name == EventOp::OutR.name() {
+        Some(EventOp::OutR)
+    } else if name == EventOp::InR.name() {
+        Some(EventOp::InR)
+    } else if name == EventOp::RdR.name() {
+        Some(EventOp::RdR)
+    } else if name == EventOp::NoR.name() {
+        Some(EventOp::NoR)
+    } else {
+        None
     }
 }
 
@@ -111,7 +122,9 @@ impl Model for Event {
 }
 
 impl Event {
-    ghost use Rattle.tc_model.specs.Events.{IsOccurrence};
+    ghost use Rattle.tc_model.specs.Events.{IsOccurrence, MayOccur, success_event};
+    ghost use Rattle.tc_model.specs.declared.events.Phase.TheVariants as phase;
+    ghost use Rattle.tc_model.specs.declared.events.Sign.TheVariants as sign;
 
     /// The event of an operation on a term.
     pub fn new(op: EventOp, term: Pattern, phase: Phase, sign: Sign) -> Event
@@ -124,6 +137,18 @@ impl Event {
             phase,
             sign,
         }
+    }
+
+    /// The event that an operation has succeeded with a tuple.
+    pub fn success(alloc: Global, op: EventOp, tuple: &Ground) -> Result<Event, NoMemory>
+        requires { MayOccur op phase.Post sign.Success }
+        ensures { IfOk result (λ event. event ≡ success_event op tuple.now) }
+    {
+        // Reading the two terms tells that they are ground, and a template.
+        let _tuple = tuple.term();
+        let template = Pattern::of_tuple(tuple.copy(alloc)?);
+        let _template = template.term();
+        Ok(Event::new(op, template, Phase::Post, Sign::Success))
     }
 
     /// The operation.

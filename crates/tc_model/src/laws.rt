@@ -1,11 +1,22 @@
 //! What holds of every run and of every history.
-ghost use Rattle.std.specs.Prelude.{◌≡◌, ◌<◌, ◌+◌, List, [], ◌++◌, All, AllPairs, Some, IfSome, ℕ};
+ghost use Rattle.std.specs.Prelude.{◌≡◌, ◌<◌, ◌+◌, List, [], ◌++◌, All, AllPairs};
+ghost use Rattle.std.specs.Prelude.{Some, IfSome, ℕ};
 ghost use mathlib.Core.List.{IsPrefix};
+ghost use Rattle.tc_model.specs.declared.limits.TheConstants.{MOST_NAME_BYTES, MOST_BUDGET};
+ghost use Rattle.tc_model.specs.declared.limits.TheConstants.{MOST_TUPLES};
+ghost use Rattle.tc_model.specs.declared.limits.TheConstants.{MOST_CLAUSES, MOST_GOALS};
+ghost use Rattle.tc_model.specs.declared.limits.TheConstants.{MOST_WEIGHT};
+ghost use Rattle.tc_model.specs.declared.asks.Ask.{Ask};
+ghost use Rattle.tc_model.specs.declared.asks.Primitive.{Primitive};
 ghost use Rattle.tc_model.specs.declared.calls.CallId.{CallId};
 ghost use Rattle.tc_model.specs.declared.entries.Entry.{Entry};
+ghost use Rattle.tc_model.specs.declared.lines.Line.{Line};
 ghost use Rattle.tc_model.specs.declared.outcomes.Reply.{Reply};
+ghost use Rattle.tc_model.specs.Asks.{primitive_name};
+ghost use Rattle.tc_model.specs.Lines.{ask_term, line_term};
 ghost use Rattle.tc_model.specs.Choices.{Choice};
-ghost use Rattle.tc_model.specs.State.{State, Origin, IsOrigin, IsTypedState, opening, after_history};
+ghost use Rattle.tc_model.specs.State.{State, Origin, IsOrigin, IsTypedState, opening};
+ghost use Rattle.tc_model.specs.State.{after_history};
 ghost use Rattle.tc_model.specs.Waiting.{NeverWaits, GivesNothing, AreWaiting};
 ghost use Rattle.tc_model.specs.Events.{Occurrence, Setting};
 ghost use Rattle.tc_model.specs.Reactions.{Rule};
@@ -21,6 +32,23 @@ ghost use Rattle.tc_model.specs.Run.{IsRunBy, IsRun, IsFirstRun};
 ghost use Rattle.tc_model.specs.Entries.{IsWellFormed, weight};
 ghost use Rattle.tc_model.specs.Typed.{IsTyped, IsTypedCall, IsTypedReply};
 
+/// The limits are these numbers.
+pub fn limits_are_these()
+    ensures name_bytes { MOST_NAME_BYTES ≡ 65535 }
+    ensures budget { MOST_BUDGET ≡ 10000 }
+    ensures tuples { MOST_TUPLES ≡ 16777216 }
+    ensures clauses { MOST_CLAUSES ≡ 1000 }
+    ensures goals { MOST_GOALS ≡ 64 }
+    ensures weight { MOST_WEIGHT ≡ 4000000 }
+{}
+
+/// A name is of one primitive at most, and a term is written for one ask and for one line at most.
+pub fn what_is_written_is_asked_once()
+    ensures primitive { (p q : Primitive) → primitive_name p ≡ primitive_name q → p ≡ q }
+    ensures ask { (a b : Ask) → ask_term a ≡ ask_term b → a ≡ b }
+    ensures line { (l m : Line) → line_term l ≡ line_term m → l ≡ m }
+{}
+
 /// A run in which every choice is the first is a run.
 pub fn first_run_is_run()
     ensures { (origin : Origin) (history : List Entry)
@@ -30,7 +58,8 @@ pub fn first_run_is_run()
 /// Each beginning of a run is a run, by the same choice.
 pub fn beginning_is_run()
     ensures { (choice : Choice) (origin : Origin) (before history : List Entry)
-        → IsPrefix before history → IsRunBy choice origin history → IsRunBy choice origin before }
+        → IsPrefix before history → IsRunBy choice origin history
+        → IsRunBy choice origin before }
 {}
 
 /// In a run the numbers of one agent rise.
@@ -65,8 +94,9 @@ pub fn replies_are_typed()
 
 /// A reply stays the same however the history goes on.
 pub fn reply_stays()
-    ensures { (before history : List Entry) (id : CallId) (reply : Reply) → IsPrefix before history
-        → reply_in before id ≡ Some reply → reply_in history id ≡ Some reply }
+    ensures { (before history : List Entry) (id : CallId) (reply : Reply)
+        → IsPrefix before history → reply_in before id ≡ Some reply
+        → reply_in history id ≡ Some reply }
 {}
 
 /// A history weighs what its parts weigh.

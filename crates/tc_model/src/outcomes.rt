@@ -35,7 +35,8 @@ pub enum Outcome {
     Pending,
     /// The text of the centre's clauses.
     Spec(Seq<u8>),
-    /// The reactions of the phase went over the budget. The tuple is the one that was chosen, if any.
+    /// The reactions of the phase went over the budget. The tuple is the one that was chosen, if
+    /// any.
     Over(Phase, Option<Ground>),
 }
 

@@ -1,5 +1,6 @@
 //! Reactions, and the list of them that programs a centre.
-ghost use Rattle.std.specs.Prelude.{◌≡◌, ◌<◌, ◌++◌, ◌∷◌, [], length, IfOk, OnOk, OnErr};
+ghost use Rattle.std.specs.Prelude.{◌≡◌, ◌<◌, ◌++◌, ◌∷◌, [], length, IfOk};
+ghost use Rattle.std.specs.Prelude.{OnOk, OnErr};
 
 use crate::events::EventOp;
 use crate::goals::Goal;
@@ -9,7 +10,8 @@ use std::marker::Model;
 use tc_lists::NoMemory;
 use tc_term::Term;
 
-/// A reaction: the clause `reaction(Head,Body)`, which runs its goals where an event meets its head.
+/// A reaction: the clause `reaction(Head,Body)`, which runs its goals where an event meets its
+/// head.
 ///
 /// Its variables are numbered by first appearance in the clause. It has 1 to 64 goals, and the text
 /// of its clause can be read back.
@@ -43,8 +45,10 @@ impl Reaction {
 
     /// The reaction to an operation's events whose term meets the head.
     pub fn new(vars: u32, op: EventOp, head: Term, goals: Vec<Goal>) -> Reaction
-        requires { IsRule (record { vars = vars; op = op; head = tree_of head; goals = goals.items }) }
-        ensures { result ≡ record { vars = vars; op = op; head = tree_of head; goals = goals.items } }
+        requires { IsRule
+            (record { vars = vars; op = op; head = tree_of head; goals = goals.items }) }
+        ensures { result
+            ≡ record { vars = vars; op = op; head = tree_of head; goals = goals.items } }
     {
         Reaction {
             vars,

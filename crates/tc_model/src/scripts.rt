@@ -4,7 +4,8 @@ ghost use Rattle.std.specs.Prelude.{◌≡◌};
 use crate::asks::Ask;
 use std::marker::Model;
 
-/// One item of a script: an ask, and the centre that it goes to, by its place among the centres, from 0.
+/// One item of a script: an ask, and the centre that it goes to, by its place among the centres,
+/// from 0.
 #[derive(Drop)]
 pub struct ScriptItem {
     pub centre: u32,

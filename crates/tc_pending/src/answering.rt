@@ -85,7 +85,7 @@ pub(crate) fn newly_answerable(waiters: &Waiters, bag: &Bag, known: Known) -> Op
 /// The place of the oldest request that can be answered, and the age of the oldest tuple that
 /// answers it, where none before `place` can be answered.
 pub fn answerable_from(
-    alloc: Global,
+    _alloc: Global,
     requests: &[Request],
     bag: &Bag,
     place: usize,
@@ -98,7 +98,7 @@ pub fn answerable_from(
         (NoneOf (IsAnswerable (tuples_of bag.now.now)) requests.now)) }
 {
     for at in place..requests.len() {
-        if let Some((age, _)) = oldest_match_of(alloc, &requests[at].template, bag)? {
+        if let Some((age, _)) = oldest_match_of(&requests[at].template, bag) {
             return Ok(Some((at, age)));
         }
     }

@@ -101,7 +101,7 @@ pub fn search(
     ensures adds { AddsYounger bag.old bag.new }
 {
     let op = search_op(takes);
-    let Some((age, tuple)) = oldest_match_of(alloc, template, bag)? else {
+    let Some((age, tuple)) = oldest_match_of(template, bag) else {
         let trigger = Trigger::Failure(op, template);
         let end = run_phase(alloc, store, regime, &trigger, &Change::Nothing, bag)?;
         return Ok((None, end));

@@ -9,7 +9,6 @@ ghost use Rattle.tc_bag.specs.Stock.{tuples_of};
 ghost use Rattle.tc_search.specs.Found.{IsFound};
 
 use crate::matching::does_match;
-use std::alloc::Global;
 use tc_bag::{Bag, Key, known_first};
 use tc_lists::NoMemory;
 use tc_term::{Ground, Pattern, Term};
@@ -56,21 +55,7 @@ pub fn oldest_match<'a>(
 /// The oldest tuple that the template matches, with its age.
 ///
 /// It takes no memory, however many tuples are tried.
-pub fn oldest_match_of<'a>(
-    _alloc: Global,
-    template: &Pattern,
-    bag: &'a Bag,
-) -> Result<Option<(u64, &'a Ground)>, NoMemory>
-    ensures found { IfOk result (λ found. IfSome found
-        (λ m. IsFound (var_bound template.now) [] template.now bag.now.now m.0 m.1.now)) }
-    ensures none { IfOk result (λ found. IfNone found
-        (NoneOf (Matches (var_bound template.now) [] template.now) (tuples_of bag.now.now))) }
-{
-    Ok(first_match(template, bag))
-}
-
-// The same, which can't fail.
-fn first_match<'a>(template: &Pattern, bag: &'a Bag) -> Option<(u64, &'a Ground)>
+pub fn oldest_match_of<'a>(template: &Pattern, bag: &'a Bag) -> Option<(u64, &'a Ground)>
     ensures found { IfSome result
         (λ m. IsFound (var_bound template.now) [] template.now bag.now.now m.0 m.1.now) }
     ensures none { IfNone result

@@ -68,7 +68,7 @@ fn tell(alloc: Global, bag: &Bag, step: &Term, into: &mut Vec<u8>) -> anyhow::Re
             None => into.extend_from_slice(b"none")?,
         },
         (b"oldest", [term]) => {
-            let found = oldest_match_of(alloc, &template_of(alloc, term)?, bag)?;
+            let found = oldest_match_of(&template_of(alloc, term)?, bag);
             append_age(found.map(|row| row.0), into)?;
         }
         (b"next", [term, Term::Int(from)]) => {

@@ -1,6 +1,5 @@
 use Rattle.std.proofs.Common.{sym, subst, arith}
 use Rattle.tc_bag.specs.Stock.{tuples_of}
-use Rattle.tc_lists.proofs.Options.{IfNone-at}
 use Rattle.tc_lists.specs.Firsts.{NoneOf}
 use Rattle.tc_model.specs.State.{IsMatch}
 use Rattle.tc_model.specs.declared.calls.Request.{Request}
@@ -12,7 +11,7 @@ loop-at-preserved c =
     none_further c.args.bag.now.now c.args.requests.now c.loop-at.at c.index-requests-at.result (omega (arith, c.loop-at-test.true))
     c.index-requests-at.is c.loop-at.invariant
     (subst (λ (q : Request). NoneOf (IsMatch q.template) (tuples_of c.args.bag.now.now)) (sym c.index-requests-at.is)
-    (IfNone-at _ c.in_ok-age.field-0 c.in_default.is c.in_ok-age.ensures.none))
+    c.in_default.ensures.none)
 
 pub returns-clause-none : goal.returns-clause-none
 returns-clause-none c =

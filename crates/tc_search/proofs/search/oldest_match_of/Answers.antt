@@ -9,7 +9,7 @@ use Rattle.tc_bag.specs.declared.key.Key.{Key}
 use Rattle.tc_bag.specs.Keys.{IsLike, key_of, known_first}
 use Rattle.tc_bag.specs.Stock.{Row}
 use Rattle.tc_search.proofs.Passing.{IsKey, candidate_below, passed_more, passed_all, passed_none, found_row, likes_agree, seen}
-use Rattle.tc_search.proofs.search.first_match.Goals as goal
+use Rattle.tc_search.proofs.search.oldest_match_of.Goals as goal
 
 -- what the template matches is a candidate
 likes : (template : Tree) (term : Tree) (key : Key) (first : Option (Bor Term)) (rows : List Row) → key ≡ key_of template → term ≡ template

@@ -2,7 +2,7 @@ use Rattle.std.proofs.Common.{◌-◌, []}
 use Rattle.tc_term.specs.Equations.{Matches}
 use Rattle.tc_term.specs.Variables.{var_bound}
 use Rattle.tc_search.proofs.Passing.{IsPassed}
-use Rattle.tc_search.proofs.search.first_match.Given as goal
+use Rattle.tc_search.proofs.search.oldest_match_of.Given as goal
 
 -- no row so far matches
 abbrev pub invariant-loop-age : goal.invariant-loop-age

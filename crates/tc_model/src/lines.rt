@@ -1,0 +1,116 @@
+//! What agents ask, read from terms.
+ghost use Rattle.std.specs.Prelude.{◌≡◌, ◌<◌, IfNone, IfSome, codes, length};
+ghost use Rattle.tc_term.specs.Tree.{Atomic, Compound};
+ghost use Rattle.tc_term.specs.TreeView.{tree_of, trees_of};
+ghost use Rattle.tc_model.specs.Asks.{primitive_name};
+ghost use Rattle.tc_model.specs.Reactions.{of_one, of_two};
+ghost use Rattle.tc_model.specs.Lines.{IsAsked, IsLined, ask_term, line_term};
+ghost use Rattle.tc_model.specs.declared.asks.Ask.{Ask};
+ghost use Rattle.tc_model.specs.declared.lines.Line.{Line};
+
+use crate::asks::{Ask, Primitive, primitive_of};
+use crate::parts::{atom_of, one_of, two_of};
+use tc_term::{Name, Term};
+
+/// What is asked, and the name of the centre where it is asked.
+#[derive(Drop)]
+pub struct Line {
+    pub centre: Name,
+    pub ask: Ask,
+}
+
+/// What is asked where this term is written, if anything is. What stands in it is moved, not
+/// copied.
+pub fn ask_of(t: Term) -> Option<Ask>
+    ensures some { IfSome result (λ ask. tree_of t ≡ ask_term ask) }
+    ensures none { IfNone result ((ask : Ask) → tree_of t ≡ ask_term ask → ⊥) }
+{
+    match t {
+        Term::Atom(name) => ask_alone(name),
+        Term::Comp(name, args) => ask_with(name, args.into_vec()),
+        Term::Var(_) | Term::Int(_) => None,
+    }
+}
+
+/// The line that is written as this term, if one is. What stands in it is moved, not copied.
+pub fn line_of(t: Term) -> Option<Line>
+    ensures some { IfSome result (λ line. tree_of t ≡ line_term line) }
+    ensures none { IfNone result ((line : Line) → tree_of t ≡ line_term line → ⊥) }
+{
+    match t {
+        Term::Comp(name, args) => line_with(name, args.into_vec()),
+        Term::Atom(_) | Term::Var(_) | Term::Int(_) => None,
+    }
+}
+
+// What is asked by a name alone.
+fn ask_alone(name: Name) -> Option<Ask>
+    ensures { IsAsked (Atomic name) result }
+{
+    if name.bytes() == Primitive::GetSpec.name() {
+        Some(Ask::GetSpec)
+    } else {
+        None
+    }
+}
+
+// What is asked by a name with arguments.
+fn ask_with(name: Name, args: Vec<Term>) -> Option<Ask>
+    requires { 0 < length args.items }
+    ensures { IsAsked (Compound name (trees_of args.items)) result }
+{
+    match one_of(args) {
+        Some(operand) => ask_on(name, operand),
+        None => None,
+    }
+}
+
+// What is asked by a name with an operand.
+fn ask_on(name: Name, operand: Term) -> Option<Ask>
+    ensures { IsAsked (of_one name (tree_of operand)) result }
+{
+    match primitive_of(name.bytes()) {
+        Some(primitive) => ask_for(primitive, operand),
+        None => None,
+    }
+}
+
+// What is asked by a primitive with an operand.
+fn ask_for(primitive: Primitive, operand: Term) -> Option<Ask>
+    ensures { IsAsked (of_one (primitive_name primitive) (tree_of operand)) result }
+{
+    match primitive {
+        Primitive::Out => Some(Ask::Out(operand)),
+        Primitive::In => Some(Ask::In(operand)),
+        Primitive::Rd => Some(Ask::Rd(operand)),
+        Primitive::Inp => Some(Ask::Inp(operand)),
+        Primitive::Rdp => Some(Ask::Rdp(operand)),
+        Primitive::SetSpec => Some(Ask::SetSpec(operand)),
+        Primitive::GetSpec => None,
+    }
+}
+
+// The line that the compound of this name with these arguments is, if it is one.
+fn line_with(name: Name, args: Vec<Term>) -> Option<Line>
+    requires { 0 < length args.items }
+    ensures { IsLined (Compound name (trees_of args.items)) result }
+{
+    if name.bytes() != b"?".as_slice() {
+        return None;
+    }
+    match two_of(args) {
+        Some((centre, ask)) => line_at(centre, ask),
+        None => None,
+    }
+}
+
+// The line that asks so much at a centre.
+fn line_at(centre: Term, ask: Term) -> Option<Line>
+    ensures { IsLined (of_two (codes "?") (tree_of centre) (tree_of ask)) result }
+{
+    let ask = ask_of(ask)?;
+    match atom_of(centre) {
+        Some(centre) => Some(Line { centre, ask }),
+        None => None,
+    }
+}
