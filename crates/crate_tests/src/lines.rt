@@ -2,7 +2,7 @@
 use std::alloc::Global;
 use std::test::Fail;
 use tc_desk::{LogResult, LogRow, Refusal};
-use tc_histtext::print_row;
+use tc_histtext::{Version, print_row};
 use tc_lists::NoMemory;
 use tc_model::Reply;
 use tc_term::Name;
@@ -15,7 +15,7 @@ fn row(alloc: Global, number: u64, outcome: LogResult, text: &mut Vec<u8>) -> Re
         ask: None,
         result: outcome,
     };
-    print_row(alloc, &row, text)
+    print_row(alloc, Version::One, &row, text)
 }
 
 const ROWS: &[u8] = b"3 c unknown centre

@@ -1,7 +1,6 @@
 pub mod Operations
 pub mod Filling
 pub mod Histories
-pub mod Texts
 pub mod Growing
 pub mod Fitting
 pub mod Logs

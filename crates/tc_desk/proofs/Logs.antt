@@ -1,13 +1,16 @@
 -- Logs, as rows are put behind them and as their last row gets its reply.
-use Rattle.std.proofs.Common.{◌≡◌, ℕ, zero, suc, ◌≤◌, true, false, ◌||◌, List, [], ◌∷◌, ◌++◌, Some, length, take, map, refl, sym, ap, ◌∙◌, arith, ⊎_elim}
+use Rattle.std.proofs.Common.{◌≡◌, ℕ, zero, suc, ◌≤◌, true, false, ◌||◌, List, [], ◌∷◌, ◌++◌, Some, length, take, map, get_or, set, refl, sym, ap, ◌∙◌, arith, ⊎_elim}
 use Rattle.std.specs.List.{slice_get}
 use Rattle.std.proofs.Math.Bool.{or-false}
 use Rattle.std.proofs.lemmas.Bool.{cases_Bool, false≢true, true≢false, or_parts, or_from}
-use Rattle.std.proofs.lemmas.List.{map-append, take-append-le, take_all, length-map}
+use Rattle.std.proofs.lemmas.List.{map-append, take-append-le, take_all, length-map, set_at}
 use Rattle.std.proofs.lemmas.List.Folds.{list_any-append}
-use Rattle.std.proofs.lemmas.Option.{none-some, same_Some}
+use Rattle.std.proofs.lemmas.Option.{none-some, same_Some, get_or_from_slice_get}
+use Rattle.tc_lists.proofs.Places.{slice_get_seam}
+use Rattle.tc_desk.specs.Desks.{replied}
 use Rattle.tc_desk.specs.Logs.{any_pending, is_pending, results_of}
 use Rattle.tc_desk.specs.declared.rows.LogRow.{LogRow}
+use Rattle.tc_model.specs.declared.outcomes.Reply.{Reply}
 use Rattle.tc_desk.specs.declared.rows.LogResult.{LogResult}
 use Rattle.tc_desk.specs.declared.rows.LogResult.TheVariants.{Replied, Pending, Refused, Polled}
 
@@ -56,3 +59,13 @@ any_pending-front (r ∷ rs) more last =
     (λ (no : is_pending r.result ≡ false). no) (cases_Bool (is_pending r.result)) in
     or_from (is_pending r.result) (any_pending rs) here
     (any_pending-front rs more (λ k row at pending. let h = last (suc k) row at pending in omega (arith, h)))
+
+-- a write of a row with its reply
+pub put-set : (log front : List LogRow) (row x : LogRow) (back : List LogRow) (reply : Reply) (place : ℕ) → log ≡ front ++ row ∷ back → place ≡ length front
+    → x ≡ get_or log place x → set log place (replied x reply) ≡ front ++ replied row reply ∷ back
+put-set log front row x back reply place from here value =
+    let is : x ≡ row =
+    value ∙ ap (λ l. get_or l place x) from ∙ ap (λ k. get_or (front ++ row ∷ back) k x) here
+    ∙ get_or_from_slice_get (front ++ row ∷ back) (length front) row x (slice_get_seam front row back) in
+    ap (λ l. set l place (replied x reply)) from ∙ set_at front row back (replied x reply) place (sym here)
+    ∙ ap (λ r. front ++ replied r reply ∷ back) is

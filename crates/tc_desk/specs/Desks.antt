@@ -1,7 +1,7 @@
 -- What contracts see of a desk, and what its calls do to it.
 use Rattle.std.specs.Prelude.{◌≡◌, ◌≢◌, ℕ, ◌+◌, ◌≤◌, List, [], ◌∷◌}
 use Rattle.std.specs.Prelude.{◌++◌, Bool, true, false, Option, Some, None}
-use Rattle.std.specs.Prelude.{◌⊎◌, length, slice_index, slice_get, Contains, Ok, Err}
+use Rattle.std.specs.Prelude.{◌⊎◌, length, slice_index, slice_get, Contains, Ok, Err, MatchResult}
 use Rattle.std.specs.declared.result.Result.{Result}
 use Rattle.tc_model.specs.declared.asks.Ask.{Ask}
 use Rattle.tc_model.specs.declared.calls.Op.{Op}
@@ -154,9 +154,20 @@ pub record Refuses (d : DeskState) (centre : List ℕ) (ask : Ask) (why : Refusa
   pub log : e.log ≡ refused_log d.log centre ask why
   pub waits : e.waits ≡ d.waits
 
+-- what came of a call at the centre of this name: it was served, or refused
+abbrev pub Calls : DeskState → List ℕ → Ask → Result Served Refusal → DeskState → Type 0
+Calls d centre ask result e =
+    MatchResult result (λ how. Makes d centre ask how e) (λ why. Refuses d centre ask why e)
+
 -- the row with this reply
 abbrev pub replied : LogRow → Reply → LogRow
 replied row reply = record row { result = Replied reply }
+
+-- the log with this reply in the row at a place
+abbrev pub PutsReply : List LogRow → ℕ → Reply → List LogRow → Type 0
+PutsReply log place reply after = (front : List LogRow) (row : LogRow) (back : List LogRow)
+    → log ≡ front ++ row ∷ back → place ≡ length front
+    → after ≡ front ++ replied row reply ∷ back
 
 -- the log after its pending row has got this reply, which fits its ask; no other row was pending
 pub record IsRowAnswered (before : List LogRow) (reply : Reply) (after : List LogRow) : Type 0 where

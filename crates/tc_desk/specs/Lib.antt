@@ -2,7 +2,6 @@ pub mod Logs
 pub mod Operands
 pub mod Asks
 pub mod Served
-pub mod Text
 pub mod Decided
 pub mod Fits
 pub mod Typed

@@ -1,4 +1,4 @@
-//! What holds of asks, of rows and of their text, for callers to cite.
+//! What holds of asks and of rows, for callers to cite.
 ghost use Rattle.std.specs.Prelude.{◌≡◌, ◌<◌, ◌++◌, ◌∷◌, [], ℕ, None, List, All, length};
 ghost use Rattle.tc_model.specs.Asks.{primitive_of};
 ghost use Rattle.tc_model.specs.Calls.{id_of, calls_of};
@@ -16,8 +16,6 @@ ghost use Rattle.tc_desk.specs.Desks.{replied};
 ghost use Rattle.tc_desk.specs.Fits.{FitsAsk};
 ghost use Rattle.tc_desk.specs.Operands.{Operand, OpOf};
 ghost use Rattle.tc_desk.specs.Served.{IsServedAs};
-ghost use Rattle.tc_desk.specs.Text.{Version, agent_heading, centre_heading, entry_text, histories_text};
-ghost use Rattle.tc_desk.specs.Text.{history_text, log_text, logs_text, row_text};
 ghost use Rattle.tc_desk.specs.declared.rows.LogResult.{LogResult};
 ghost use Rattle.tc_desk.specs.declared.rows.LogResult.TheVariants.{Pending, Replied};
 ghost use Rattle.tc_desk.specs.declared.rows.LogRow.{LogRow};
@@ -80,26 +78,4 @@ pub fn logs_go_on_agreeing()
         → Agrees origins names histories agent (front ++ row ∷ back)
         → HasReply names histories agent (length front) row reply
         → Agrees origins names histories agent (front ++ replied row reply ∷ back) }
-{}
-
-/// The text of histories goes on with a heading, and then with one entry after another; and so does
-/// that of logs, with rows.
-pub fn text_grows_by_parts()
-    ensures history { (agents : List (List ℕ)) (name : List ℕ)
-        → history_text agents name [] ≡ centre_heading name }
-    ensures entry { (agents : List (List ℕ)) (name : List ℕ) (history : List Entry) (e : Entry)
-        → history_text agents name (history ++ e ∷ [])
-        ≡ history_text agents name history ++ entry_text agents e }
-    ensures histories { (agents names : List (List ℕ)) (histories : List (List Entry))
-        (name : List ℕ) (history : List Entry) → length names ≡ length histories
-        → histories_text agents (names ++ name ∷ []) (histories ++ history ∷ [])
-        ≡ histories_text agents names histories ++ history_text agents name history }
-
-    ensures log { (v : Version) (name : List ℕ) → log_text v name [] ≡ agent_heading name }
-    ensures row { (v : Version) (name : List ℕ) (log : List LogRow) (r : LogRow)
-        → log_text v name (log ++ r ∷ []) ≡ log_text v name log ++ row_text v r }
-    ensures logs { (v : Version) (names : List (List ℕ)) (logs : List (List LogRow)) (name : List ℕ)
-        (log : List LogRow) → length names ≡ length logs
-        → logs_text v (names ++ name ∷ []) (logs ++ log ∷ [])
-        ≡ logs_text v names logs ++ log_text v name log }
 {}

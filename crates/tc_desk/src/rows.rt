@@ -1,5 +1,6 @@
-//! The rows of an agent's log.
-ghost use Rattle.std.specs.Prelude.{◌≡◌};
+//! The rows of an agent's log, and what is done to a log.
+ghost use Rattle.std.specs.Prelude.{◌≡◌, ◌<◌, vec_len, vec_capacity};
+ghost use Rattle.tc_desk.specs.Desks.{PutsReply, with_row};
 ghost use Rattle.tc_desk.specs.Logs.{any_pending, is_pending};
 
 use tc_model::{Ask, BadSpec, Reply};
@@ -60,19 +61,54 @@ pub struct LogRow {
     pub result: LogResult,
 }
 
+impl LogRow {
+    /// Whether the row's ask waits for a tuple.
+    pub fn is_pending(&self) -> bool
+        ensures { result ≡ is_pending self.now.result }
+    {
+        match self.result {
+            LogResult::Pending => true,
+            LogResult::Replied(_) | LogResult::Refused(_) | LogResult::Polled(_) => false,
+        }
+    }
+}
+
 /// Whether some row is pending.
 pub fn has_pending(log: &[LogRow]) -> bool
     ensures { result ≡ any_pending log.now }
 {
-    log.iter().any(|row| row_is_pending(row))
+    log.iter().any(|row| row.is_pending())
 }
 
-// Whether the row is pending.
-fn row_is_pending(row: &LogRow) -> bool
-    ensures { result ≡ is_pending row.now.result }
+/// Puts a row behind the others, with the next number. There is room.
+pub fn push_row(log: &mut Vec<LogRow>, centre: Name, ask: Option<Ask>, became: LogResult)
+    requires { vec_len log.old < vec_capacity log.old }
+    ensures { log.new.items ≡ with_row log.old.items centre ask became }
 {
-    match row.result {
-        LogResult::Pending => true,
-        LogResult::Replied(_) | LogResult::Refused(_) | LogResult::Polled(_) => false,
+    let number = log.len() as u64 + 1;
+    let row = LogRow {
+        number,
+        centre,
+        ask,
+        result: became,
+    };
+    match log.push(row) {
+        Ok(()) => {}
+        Err(_) => unreachable!(),
     }
+}
+
+/// Puts the reply into the row at this place, from 0.
+pub fn put_reply(log: &mut Vec<LogRow>, place: usize, reply: Reply)
+    requires { place < vec_len log.old }
+    ensures { PutsReply log.old.items place reply log.new.items }
+{
+    answer(&mut log[place], reply);
+}
+
+// Puts the reply into the row.
+fn answer(row: &mut LogRow, reply: Reply)
+    ensures { row.new ≡ record row.old { result = LogResult.Replied reply } }
+{
+    row.result = LogResult::Replied(reply);
 }

@@ -1,6 +1,6 @@
 -- The text of a heading.
 use Rattle.std.specs.Prelude.{ℕ, List}
-use Rattle.tc_desk.specs.Text.{agent_heading, centre_heading}
+use Rattle.tc_histtext.specs.Text.{agent_heading, centre_heading}
 use Rattle.tc_histtext.specs.declared.headings.Heading.{Heading}
 use Rattle.tc_histtext.specs.declared.headings.Heading.TheVariants.{Centre, Agent}
 

@@ -1,14 +1,26 @@
 //! Outcomes and replies as text.
-ghost use Rattle.std.specs.Prelude.{◌≡◌, ◌++◌, OnOk, codes};
+ghost use Rattle.std.specs.Prelude.{◌≡◌, ◌++◌, OnErr, OnOk, codes};
 ghost use mathlib.Core.List.{IsPrefix};
 ghost use Rattle.tc_term.specs.Text.{canonical, quoted};
-ghost use Rattle.tc_desk.specs.Text.{chosen_text, outcome_text, over_text, reply_text, told_text};
+ghost use Rattle.tc_histtext.specs.Text.{chosen_text, outcome_text, over_text, reply_text, told_text};
 
 use std::alloc::Global;
-use tc_lists::NoMemory;
+use tc_lists::{NoMemory, cut_back};
 use tc_model::{Outcome, Phase, Reply};
 use tc_print::{print_quoted, print_term};
 use tc_term::Ground;
+
+/// Appends a reply, as it stands in the line of its row.
+///
+/// Takes time linear in the length of the text.
+pub fn print_reply(alloc: Global, reply: &Reply, into: &mut Vec<u8>) -> Result<(), NoMemory>
+    ensures appended { OnOk result (into.new.items ≡ into.old.items ++ reply_text reply.now) }
+    ensures same { OnErr result (into.new.items ≡ into.old.items) }
+{
+    let before = into.len();
+    let written = write_reply(alloc, reply, into);
+    cut_back(written, before, into)
+}
 
 // Appends the outcome of an entry.
 pub(crate) fn write_outcome(

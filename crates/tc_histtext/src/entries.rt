@@ -3,7 +3,7 @@ ghost use Rattle.std.specs.Prelude.{◌≡◌, ◌<◌, ◌++◌, OnErr, OnOk, c
 ghost use mathlib.Core.List.{IsPrefix};
 ghost use Rattle.tc_lists.specs.Texts.{joined};
 ghost use Rattle.tc_model.specs.Calls.{id_of};
-ghost use Rattle.tc_desk.specs.Text.{call_text, entry_text, items_text, op_text, outcome_text, told_text};
+ghost use Rattle.tc_histtext.specs.Text.{call_text, entry_text, items_text, op_text, outcome_text, told_text};
 
 use crate::answers::{write_outcome, write_told};
 use crate::items::write_items;

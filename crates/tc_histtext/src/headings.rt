@@ -1,9 +1,10 @@
 //! The lines between: the first, the headings of histories and logs, and the last.
 ghost use Rattle.std.specs.Prelude.{◌≡◌, ◌++◌, OnErr, OnOk};
 ghost use mathlib.Core.List.{IsPrefix};
-ghost use Rattle.tc_desk.specs.Text.{One, end_text, version_text};
+ghost use Rattle.tc_histtext.specs.Text.{end_text, version_text};
 ghost use Rattle.tc_histtext.specs.Headings.{heading_text};
 
+use crate::versions::Version;
 use std::alloc::Global;
 use tc_lists::{NoMemory, cut_back};
 use tc_print::print_name;
@@ -17,11 +18,14 @@ pub enum Heading {
 }
 
 /// Appends the first line, which says the version of the text.
-pub fn print_version(into: &mut Vec<u8>) -> Result<(), NoMemory>
-    ensures appended { OnOk result (into.new.items ≡ into.old.items ++ version_text One) }
+pub fn print_version(version: Version, into: &mut Vec<u8>) -> Result<(), NoMemory>
+    ensures appended { OnOk result (into.new.items ≡ into.old.items ++ version_text version) }
     ensures same { OnErr result (into.new.items ≡ into.old.items) }
 {
-    into.extend_from_slice(b"tucson 1\n")
+    match version {
+        Version::One => into.extend_from_slice(b"tucson 1\n"),
+        Version::Two => into.extend_from_slice(b"tucson 2\n"),
+    }
 }
 
 /// Appends the line before the history of a centre, or the log of an agent, of this name.

@@ -2,7 +2,7 @@
 ghost use Rattle.std.specs.Prelude.{◌≡◌, ◌++◌, OnOk, codes, decimal, ◌∷◌, []};
 ghost use mathlib.Core.List.{IsPrefix};
 ghost use Rattle.tc_lists.specs.Texts.{joined};
-ghost use Rattle.tc_desk.specs.Text.{effect_text, effects_text, item_text, items_text};
+ghost use Rattle.tc_histtext.specs.Text.{effect_text, effects_text, item_text, items_text};
 
 use crate::answers::write_tuple;
 use std::alloc::Global;

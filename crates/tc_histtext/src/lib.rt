@@ -1,19 +1,19 @@
 //! The text of histories and logs, line by line: headings, entries with their reactions, and rows.
 //!
-//! What is appended is the text that tc_desk defines, in its first version. After want of memory the
-//! lent text is as before. The parts, one behind another, are the text of a run, so a caller may write
-//! it away in pieces as it grows.
+//! What a text is, specs/Text defines, by version. After want of memory the lent text is as before. The
+//! parts, one behind another, are the text of a run, so a caller may write it away in pieces as it grows.
+//! An operation, a reply, a result and a refusal can be printed alone too.
 //!
 //! ```
 //! let mut text = Vec::new(alloc);
-//! print_version(&mut text)?;
+//! print_version(Version::One, &mut text)?;
 //! print_heading(alloc, Heading::Centre, core.name(), &mut text)?;
 //! for entry in core.history() {
 //!     print_entry(alloc, core.agents(), entry, &mut text)?; // call a 1 out(p(1)) = done
 //! }
 //! print_heading(alloc, Heading::Agent, &agent, &mut text)?;
 //! for row in log {
-//!     print_row(alloc, row, &mut text)?; // 1 c done
+//!     print_row(alloc, Version::One, row, &mut text)?; // 1 c done
 //! }
 //! print_end(false, &mut text)?;
 //! ```
@@ -26,11 +26,15 @@ mod items;
 mod laws;
 mod operations;
 mod rows;
+mod versions;
 
+pub use answers::print_reply;
 pub use entries::print_entry;
 pub use headings::{Heading, print_end, print_heading, print_version};
-pub use laws::entries_of_runs_have_agents;
-pub use rows::print_row;
+pub use laws::{entries_of_runs_have_agents, text_grows_by_parts};
+pub use operations::print_op;
+pub use rows::{print_refusal, print_result, print_row};
+pub use versions::Version;
 
 /// Memory has run out.
 pub use tc_lists::NoMemory;

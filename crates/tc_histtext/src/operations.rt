@@ -1,16 +1,28 @@
 //! Operations as text.
-ghost use Rattle.std.specs.Prelude.{◌≡◌, ◌++◌, OnOk};
+ghost use Rattle.std.specs.Prelude.{◌≡◌, ◌++◌, OnErr, OnOk};
 ghost use mathlib.Core.List.{IsPrefix};
 ghost use Rattle.tc_term.specs.Tree.{Fits};
 ghost use Rattle.tc_term.specs.TreeView.{tree_of};
-ghost use Rattle.tc_desk.specs.Text.{bracketed, op_text};
+ghost use Rattle.tc_histtext.specs.Text.{bracketed, op_text};
 
 use std::alloc::Global;
-use tc_lists::NoMemory;
+use tc_lists::{NoMemory, cut_back};
 use tc_model::{Clauses, Op};
 use tc_print::{print_quoted, print_term};
 use tc_spec::print_spec;
 use tc_term::Term;
+
+/// Appends an operation, as it stands in the line of its entry.
+///
+/// Takes time linear in the length of the text.
+pub fn print_op(alloc: Global, op: &Op, into: &mut Vec<u8>) -> Result<(), NoMemory>
+    ensures appended { OnOk result (into.new.items ≡ into.old.items ++ op_text op.now) }
+    ensures same { OnErr result (into.new.items ≡ into.old.items) }
+{
+    let before = into.len();
+    let written = write_op(alloc, op, into);
+    cut_back(written, before, into)
+}
 
 // Appends an operation.
 pub(crate) fn write_op(alloc: Global, op: &Op, into: &mut Vec<u8>) -> Result<(), NoMemory>

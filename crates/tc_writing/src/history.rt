@@ -1,15 +1,18 @@
 //! Histories and logs, handed on line by line.
 ghost use Rattle.std.specs.Prelude.{◌≡◌, ◌<◌, [], All, OnOk, length};
 ghost use Rattle.tc_model.specs.Calls.{id_of};
-ghost use Rattle.tc_desk.specs.Text.{One, end_text, entry_text, history_text};
-ghost use Rattle.tc_desk.specs.Text.{log_text, row_text, version_text};
+ghost use Rattle.tc_histtext.specs.Text.{end_text, entry_text, history_text};
+ghost use Rattle.tc_histtext.specs.declared.versions.Version.TheVariants.{One};
+ghost use Rattle.tc_histtext.specs.Text.{log_text, row_text, version_text};
 ghost use Rattle.tc_histtext.specs.Headings.{heading_text};
 ghost use Rattle.tc_io.specs.Flow.{HandsOn, flow};
 
 use crate::pieces::spill;
 use std::alloc::Global;
 use tc_desk::LogRow;
-use tc_histtext::{Heading, print_end, print_entry, print_heading, print_row, print_version};
+use tc_histtext::{
+    Heading, Version, print_end, print_entry, print_heading, print_row, print_version,
+};
 use tc_io::{Sink, SinkFault, write_kept};
 use tc_model::Entry;
 use tc_term::Name;
@@ -21,7 +24,7 @@ pub fn write_version<K: Sink>(sink: &mut K, kept: &mut Vec<u8>) -> Result<(), Si
         (flow K.taken K.write_faults K.sure sink.old kept.old.items)
         (flow K.taken K.write_faults K.sure sink.new kept.new.items) result }
 {
-    print_version(kept)?;
+    print_version(Version::One, kept)?;
     spill(sink, kept)
 }
 
@@ -124,6 +127,6 @@ fn write_row<K: Sink>(
         (flow K.taken K.write_faults K.sure sink.old kept.old.items)
         (flow K.taken K.write_faults K.sure sink.new kept.new.items) result }
 {
-    print_row(alloc, row, kept)?;
+    print_row(alloc, Version::One, row, kept)?;
     spill(sink, kept)
 }

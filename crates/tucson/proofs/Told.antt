@@ -7,7 +7,8 @@ use Rattle.tc_io.specs.declared.sinks.SinkFault.TheVariants as fault
 use Rattle.tc_model.specs.Choices.{TheFirst}
 use Rattle.tc_model.specs.declared.entries.Entry.{Entry}
 use Rattle.tc_desk.specs.Logs.{is_blocked}
-use Rattle.tc_desk.specs.Text.{One, run_text}
+use Rattle.tc_histtext.specs.Text.{run_text}
+use Rattle.tc_histtext.specs.declared.versions.Version.TheVariants.{One}
 use Rattle.tc_desk.specs.declared.rows.LogRow.{LogRow}
 use Rattle.tc_config.specs.Configurations.{Configuration, agent_names, centre_names}
 use Rattle.tc_config.specs.Good.{IsGood}

@@ -1,5 +1,5 @@
 use Rattle.std.proofs.Common.{◌≡◌, ◌++◌, take}
-use Rattle.tc_desk.specs.Text.{effects_text}
+use Rattle.tc_histtext.specs.Text.{effects_text}
 use Rattle.tc_histtext.proofs.items.write_effects.Given as goal
 
 -- the effects so far are written

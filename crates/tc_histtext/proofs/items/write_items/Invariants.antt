@@ -1,5 +1,5 @@
 use Rattle.std.proofs.Common.{◌≡◌, ◌++◌, take}
-use Rattle.tc_desk.specs.Text.{items_text}
+use Rattle.tc_histtext.specs.Text.{items_text}
 use Rattle.tc_histtext.proofs.items.write_items.Given as goal
 
 -- the reactions so far are written

@@ -1,6 +1,6 @@
 use Rattle.std.proofs.Common.{◌≡◌, Err, rules, arith}
 use Rattle.std.specs.List.{flat_map}
-use Rattle.tc_desk.specs.Text.{centre_heading, entry_text}
+use Rattle.tc_histtext.specs.Text.{centre_heading, entry_text}
 use Rattle.tc_io.proofs.Flows.{amid}
 use Rattle.tc_writing.proofs.Lines.{all-handed, heading-handed, line-amid, line-handed}
 use Rattle.tc_writing.proofs.history.write_history.Goals as goal

@@ -1,6 +1,7 @@
 use Rattle.std.proofs.Common.{◌≡◌, Err, rules, arith}
 use Rattle.std.specs.List.{flat_map}
-use Rattle.tc_desk.specs.Text.{One, agent_heading, row_text}
+use Rattle.tc_histtext.specs.Text.{agent_heading, row_text}
+use Rattle.tc_histtext.specs.declared.versions.Version.TheVariants.{One}
 use Rattle.tc_io.proofs.Flows.{amid}
 use Rattle.tc_writing.proofs.Lines.{all-handed, heading-handed, line-amid, line-handed}
 use Rattle.tc_writing.proofs.history.write_log.Goals as goal

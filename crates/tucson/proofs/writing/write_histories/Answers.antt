@@ -1,6 +1,6 @@
 use Rattle.std.proofs.Common.{◌≡◌, ◌∙◌, ◌<◌, ◌≤◌, Err, Ok, length, get_or, sym, ap, rules, arith}
 use Rattle.tc_config.specs.Configurations.{agent_names, centre_names}
-use Rattle.tc_desk.specs.Text.{history_text}
+use Rattle.tc_histtext.specs.Text.{history_text}
 use Rattle.tc_runner.specs.Cores.{histories}
 use Rattle.tucson.proofs.Zipped.{histories-zipped, part-amid, part-handed, parts-handed, text_is}
 use Rattle.tucson.proofs.writing.write_histories.Goals as goal

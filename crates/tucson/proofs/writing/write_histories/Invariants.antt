@@ -1,6 +1,6 @@
 use Rattle.std.proofs.Common.{Ok}
 use Rattle.tc_config.specs.Configurations.{agent_names, centre_names}
-use Rattle.tc_desk.specs.Text.{history_text}
+use Rattle.tc_histtext.specs.Text.{history_text}
 use Rattle.tc_runner.specs.Cores.{histories}
 use Rattle.tc_io.specs.Flow.{HandsOn, flow}
 use Rattle.tucson.proofs.Zipped.{first}

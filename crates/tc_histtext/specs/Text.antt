@@ -29,11 +29,8 @@ use Rattle.tc_desk.specs.declared.rows.LogResult.{LogResult}
 use Rattle.tc_desk.specs.declared.rows.LogResult.TheVariants.{Replied, Pending, Refused, Polled}
 use Rattle.tc_desk.specs.declared.rows.Refusal.{Refusal}
 use Rattle.tc_desk.specs.declared.rows.Refusal.TheVariants as refusal
-
--- the versions of the text
-pub data Version : Type 0 where
-  One : Version
-  Two : Version
+use Rattle.tc_histtext.specs.declared.versions.Version.{Version}
+use Rattle.tc_histtext.specs.declared.versions.Version.TheVariants.{One, Two}
 
 -- a word, and a term in brackets
 abbrev pub bracketed : List ℕ → Tree → List ℕ
@@ -159,12 +156,24 @@ result_text v Pending = codes "pending"
 result_text v (Refused why) = refusal_text v why
 result_text v (Polled told) = codes "poll " ++ told_text told
 
--- the line of a row: its number, the centre, and what became of the ask
-abbrev pub row_text : Version → LogRow → List ℕ
-row_text v row =
+-- what a line says of a row: all of it but the ask
+pub record LogLine : Type 0 where
+  pub number : ℕ
+  pub centre : List ℕ
+  pub result : LogResult
+
+abbrev pub line_of : LogRow → LogLine
+line_of row = record { number = row.number; centre = row.centre; result = row.result }
+
+-- a line of a log: the row's number, the centre, and what became of the ask
+abbrev pub line_text : Version → LogLine → List ℕ
+line_text v line =
     joined (
-    decimal row.number ∷ codes " " ∷ atom_text row.centre ∷ codes " " ∷ result_text v row.result ∷
+    decimal line.number ∷ codes " " ∷ atom_text line.centre ∷ codes " " ∷ result_text v line.result ∷
     codes "\n" ∷ [])
+
+abbrev pub row_text : Version → LogRow → List ℕ
+row_text v row = line_text v (line_of row)
 
 -- the line before a centre's history, and the one before an agent's log
 abbrev pub centre_heading : List ℕ → List ℕ

@@ -1,5 +1,5 @@
-use Rattle.tc_desk.proofs.Texts.{history_text-push, histories_text-push, log_text-push, logs_text-push}
-use Rattle.tc_desk.proofs.laws.text_grows_by_parts.Goals as goal
+use Rattle.tc_histtext.proofs.Texts.{history_text-push, histories_text-push, log_text-push, logs_text-push}
+use Rattle.tc_histtext.proofs.laws.text_grows_by_parts.Goals as goal
 
 pub returns-clause-entry : goal.returns-clause-entry
 returns-clause-entry c = history_text-push
