@@ -1,0 +1,4 @@
+pub mod Asking
+pub mod Cuts
+pub mod Filling
+pub mod Unique

@@ -1,0 +1,19 @@
+//! Connections over TCP from programs on the same machine.
+//!
+//! Nothing is told of the bytes: what the process is connected to is trusted.
+//!
+//! ```
+//! let mut door = TcpDoor::new(&rt);
+//! door.listen(7000)?;
+//! let mut link = door.accept()?;
+//! write_all(&mut link, b"done\n")?;
+//! ```
+#![tactic(auto)]
+
+mod closing;
+mod door;
+mod link;
+mod tries;
+
+pub use door::TcpDoor;
+pub use link::TcpLink;
