@@ -1,6 +1,6 @@
 //! One measurement: so many threads make turns, at the turnstile or under a `Mutex`, or sleep.
 ghost use Rattle.std.specs.Prelude.{◌≡◌, ◌<◌, false};
-ghost use Rattle.tc_turn.specs.Passes.{IsPassOf};
+ghost use Rattle.tc_turn.specs.Passes.{IsPassOfTurnstile};
 
 use crate::tally::Tally;
 use std::alloc::Global;
@@ -28,9 +28,9 @@ pub struct Measured {
 }
 
 fn take_turn<R: Wait>(rt: &R, turnstile: &Turnstile<Tally>, pass: &mut Pass<Tally>, rounds: u32)
-    requires own { IsPassOf turnstile.now pass.old }
+    requires own { IsPassOfTurnstile turnstile.now pass.old }
     requires free { pass.old.holds ≡ false }
-    ensures own { IsPassOf turnstile.now pass.new }
+    ensures own { IsPassOfTurnstile turnstile.now pass.new }
     ensures free { pass.new.holds ≡ false }
 {
     let Ok(mut held) = turnstile.enter(rt, pass) else {
@@ -42,7 +42,7 @@ fn take_turn<R: Wait>(rt: &R, turnstile: &Turnstile<Tally>, pass: &mut Pass<Tall
 
 // The load's turns with one pass.
 fn take_turns<R: Wait>(rt: &R, turnstile: &Turnstile<Tally>, pass: &mut Pass<Tally>, load: &Load)
-    requires own { IsPassOf turnstile.now pass.old }
+    requires own { IsPassOfTurnstile turnstile.now pass.old }
     requires free { pass.old.holds ≡ false }
 {
     for _ in 0..load.turns {
@@ -52,7 +52,7 @@ fn take_turns<R: Wait>(rt: &R, turnstile: &Turnstile<Tally>, pass: &mut Pass<Tal
 
 // How many turns were made, read in one more turn.
 fn turns_made<R: Wait>(rt: &R, turnstile: &Turnstile<Tally>, pass: &mut Pass<Tally>) -> u64
-    requires own { IsPassOf turnstile.now pass.old }
+    requires own { IsPassOfTurnstile turnstile.now pass.old }
     requires free { pass.old.holds ≡ false }
 {
     let Ok(held) = turnstile.enter(rt, pass) else {
@@ -106,7 +106,7 @@ pub fn at_turnstile<R: Threads + Wait + Clock + CpuClock + Sync>(
         passes.as_mut_slice(),
         threads,
         &|_, pass: &mut Pass<Tally>|
-            requires { IsPassOf turnstile.now pass.old × (pass.old.holds ≡ false) }
+            requires { IsPassOfTurnstile turnstile.now pass.old × (pass.old.holds ≡ false) }
         { take_turns(rt, turnstile, pass, load) },
     );
     let end = Moment::now(rt)?;

@@ -1,9 +1,7 @@
 -- Each body has an outcome.
-use Rattle.std.proofs.Common.{◌≡◌, ◌+◌, ℕ, zero, suc, List, [], ◌∷◌, All, Some, take, refl, ap}
+use Rattle.std.proofs.Common.{◌≡◌, ◌+◌, ℕ, zero, suc, List, [], ◌∷◌, Some, take, refl}
 use Rattle.std.specs.List.{slice_get}
-use Rattle.std.proofs.lemmas.List.Elements.{All-nil, All-cons}
-use Rattle.tc_lists.specs.Firsts.{NoneOf, IsFirst}
-use Rattle.tc_lists.proofs.Firsts.{NoneOf-from_All, All-from_NoneOf}
+use Rattle.tc_lists.proofs.Firsts.{NoneOf-from_All, none_first}
 use Rattle.tc_term.specs.Tree.{Tree}
 use Rattle.tc_term.specs.TreeView.{tree_of}
 use Rattle.tc_model.specs.Choices.{TheFirst, AnyOne}
@@ -17,21 +15,6 @@ use Rattle.tc_model.specs.declared.goals.Goal.TheVariants.{Success, Failure, Tru
 use Rattle.tc_model.specs.declared.goals.Goal.TheVariants.{Centre, Operation, Tuple, Equal}
 use Rattle.tc_model.specs.declared.goals.Goal.TheVariants.{Differ, Is, Compare}
 use Rattle.tc_model.specs.declared.items.Effect.{Effect}
-
--- where no element is the first with a property, none has it
-none_first : {X : Type 0} (P : X → Type 0) (xs : List X) → ((x : X) → IsFirst P xs x → ⊥) → All (λ x. P x → ⊥) xs
-none_first P [] none = All-nil (λ x. P x → ⊥)
-none_first P (x ∷ xs) none =
-    let never : P x → ⊥ = λ has. none x (record { before = []; behind = xs; split = refl; has = has; none = NoneOf-from_All P [] (All-nil (λ y. P y → ⊥)) }) in
-    All-cons (λ y. P y → ⊥) x xs never
-    (none_first P xs (λ y first. none y (record {
-      before = x ∷ first.before;
-      behind = first.behind;
-      split = ap (λ ys. x ∷ ys) first.split;
-      has = first.has;
-      none = NoneOf-from_All P (x ∷ first.before)
-          (All-cons (λ z. P z → ⊥) x first.before never (All-from_NoneOf P first.before first.none));
-    })))
 
 module _ (scene : Scene) where
   -- a goal that has no step by the first tuple has none by any

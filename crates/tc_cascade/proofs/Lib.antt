@@ -2,4 +2,4 @@ pub mod Triggering
 pub mod Waves
 pub mod Passing
 pub mod Keeping
-mod Endings
+pub mod Endings

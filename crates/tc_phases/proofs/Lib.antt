@@ -1,2 +1,3 @@
 mod Unused
 mod Removals
+mod Outcomes

@@ -13,10 +13,12 @@
 //! ```
 #![tactic(auto)]
 
+mod laws;
 mod phases;
 mod regime;
 mod running;
 
+pub use laws::operation_has_an_outcome;
 pub use phases::{answer, put, request, search};
 pub use regime::Regime;
 pub use tc_lists::NoMemory;

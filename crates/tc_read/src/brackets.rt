@@ -5,7 +5,7 @@ ghost use Rattle.tc_term.specs.Limits.{most_brackets};
 ghost use Rattle.tc_read.specs.Lexemes.{lexeme_view};
 
 use crate::lexeme::{Lexeme, Mark};
-use tc_term::MAX_BRACKETS;
+use tc_term::MOST_BRACKETS;
 
 /// The brackets that are open, until they are too many at some place.
 #[derive(Drop)]
@@ -47,7 +47,7 @@ impl Brackets {
         ensures { (n most : ℕ) → CountsTo self.old n most → CountsTo self.new (n + 1)
             (max most (n + 1)) }
     {
-        if self.count == MAX_BRACKETS {
+        if self.count == MOST_BRACKETS {
             self.too_many = true;
         } else {
             self.count += 1;

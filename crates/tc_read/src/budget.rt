@@ -2,7 +2,7 @@
 ghost use Rattle.std.specs.Prelude.{◌≡◌};
 ghost use Rattle.tc_read.specs.Budget.{numbered, paid, whole};
 
-use tc_term::{MAX_VARIABLES, Room};
+use tc_term::{MOST_VARIABLES, Room};
 
 /// The room that is left for nodes and names, and how many variables have come.
 #[derive(Clone, Copy)]
@@ -42,7 +42,7 @@ impl Budget {
     pub fn numbered(self, number: usize) -> Option<Budget>
         ensures { result ≡ numbered number self }
     {
-        if number >= MAX_VARIABLES || number > self.variables {
+        if number >= MOST_VARIABLES || number > self.variables {
             return None;
         }
         if number < self.variables {

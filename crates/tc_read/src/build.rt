@@ -6,7 +6,7 @@ ghost use Rattle.tc_read.specs.Items.{kept_item};
 ghost use Rattle.tc_read.specs.Kept.{fits, kept, small_if};
 
 use crate::measured::{Item, Measured};
-use tc_term::{MAX_DEPTH, MAX_NAME_BYTES, MAX_NODES, Name, Term};
+use tc_term::{MOST_BYTES_OF_NAMES, MOST_DEPTH, MOST_NODES, Name, Term};
 
 /// The term, if it fits.
 #[inline(always)]
@@ -16,7 +16,7 @@ pub fn item(term: Term, nodes: usize, depth: usize, name_bytes: usize) -> Item
     requires named { name_bytes ≡ tree.name_bytes (tree_of term) }
     ensures { kept_item result ≡ small_if (fits (tree_of term)) (tree_of term) }
 {
-    if nodes <= MAX_NODES && depth <= MAX_DEPTH && name_bytes <= MAX_NAME_BYTES {
+    if nodes <= MOST_NODES && depth <= MOST_DEPTH && name_bytes <= MOST_BYTES_OF_NAMES {
         Item::Small(Measured {
             term,
             nodes: nodes as u16,

@@ -19,7 +19,7 @@ use crate::printed_names::name_at;
 use crate::read::rest_from;
 use std::alloc::Global;
 use tc_lists::NoMemory;
-use tc_term::{Args, MAX_DEPTH, Name, Pattern, Term};
+use tc_term::{Args, MOST_DEPTH, Name, Pattern, Term};
 
 /// What is read at the front, unless memory runs out.
 type Read<'a, T> = Result<Front<'a, T>, NoMemory>;
@@ -232,7 +232,7 @@ fn head<'a>(alloc: Global, bytes: &'a [u8]) -> Read<'a, Term>
 fn at_front<'a>(alloc: Global, bytes: &'a [u8]) -> Read<'a, Term>
     ensures { IfOk result (λ r. term_seen r ≡ canonical_at bytes.now) }
 {
-    match alone(alloc, MAX_DEPTH, Budget::whole(), bytes)? {
+    match alone(alloc, MOST_DEPTH, Budget::whole(), bytes)? {
         None => head(alloc, bytes),
         Some(found) => Ok(Some(found)),
     }

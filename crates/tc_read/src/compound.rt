@@ -14,7 +14,7 @@ use crate::measured::{Item, Measured, Parts, Several};
 use crate::operators::Operator;
 use std::alloc::Global;
 use tc_lists::NoMemory;
-use tc_term::{Args, MAX_DEPTH, MAX_NAME_BYTES, MAX_NODES, Name, Term};
+use tc_term::{Args, MOST_BYTES_OF_NAMES, MOST_DEPTH, MOST_NODES, Name, Term};
 
 /// No argument.
 #[inline(always)]
@@ -39,7 +39,7 @@ fn joined_term(term: Measured, several: Several) -> Result<Parts, NoMemory>
     let nodes = several.nodes + usize::from(term.nodes);
     let depth = several.depth.max(usize::from(term.depth));
     let name_bytes = several.name_bytes + usize::from(term.name_bytes);
-    if nodes >= MAX_NODES || depth >= MAX_DEPTH || name_bytes > MAX_NAME_BYTES {
+    if nodes >= MOST_NODES || depth >= MOST_DEPTH || name_bytes > MOST_BYTES_OF_NAMES {
         return Ok(Parts::Oversized);
     }
     let mut terms = several.terms;
@@ -89,7 +89,7 @@ fn whole(name: Name, several: Several) -> Item
     ensures { kept_item result ≡ whole name (reverse (map tree_of several.terms.items)) }
 {
     let length = name.bytes().len();
-    if several.terms.len() == 0 || length > MAX_NAME_BYTES {
+    if several.terms.len() == 0 || length > MOST_BYTES_OF_NAMES {
         return Item::Large;
     }
     let mut terms = several.terms;

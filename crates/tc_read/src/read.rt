@@ -19,7 +19,7 @@ use crate::parse::parse;
 use crate::scan::{Scanned, Stop, scan};
 use crate::scanner::Scanner;
 use std::alloc::Global;
-use tc_term::{MAX_VARIABLES, NotPattern, Pattern};
+use tc_term::{MOST_VARIABLES, NotPattern, Pattern};
 
 /// The template of what was parsed, with so many variables, behind the first token at this place.
 fn judge(item: Item, variables: usize, place: usize) -> Result<Pattern, ReadFault>
@@ -30,14 +30,14 @@ fn judge(item: Item, variables: usize, place: usize) -> Result<Pattern, ReadFaul
     match item {
         Item::Wide(wide) => Err(ReadFault::WideInt(wide)),
         Item::Large => {
-            if variables > MAX_VARIABLES {
+            if variables > MOST_VARIABLES {
                 Err(ReadFault::TooMany(place))
             } else {
                 Err(ReadFault::TooBig(place))
             }
         }
         Item::Small(measured) => {
-            if variables > MAX_VARIABLES {
+            if variables > MOST_VARIABLES {
                 return Err(ReadFault::TooMany(place));
             }
             match Pattern::of(measured.term) {

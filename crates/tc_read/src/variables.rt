@@ -7,10 +7,10 @@ ghost use Rattle.tc_term.specs.Faults.{is_anonymous, known_after, learned, numbe
 
 use std::alloc::Global;
 use tc_lists::NoMemory;
-use tc_term::MAX_VARIABLES;
+use tc_term::MOST_VARIABLES;
 
 /// How many variables are told apart: one more than a template may have.
-const MOST: usize = MAX_VARIABLES + 1;
+const MOST: usize = MOST_VARIABLES + 1;
 
 /// The variables so far. A `_` alone has an empty name.
 #[derive(Drop)]

@@ -7,7 +7,7 @@ ghost use Rattle.tc_term.specs.Variables.{var_bound};
 ghost use Rattle.tc_unify.specs.Splits.{Always};
 ghost use Rattle.tc_search.specs.Bindings.{IsFree, AreGround, MakesTuple, Binds, NeverBinds};
 
-use tc_term::{Ground, MAX_VARIABLES, Pattern, Term};
+use tc_term::{Ground, MOST_VARIABLES, Pattern, Term};
 
 // As many variables as most templates have.
 const FEW: usize = 8;
@@ -25,7 +25,7 @@ pub fn does_match(template: &Pattern, tuple: &Ground) -> bool
     }
     // The term shows that there are no more variables than places.
     let _term = template.term();
-    let mut bound = [None; MAX_VARIABLES];
+    let mut bound = [None; MOST_VARIABLES];
     matches_in(template, tuple, &mut bound)
 }
 

@@ -54,7 +54,7 @@ pub record IsAtRest (origin : Origin) (history : List Entry) : Type 0 where
 -- p is the pass of one of the centre's agents: it knows a history at rest, and the agent's own
 -- entries in it
 pub record IsPassOf (t : TurnstileState Origin) (p : PassState Entry Origin) : Type 0 where
-  pub own : turnstile.IsPassOf t p
+  pub own : turnstile.IsPassOfTurnstile t p
   pub agent : p.number < length t.origin.agents
   pub rest : IsAtRest t.origin p.seen
   pub mine : calls_of p.number p.seen ≡ p.mine

@@ -7,7 +7,7 @@ ghost use Rattle.tc_term.specs.Tree.{Fits, depth, depth_of_all};
 ghost use Rattle.tc_term.specs.TreeView.{tree_of};
 
 use crate::arguments::as_two;
-use tc_term::{Args, MAX_BRACKETS, Term, fits};
+use tc_term::{Args, MOST_BRACKETS, Term, fits};
 
 /// Whether a term is within the limits, and its text has no more brackets open than can be read.
 ///
@@ -21,7 +21,7 @@ pub fn is_small(t: &Term) -> bool
     if !fits(t) {
         return false;
     }
-    opened(t) <= MAX_BRACKETS
+    opened(t) <= MOST_BRACKETS
 }
 
 // How many brackets the text of a term by itself has open at most.

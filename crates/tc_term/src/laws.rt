@@ -7,9 +7,9 @@ ghost use Rattle.tc_term.specs.Text.{canonical, text_of};
 ghost use Rattle.tc_term.specs.Tree.{Tree, is_ground, IsTuple};
 ghost use Rattle.tc_term.specs.TreeView.{tree_of};
 ghost use Rattle.tc_term.specs.Variables.{var_bound, variables, renumbered, IsPattern, IsTemplate};
-ghost use Rattle.tc_term.specs.declared.limits.TheConstants.{MAX_NODES, MAX_DEPTH};
-ghost use Rattle.tc_term.specs.declared.limits.TheConstants.{MAX_NAME_BYTES, MAX_VARIABLES};
-ghost use Rattle.tc_term.specs.declared.limits.TheConstants.{MAX_BRACKETS};
+ghost use Rattle.tc_term.specs.declared.limits.TheConstants.{MOST_NODES, MOST_DEPTH};
+ghost use Rattle.tc_term.specs.declared.limits.TheConstants.{MOST_BYTES_OF_NAMES, MOST_VARIABLES};
+ghost use Rattle.tc_term.specs.declared.limits.TheConstants.{MOST_BRACKETS};
 ghost use Rattle.tc_term.specs.declared.template.NotPattern.{NotPattern};
 ghost use Rattle.tc_term.specs.declared.terms.Term.{Term};
 ghost use Rattle.tc_term.specs.declared.tuple.NotTuple.{NotTuple};
@@ -71,9 +71,9 @@ pub fn template_keeps_its_numbers()
 
 /// How large terms and their texts may be.
 pub fn limits_of_terms()
-    ensures nodes { MAX_NODES ≡ 10000 }
-    ensures depth { MAX_DEPTH ≡ 1000 }
-    ensures name_bytes { MAX_NAME_BYTES ≡ 65535 }
-    ensures variables { MAX_VARIABLES ≡ 256 }
-    ensures brackets { MAX_BRACKETS ≡ 200 }
+    ensures nodes { MOST_NODES ≡ 10000 }
+    ensures depth { MOST_DEPTH ≡ 1000 }
+    ensures name_bytes { MOST_BYTES_OF_NAMES ≡ 65535 }
+    ensures variables { MOST_VARIABLES ≡ 256 }
+    ensures brackets { MOST_BRACKETS ≡ 200 }
 {}

@@ -33,7 +33,9 @@ pub use laws::{
     ground_template_matches_itself, limits_of_terms, renumbering_keeps_matches,
     template_keeps_its_numbers, tuple_is_a_template, value_is_a_tuple, value_is_unique,
 };
-pub use limits::{MAX_BRACKETS, MAX_DEPTH, MAX_NAME_BYTES, MAX_NODES, MAX_VARIABLES, Room, fits};
+pub use limits::{
+    MOST_BRACKETS, MOST_BYTES_OF_NAMES, MOST_DEPTH, MOST_NODES, MOST_VARIABLES, Room, fits,
+};
 pub use name::Name;
 pub use tc_lists::NoMemory;
 pub use template::{NotPattern, Pattern};

@@ -8,19 +8,19 @@ ghost use Rattle.tc_term.specs.TreeView.{tree_of};
 use crate::terms::Term;
 
 /// The most variables, atoms, numbers and compounds of a term together.
-pub const MAX_NODES: usize = 10_000;
+pub const MOST_NODES: usize = 10_000;
 
 /// The most nodes of a term that stand below one another.
-pub const MAX_DEPTH: usize = 1_000;
+pub const MOST_DEPTH: usize = 1_000;
 
 /// The most bytes that all names of a term have together.
-pub const MAX_NAME_BYTES: usize = 65_535;
+pub const MOST_BYTES_OF_NAMES: usize = 65_535;
 
 /// The most different variables of a template.
-pub const MAX_VARIABLES: usize = 256;
+pub const MOST_VARIABLES: usize = 256;
 
 /// The most brackets of a text that are open at once.
-pub const MAX_BRACKETS: usize = 200;
+pub const MOST_BRACKETS: usize = 200;
 
 /// How many nodes and bytes of names may still come.
 #[derive(Clone, Copy, Debug)]
@@ -35,8 +35,8 @@ impl Room {
         ensures { result ≡ whole }
     {
         Room {
-            nodes: MAX_NODES,
-            name_bytes: MAX_NAME_BYTES,
+            nodes: MOST_NODES,
+            name_bytes: MOST_BYTES_OF_NAMES,
         }
     }
 
@@ -71,7 +71,7 @@ pub fn fits(t: &Term) -> bool
     ensures small { IsWithin (tree_of t.now) most_depth whole → IsTrue result }
 {
     let mut room = Room::whole();
-    take_term(t, MAX_DEPTH, &mut room)
+    take_term(t, MOST_DEPTH, &mut room)
 }
 
 // Takes the room of a term of at most this depth, where there is room for it.

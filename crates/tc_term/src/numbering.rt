@@ -5,14 +5,14 @@ ghost use Rattle.tc_term.specs.Limits.{most_variables};
 ghost use Rattle.tc_term.specs.TreeView.{tree_of};
 ghost use Rattle.tc_term.specs.Variables.{place_in, variables_after, with_number};
 
-use crate::limits::MAX_VARIABLES;
+use crate::limits::MOST_VARIABLES;
 use crate::terms::Term;
 use std::marker::Model;
 
 /// Variable numbers, each once, by first appearance. No memory is taken.
 #[derive(Drop)]
 pub(crate) struct Seen {
-    numbers: [u32; MAX_VARIABLES],
+    numbers: [u32; MOST_VARIABLES],
     count: usize,
 }
 
@@ -32,7 +32,7 @@ impl Seen {
         ensures { result ≡ [] }
     {
         Seen {
-            numbers: [0; MAX_VARIABLES],
+            numbers: [0; MOST_VARIABLES],
             count: 0,
         }
     }
@@ -52,7 +52,7 @@ impl Seen {
         if place(self.numbers(), n) < self.count {
             return true;
         }
-        if self.count == MAX_VARIABLES {
+        if self.count == MOST_VARIABLES {
             return false;
         }
         self.numbers[self.count] = n;

@@ -6,7 +6,7 @@ use Rattle.atomic_table.specs.Seated.{TableId}
 use Rattle.tc_turn.specs.declared.view.View.{View}
 use Rattle.tc_turn.specs.declared.view.PassRecord.{PassRecord}
 use Rattle.tc_turn.specs.Order.{one_if_record, FitsRecord}
-use Rattle.tc_turn.specs.Passes.{TurnstileState, PassState, EndedState, IsPassOf, new_pass, new_passes, record_of_ended, ended_count, AgreesWith, IsMaker}
+use Rattle.tc_turn.specs.Passes.{TurnstileState, PassState, EndedState, IsPassOfTurnstile, new_pass, new_passes, record_of_ended, ended_count, AgreesWith, IsMaker}
 
 module _ {E O : Type 0} where
   -- the maker has the turns of one more pass
@@ -74,10 +74,10 @@ module _ {E : Type 0} where
 
 module _ {E O : Type 0} where
   -- new passes are of their turnstile, and hold no turn
-  pub new_passes-own : (t : TurnstileState O) (origin : O) (turns k n : ℕ) → t.origin ≡ origin → All (λ (p : PassState E O). IsPassOf t p × (p.holds ≡ false)) (new_passes t.table origin turns k n)
+  pub new_passes-own : (t : TurnstileState O) (origin : O) (turns k n : ℕ) → t.origin ≡ origin → All (λ (p : PassState E O). IsPassOfTurnstile t p × (p.holds ≡ false)) (new_passes t.table origin turns k n)
   new_passes-own t origin turns k zero same = All-nil _
   new_passes-own t origin turns k (suc n) same =
-      All-cons (λ (p : PassState E O). IsPassOf t p × (p.holds ≡ false)) (new_pass t.table origin turns k) (new_passes t.table origin turns (k + 1) n)
+      All-cons (λ (p : PassState E O). IsPassOfTurnstile t p × (p.holds ≡ false)) (new_pass t.table origin turns k) (new_passes t.table origin turns (k + 1) n)
       ((refl, ap (λ (o : O). Some o) (sym same)), refl)
       (new_passes-own t origin turns (k + 1) n same)
 

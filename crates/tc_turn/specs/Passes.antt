@@ -78,8 +78,8 @@ module _ {E O : Type 0} where
       new_pass table origin turns k ∷ new_passes table origin turns (k + 1) n
 
   -- p is a pass of the turnstile t
-  abbrev pub IsPassOf : TurnstileState O → PassState E O → Type 0
-  IsPassOf t p = (p.table ≡ t.table) × (p.origin ≡ Some t.origin)
+  abbrev pub IsPassOfTurnstile : TurnstileState O → PassState E O → Type 0
+  IsPassOfTurnstile t p = (p.table ≡ t.table) × (p.origin ≡ Some t.origin)
 
   -- q is the pass p after it has taken a turn: it knows the whole history, of which it knew a
   -- beginning, and of which its number owns just the entries that it had
@@ -99,7 +99,7 @@ module _ {E O : Type 0} where
 
   -- q is the pass p after it has read the count n, which is no smaller than the last one and than the
   -- number of entries that it knows
-  pub record Counts (p : PassState E O) (n : ℕ) (q : PassState E O) : Type 0 where
+  pub record LearnsCount (p : PassState E O) (n : ℕ) (q : PassState E O) : Type 0 where
     pub state : q ≡ record p { floor = n }
     pub floor : p.floor ≤ n
     pub seen : length p.seen ≤ n

@@ -2,7 +2,7 @@
 ghost use Rattle.std.specs.Prelude.{◌≡◌, ℕ, ◌<◌, ◌≤◌, ◌+◌, [], ◌∷◌, ◌++◌};
 ghost use Rattle.std.specs.Prelude.{true, false, List, IfOk, OnErr, All};
 ghost use Rattle.tc_turn.specs.Owners.{entries_of, OthersOwnNone};
-ghost use Rattle.tc_turn.specs.Passes.{IsPassOf, Enters, Leaves, Counts, AgreesWith};
+ghost use Rattle.tc_turn.specs.Passes.{IsPassOfTurnstile, Enters, Leaves, LearnsCount, AgreesWith};
 ghost use Rattle.tc_turn.specs.Passes.{IsMaker, end_of, new_pass, new_passes};
 ghost use Rattle.tc_turn.specs.Passes.{ended_count, record_of_ended};
 
@@ -79,7 +79,7 @@ impl<C: Chronicle + Drop> Turnstile<C> {
 impl<C: Chronicle> Turnstile<C> {
     /// Takes a ticket, waits for its turn, and checks the value out.
     pub fn enter<R: Wait>(&self, rt: &R, pass: &mut Pass<C>) -> Result<Held<C>, TurnsSpent>
-        requires own { IsPassOf self.now pass.old }
+        requires own { IsPassOfTurnstile self.now pass.old }
         requires free { pass.old.holds ≡ false }
         ensures origin { IfOk result (λ held. C.origin held.value ≡ self.now.origin) }
         ensures entered { IfOk result (λ held.
@@ -100,7 +100,7 @@ impl<C: Chronicle> Turnstile<C> {
 
     /// Returns the value, makes what was added to its history known, and passes the turn on.
     pub fn leave(&self, pass: &mut Pass<C>, held: Held<C>)
-        requires own { IsPassOf self.now pass.old }
+        requires own { IsPassOfTurnstile self.now pass.old }
         requires held { pass.old.holds ≡ true }
         requires origin { C.origin held.value ≡ self.now.origin }
         requires grown { (new : List C.Entry)
@@ -119,16 +119,16 @@ impl<C: Chronicle> Turnstile<C> {
 
     /// Reads how many entries the history has at some moment of the call, without a turn.
     pub fn count(&self, pass: &mut Pass<C>) -> u64
-        requires own { IsPassOf self.now pass.old }
+        requires own { IsPassOfTurnstile self.now pass.old }
         requires free { pass.old.holds ≡ false }
-        ensures { Counts pass.old result pass.new }
+        ensures { LearnsCount pass.old result pass.new }
     {
         self.lock.count(&mut pass.seat)
     }
 
     /// Ends the pass. The turns that it has left are gone.
     pub fn end(&self, pass: Pass<C>) -> Ended<C>
-        requires own { IsPassOf self.now pass }
+        requires own { IsPassOfTurnstile self.now pass }
         requires free { pass.holds ≡ false }
         ensures { result ≡ end_of pass }
     {
