@@ -1,5 +1,5 @@
 use Rattle.std.proofs.Common.{inr, subst, sym, ap₂}
-use Rattle.tc_config.specs.Answers.{IsWant, IsThisFault}
+use Rattle.tc_config.specs.Answers.{IsConfigWant, IsThisRefusal}
 use Rattle.tc_io.specs.Sinks.{sink_of}
 use Rattle.tucson.specs.Ending.{IsUnlessStopped, With}
 use Rattle.tucson.specs.declared.status.Status.TheVariants.{Refused}
@@ -20,7 +20,7 @@ returns-in-Ok-clause-due g c =
 pub returns-in-Err-Bad-clause-due : goal.returns-in-Err-Bad-clause-due
 returns-in-Err-Bad-clause-due g c =
     end_for c.args.workers c.args.input.now c.refused.result
-    (λ other spells. absurd (subst IsWant c.in-Err-Bad.field-0-is (c.in-Err-Bad.ensures.whole other spells)))
+    (λ other spells. absurd (subst IsConfigWant c.in-Err-Bad.field-0-is (c.in-Err-Bad.ensures.whole other spells)))
     (λ clause why is.
-    let same = subst (IsThisFault clause why) c.in-Err-Bad.field-0-is (c.in-Err-Bad.ensures.first clause why is) in
+    let same = subst (IsThisRefusal clause why) c.in-Err-Bad.field-0-is (c.in-Err-Bad.ensures.first clause why is) in
     subst (λ r. IsUnlessStopped (With r) c.refused.result) (ap₂ Refused same.0 same.1) c.refused.ensures.unless)
