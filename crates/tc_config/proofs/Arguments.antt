@@ -1,6 +1,6 @@
 -- Lists of terms as arguments.
 use Rattle.std.proofs.Common.{◌≡◌, ◌<◌, List, [], ◌∷◌, length, refl, arith}
-use Rattle.tc_term.specs.Tree.{Tree, Trees, Last, More}
+use Rattle.tc_term.specs.Tree.{Tree, Trees, More}
 use Rattle.tc_term.specs.TreeView.{tree_of, trees_of}
 use Rattle.tc_term.specs.declared.terms.Term.{Term}
 
@@ -12,15 +12,3 @@ many_arguments (a ∷ []) many = absurd (omega (arith, many))
 many_arguments (a ∷ b ∷ []) many = absurd (omega (arith, many))
 many_arguments (a ∷ b ∷ c ∷ []) many = absurd (omega (arith, many))
 many_arguments (a ∷ b ∷ c ∷ d ∷ ts) many = (tree_of a, tree_of b, tree_of c, trees_of (d ∷ ts), refl)
-
--- one argument, and two
-pub length-one : (ts : List Term) (a : Tree) → 0 < length ts → trees_of ts ≡ Last a → length ts ≡ 1
-length-one [] a some e = absurd (omega (arith, some))
-length-one (t ∷ []) a some e = refl
-length-one (t ∷ u ∷ ts) a some e = absurd (cc)
-
-pub length-two : (ts : List Term) (a b : Tree) → 0 < length ts → trees_of ts ≡ More a (Last b) → length ts ≡ 2
-length-two [] a b some e = absurd (omega (arith, some))
-length-two (t ∷ []) a b some e = absurd (cc)
-length-two (t ∷ u ∷ []) a b some e = refl
-length-two (t ∷ u ∷ v ∷ ts) a b some e = absurd (cc)

@@ -5,8 +5,9 @@ use Rattle.std.proofs.lemmas.Bool.{not-true}
 use Rattle.tc_lists.proofs.Bools.{bytes_eq-false}
 use Rattle.tc_term.specs.Tree.{Tree, Trees, Variable, Atomic, Number, Compound, Last, More}
 use Rattle.tc_model.specs.Reactions.{of_two}
-use Rattle.tc_config.specs.Forms.{line_term, lines_term}
-use Rattle.tc_config.specs.declared.forms.Line.{Line}
+use Rattle.tc_model.specs.Lines.{line_term}
+use Rattle.tc_config.specs.Forms.{lines_term}
+use Rattle.tc_model.specs.declared.lines.Line.{Line}
 
 -- by the test that was made of it
 pub differ : (x y a b : List ℕ) (r : Bool) → x ≡ a → y ≡ b → r ≡ not (bytes_eq x y) → r ≡ true

@@ -20,7 +20,7 @@ use Rattle.tc_config.specs.declared.draft.Draft.{Draft}
 use Rattle.tc_config.specs.declared.faults.ConfigCause.{ConfigCause}
 use Rattle.tc_config.specs.declared.faults.ConfigCause.TheVariants as cause
 use Rattle.tc_config.specs.declared.forms.Form.TheVariants.{Spec, Script}
-use Rattle.tc_config.specs.declared.forms.Line.{Line}
+use Rattle.tc_model.specs.declared.lines.Line.{Line}
 use Rattle.tc_config.specs.declared.limits.TheConstants.{MOST_ITEMS}
 use Rattle.tc_config.proofs.Changed.{map-changed}
 use Rattle.tc_config.proofs.Growth.{items-scripts}

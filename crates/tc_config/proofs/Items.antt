@@ -6,7 +6,7 @@ use Rattle.tc_model.specs.Within.{HasVarsBelow}
 use Rattle.tc_model.specs.declared.scripts.ScriptItem.{ScriptItem}
 use Rattle.tc_config.specs.Meanings.{AreItems}
 use Rattle.tc_config.specs.Names.{place_of}
-use Rattle.tc_config.specs.declared.forms.Line.{Line}
+use Rattle.tc_model.specs.declared.lines.Line.{Line}
 use Rattle.tc_config.proofs.Declared.{place-within}
 
 -- one more

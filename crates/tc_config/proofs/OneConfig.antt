@@ -11,7 +11,7 @@ use Rattle.tc_model.specs.declared.asks.Ask.{Ask}
 use Rattle.tc_model.specs.declared.scripts.ScriptItem.{ScriptItem}
 use Rattle.tc_policy.specs.Places.{grant}
 use Rattle.tc_spec.proofs.Decoding.{one_rule}
-use Rattle.tc_config.specs.Answers.{IsConfigFault, IsThisFault, IsWant}
+use Rattle.tc_config.specs.Answers.{IsConfigFault, IsThisRefusal, IsConfigWant}
 use Rattle.tc_config.specs.Causes.{HasCause, IsFirstCause, rank}
 use Rattle.tc_config.specs.Configurations.{Configuration, centre_names, nothing}
 use Rattle.tc_config.specs.Meanings.{AreItems, ClauseMakes, Means, agent, changed, with_clause, with_script, with_tuple}
@@ -22,7 +22,7 @@ use Rattle.tc_config.specs.declared.faults.ConfigFault.{ConfigFault}
 use Rattle.tc_config.specs.declared.faults.ConfigFault.TheVariants.{Bad, NoMemory}
 use Rattle.tc_config.specs.declared.forms.Form.{Form}
 use Rattle.tc_config.specs.declared.forms.Form.TheVariants.{Centre, Tuple, Spec, Role, Grant, Agent, Script}
-use Rattle.tc_config.specs.declared.forms.Line.{Line}
+use Rattle.tc_model.specs.declared.lines.Line.{Line}
 use Rattle.tc_config.specs.declared.limits.TheConstants.{MOST_BYTES}
 use Rattle.tc_config.proofs.FirstCauses.{fault-cause}
 use Rattle.tc_config.proofs.OneForm.{one_form}
@@ -149,7 +149,7 @@ one_refusal text k n a b x y = one_of text k n a b (by_cause text k a x) (by_cau
 
 -- so each answer comes where it is due
 pub whole_by : {X : Type 0} (text : List ℕ) (x : Result X ConfigFault) → IfErr x (IsConfigFault text) → (c : Configuration)
-    → Spells text c → IfErr x IsWant
+    → Spells text c → IfErr x IsConfigWant
 whole_by {X} text (Ok read) told c h = tt
 whole_by {X} text (Err (Bad clause why)) told c h = absurd (spelt_or_refused text c clause why h told)
 whole_by {X} text (Err NoMemory) told c h = tt
@@ -165,7 +165,7 @@ refused_by text (Ok read) spelt clause why h = spelt_or_refused text read clause
 refused_by text (Err fault) spelt clause why h = tt
 
 pub first_by : {X : Type 0} (text : List ℕ) (x : Result X ConfigFault) → IfErr x (IsConfigFault text) → (clause : ℕ)
-    (why : ConfigCause) → IsRefused text clause why → IfErr x (IsThisFault clause why)
+    (why : ConfigCause) → IsRefused text clause why → IfErr x (IsThisRefusal clause why)
 first_by {X} text (Ok read) told clause why h = tt
 first_by {X} text (Err (Bad other_clause other)) told clause why h = one_refusal text other_clause clause other why told h
 first_by {X} text (Err NoMemory) told clause why h = tt

@@ -8,8 +8,9 @@ use Rattle.tc_model.specs.Within.{HasVarsBelow}
 use Rattle.tc_model.specs.declared.asks.Ask.{Ask}
 use Rattle.tc_model.specs.declared.asks.Ask.TheVariants.{Out, In, Rd, Inp, Rdp, SetSpec, GetSpec}
 use Rattle.tc_model.proofs.Rules.{HasVarsBelow-one, HasVarsBelow-first, HasVarsBelow-second}
-use Rattle.tc_config.specs.Forms.{ask_term, line_term, lines_term}
-use Rattle.tc_config.specs.declared.forms.Line.{Line}
+use Rattle.tc_model.specs.Lines.{ask_term, line_term}
+use Rattle.tc_config.specs.Forms.{lines_term}
+use Rattle.tc_model.specs.declared.lines.Line.{Line}
 
 operand-within : (vars : ℕ) (a : Ask) → HasVarsBelow vars (ask_term a) → IfSome (operand_of a) (HasVarsBelow vars)
 operand-within vars (Out t) h = HasVarsBelow-one vars (codes "out") (tree_of t) h

@@ -19,14 +19,14 @@ IsConfigFault text (Bad number why) = IsRefused text number why
 IsConfigFault text NoMemory = Unit {0}
 
 -- the fault is this one, or memory has run out
-abbrev pub IsThisFault : ℕ → ConfigCause → ConfigFault → Type 0
-IsThisFault number why (Bad other_number other) = (other_number ≡ number) × (other ≡ why)
-IsThisFault number why NoMemory = Unit {0}
+abbrev pub IsThisRefusal : ℕ → ConfigCause → ConfigFault → Type 0
+IsThisRefusal number why (Bad other_number other) = (other_number ≡ number) × (other ≡ why)
+IsThisRefusal number why NoMemory = Unit {0}
 
 -- memory has run out
-abbrev pub IsWant : ConfigFault → Type 0
-IsWant (Bad number why) = ⊥
-IsWant NoMemory = Unit {0}
+abbrev pub IsConfigWant : ConfigFault → Type 0
+IsConfigWant (Bad number why) = ⊥
+IsConfigWant NoMemory = Unit {0}
 
 -- the fault is of what stands at this place behind so many clauses, or memory has run out
 abbrev pub IsFaultAt : List ℕ → ℕ → ℕ → Configuration → ConfigFault → Type 0

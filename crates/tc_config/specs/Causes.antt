@@ -15,11 +15,12 @@ use Rattle.tc_config.specs.declared.faults.ConfigCause.{ConfigCause}
 use Rattle.tc_config.specs.declared.faults.ConfigCause.TheVariants as cause
 use Rattle.tc_config.specs.declared.forms.Form.{Form}
 use Rattle.tc_config.specs.declared.forms.Form.TheVariants.{Centre, Tuple, Spec, Role, Grant, Agent, Script}
-use Rattle.tc_config.specs.declared.forms.Line.{Line}
+use Rattle.tc_model.specs.declared.lines.Line.{Line}
 use Rattle.tc_config.specs.declared.limits.TheConstants.{MOST_CENTRES, MOST_ROLES, MOST_AGENTS, MOST_ITEMS}
 
 -- the same grant stands already
-pub record IsGranted (c : Configuration) (role centre : List ℕ) (primitive : Primitive) : Type 0 where
+pub record IsGranted (c : Configuration) (role centre : List ℕ) (primitive : Primitive)
+    : Type 0 where
   pub i : ℕ
   pub j : ℕ
   pub role_at : place_of c.role_names role ≡ Some i
@@ -84,7 +85,8 @@ pub record IsFirstFault (c : Configuration) (x : Form) (why : ConfigCause) : Typ
 abbrev pub IsFaultless : Configuration → Form → Type 0
 IsFaultless c x = (why : ConfigCause) → IsFaulty c x why → ⊥
 
--- a cause for which the clause of this term is refused: it has no form, or something is wrong with it
+-- a cause for which the clause of this term is refused: it has no form, or
+-- something is wrong with it
 abbrev pub HasCause : Configuration → Tree → ConfigCause → Type 0
 HasCause c t cause.Shape = (x : Form) → IsFormOf x t → ⊥
 HasCause c t why = (x : Form) × IsFormOf x t × IsFaulty c x why

@@ -2,39 +2,13 @@
 use Rattle.std.specs.Prelude.{◌≡◌, ◌≤◌, ℕ, pos, List, [], ◌∷◌, Option, Some, None, codes}
 use Rattle.tc_term.specs.Tree.{Tree, Atomic, Number, Compound, Last, More}
 use Rattle.tc_term.specs.TreeView.{tree_of}
+use Rattle.tc_model.specs.Asks.{primitive_name}
+use Rattle.tc_model.specs.Lines.{line_term}
 use Rattle.tc_model.specs.Reactions.{of_one, of_two}
-use Rattle.tc_model.specs.declared.asks.Ask.{Ask}
-use Rattle.tc_model.specs.declared.asks.Ask.TheVariants as ask
-use Rattle.tc_model.specs.declared.asks.Primitive.{Primitive}
-use Rattle.tc_model.specs.declared.asks.Primitive.TheVariants as primitive
 use Rattle.tc_model.specs.declared.limits.TheConstants.{MOST_BUDGET}
 use Rattle.tc_config.specs.declared.forms.Form.{Form}
 use Rattle.tc_config.specs.declared.forms.Form.TheVariants.{Centre, Tuple, Spec, Role, Grant, Agent, Script}
-use Rattle.tc_config.specs.declared.forms.Line.{Line}
-
--- the name of a primitive
-abbrev pub primitive_name : Primitive → List ℕ
-primitive_name primitive.Out = codes "out"
-primitive_name primitive.In = codes "in"
-primitive_name primitive.Rd = codes "rd"
-primitive_name primitive.Inp = codes "inp"
-primitive_name primitive.Rdp = codes "rdp"
-primitive_name primitive.SetSpec = codes "set_spec"
-primitive_name primitive.GetSpec = codes "get_spec"
-
--- what is asked, as it is written
-abbrev pub ask_term : Ask → Tree
-ask_term (ask.Out t) = of_one (codes "out") (tree_of t)
-ask_term (ask.In t) = of_one (codes "in") (tree_of t)
-ask_term (ask.Rd t) = of_one (codes "rd") (tree_of t)
-ask_term (ask.Inp t) = of_one (codes "inp") (tree_of t)
-ask_term (ask.Rdp t) = of_one (codes "rdp") (tree_of t)
-ask_term (ask.SetSpec t) = of_one (codes "set_spec") (tree_of t)
-ask_term ask.GetSpec = Atomic (codes "get_spec")
-
--- an item of a script: a centre's name and what is asked there
-abbrev pub line_term : Line → Tree
-line_term l = of_two (codes "?") (Atomic l.centre) (ask_term l.ask)
+use Rattle.tc_model.specs.declared.lines.Line.{Line}
 
 -- a list of items that ends in `[]`
 abbrev pub lines_term : List Line → Tree

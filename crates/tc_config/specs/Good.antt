@@ -23,7 +23,8 @@ use Rattle.tc_config.specs.declared.configs.CentreConf.{CentreConf}
 
 -- what a centre of the configuration begins with
 abbrev pub origin_of : Configuration → CentreConf → Origin
-origin_of c centre = origin_from centre.name (agent_names c) centre.budget centre.tuples centre.clauses
+origin_of c centre =
+    origin_from centre.name (agent_names c) centre.budget centre.tuples centre.clauses
 
 -- a grant permits agents of the role to use the primitive on the centre
 abbrev pub Permits : Configuration → ℕ → ℕ → Primitive → Type 0
@@ -35,22 +36,24 @@ IsNoLook (Called id op result items) = Unit {0}
 IsNoLook (Gave id result items) = Unit {0}
 IsNoLook (Looked id asked reply) = ⊥
 
--- the history is a run from what the centre begins with, without looks, and no request that waits at
--- its end could be answered
+-- the history is a run from what the centre begins with, without looks, and no
+-- request that waits at its end could be answered
 pub record IsHistory (choice : Choice) (origin : Origin) (history : List Entry) : Type 0 where
   pub run : IsRunBy choice origin history
   pub quiescent : IsQuiescent (after_history (opening origin) history)
   pub looks : All IsNoLook history
 
 -- each centre has its history
-pub record AreHistories (choice : Choice) (c : Configuration) (histories : List (List Entry)) : Type 0 where
+pub record AreHistories (choice : Choice) (c : Configuration) (histories : List (List Entry))
+    : Type 0 where
   pub whole : length histories ≡ length c.centres
   pub each : (place : ℕ) (centre : CentreConf) (history : List Entry)
       → slice_get c.centres place ≡ Some centre
-      → slice_get histories place ≡ Some history → IsHistory choice (origin_of c centre) history
+      → slice_get histories place ≡ Some history
+      → IsHistory choice (origin_of c centre) history
 
--- the row at place k is that of the agent's item at this place: it has the item's number, centre and ask,
--- as this is after the rows before, and a result that the ask may have come to there
+-- the row at place k is that of the agent's item at this place: it has the item's number, centre
+-- and ask, as this is after the rows before, and a result that the ask may have come to there
 pub record IsRow (c : Configuration) (histories : List (List Entry)) (agent : ℕ) (a : AgentConf)
     (log : List LogRow) (k : ℕ) (row : LogRow) : Type 0 where
   pub number : row.number ≡ k + 1
@@ -63,8 +66,8 @@ pub record IsRow (c : Configuration) (histories : List (List Entry)) (agent : �
   pub named : row.centre ≡ centre.name
   pub history : List Entry
   pub there : slice_get histories step.item.centre ≡ Some history
-  pub result : IsResult (Permits c a.role step.item.centre (primitive_of asked)) (origin_of c centre) history
-      (call_of agent (k + 1)) asked row.result
+  pub result : IsResult (Permits c a.role step.item.centre (primitive_of asked))
+      (origin_of c centre) history (call_of agent (k + 1)) asked row.result
 
 -- the number is that of a row whose ask was served, at the centre of this place
 pub record IsServedNumber (a : AgentConf) (log : List LogRow) (place number : ℕ) : Type 0 where
@@ -81,7 +84,8 @@ pub record IsServedNumber (a : AgentConf) (log : List LogRow) (place number : �
 -- whatever the agent has made in a history is there for one of its rows
 pub record Follows (c : Configuration) (histories : List (List Entry)) (agent : ℕ) (a : AgentConf)
     (log : List LogRow) : Type 0 where
-  pub rows : (k : ℕ) (row : LogRow) → slice_get log k ≡ Some row → IsRow c histories agent a log k row
+  pub rows : (k : ℕ) (row : LogRow) → slice_get log k ≡ Some row
+      → IsRow c histories agent a log k row
   pub last : PendsLast log
   pub calls : (place : ℕ) (history : List Entry) → slice_get histories place ≡ Some history
       → All (λ e. IsServedNumber a log place (id_of e).number) (calls_of agent history)
@@ -90,11 +94,12 @@ pub record Follows (c : Configuration) (histories : List (List Entry)) (agent : 
 pub record AllFollow (c : Configuration) (histories : List (List Entry)) (logs : List (List LogRow))
     : Type 0 where
   pub whole : length logs ≡ length c.agents
-  pub each : (agent : ℕ) (a : AgentConf) (log : List LogRow) → slice_get c.agents agent ≡ Some a
-      → slice_get logs agent ≡ Some log → Follows c histories agent a log
+  pub each : (agent : ℕ) (a : AgentConf) (log : List LogRow)
+      → slice_get c.agents agent ≡ Some a → slice_get logs agent ≡ Some log
+      → Follows c histories agent a log
 
--- nothing is left for the agent to do: a row that is pending has no reply in the history of its centre,
--- and where none is pending each item has its row
+-- nothing is left for the agent to do: a row that is pending has no reply in the history of its
+-- centre, and where none is pending each item has its row
 pub record IsEnded (histories : List (List Entry)) (agent : ℕ) (a : AgentConf) (log : List LogRow)
     : Type 0 where
   pub waits : (k : ℕ) (row : LogRow) (step : ScriptStep) (history : List Entry)
@@ -110,10 +115,11 @@ pub record IsGoing (choice : Choice) (c : Configuration) (histories : List (List
   pub runs : AreHistories choice c histories
   pub follow : AllFollow c histories logs
 
--- histories and logs of a run of the configuration, in which each agent went on until its scripts ended
--- or its ask waits
+-- histories and logs of a run of the configuration, in which each agent went on
+-- until its scripts ended or its ask waits
 pub record IsGood (choice : Choice) (c : Configuration) (histories : List (List Entry))
     (logs : List (List LogRow)) : Type 0 where
   pub going : IsGoing choice c histories logs
-  pub ended : (agent : ℕ) (a : AgentConf) (log : List LogRow) → slice_get c.agents agent ≡ Some a
-      → slice_get logs agent ≡ Some log → IsEnded histories agent a log
+  pub ended : (agent : ℕ) (a : AgentConf) (log : List LogRow)
+      → slice_get c.agents agent ≡ Some a → slice_get logs agent ≡ Some log
+      → IsEnded histories agent a log

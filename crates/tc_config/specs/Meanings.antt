@@ -15,7 +15,7 @@ use Rattle.tc_config.specs.declared.configs.AgentConf.{AgentConf}
 use Rattle.tc_config.specs.declared.configs.CentreConf.{CentreConf}
 use Rattle.tc_config.specs.declared.forms.Form.{Form}
 use Rattle.tc_config.specs.declared.forms.Form.TheVariants.{Centre, Tuple, Spec, Role, Grant, Agent, Script}
-use Rattle.tc_config.specs.declared.forms.Line.{Line}
+use Rattle.tc_model.specs.declared.lines.Line.{Line}
 use Rattle.tc_config.specs.declared.limits.TheConstants.{USUAL_BUDGET}
 
 -- the list with the element at this place changed
@@ -50,7 +50,8 @@ AreItems names (l ∷ ls) [] = ⊥
 AreItems names (l ∷ ls) (i ∷ is) =
     (place_of names l.centre ≡ Some i.centre) × (i.ask ≡ l.ask) × AreItems names ls is
 
--- the table of meanings: what a clause of this form, with so many variables, makes of a configuration
+-- the table of meanings: what a clause of this form, with so many variables,
+-- makes of a configuration
 abbrev pub ClauseMakes : Configuration → ℕ → Form → Configuration → Type 0
 ClauseMakes c vars (Centre n b) e = e ≡ record c { centres = c.centres ++ centre n b ∷ [] }
 ClauseMakes c vars (Tuple n t) e =
@@ -61,7 +62,8 @@ ClauseMakes c vars (Spec n t) e =
     × (e ≡ record c { centres = changed k (with_clause r) c.centres })
 ClauseMakes c vars (Role r) e = e ≡ record c { role_names = c.role_names ++ r ∷ [] }
 ClauseMakes c vars (Grant r n p) e =
-    (i : ℕ) × (j : ℕ) × (place_of c.role_names r ≡ Some i) × (place_of (centre_names c) n ≡ Some j)
+    (i : ℕ) × (j : ℕ) × (place_of c.role_names r ≡ Some i)
+    × (place_of (centre_names c) n ≡ Some j)
     × (e ≡ record c { roles = c.roles ++ grant i j p ∷ [] })
 ClauseMakes c vars (Agent a r) e =
     (i : ℕ) × (place_of c.role_names r ≡ Some i)

@@ -1,16 +1,15 @@
 -- The words that clauses begin with, and what stands behind them.
-use Rattle.std.specs.Prelude.{◌≡◌, ℕ, List, Option, Some, None, codes}
+use Rattle.std.specs.Prelude.{◌≡◌, ℕ, List, codes}
 use Rattle.tc_term.specs.Tree.{Tree, Trees, Atomic, Compound, Last, More}
 use Rattle.tc_term.specs.TreeView.{tree_of}
-use Rattle.tc_model.specs.declared.asks.Ask.{Ask}
-use Rattle.tc_config.specs.Forms.{ask_term, line_term, lines_term}
+use Rattle.tc_config.specs.Forms.{lines_term}
 use Rattle.tc_config.specs.declared.words.Word.{Word}
 use Rattle.tc_config.specs.declared.words.Word.TheVariants as word
 use Rattle.tc_config.specs.declared.words.Arguments.{Arguments}
 use Rattle.tc_config.specs.declared.words.Arguments.TheVariants.{One, Two, Three, Many}
 use Rattle.tc_config.specs.declared.lines.Cells.{Cells}
 use Rattle.tc_config.specs.declared.lines.Cells.TheVariants as cells
-use Rattle.tc_config.specs.declared.forms.Line.{Line}
+use Rattle.tc_model.specs.declared.lines.Line.{Line}
 
 -- the bytes of a word
 abbrev pub word_name : Word → List ℕ
@@ -28,20 +27,12 @@ AreArguments ts (One a) = ts ≡ Last (tree_of a)
 AreArguments ts (Two a b) = ts ≡ More (tree_of a) (Last (tree_of b))
 AreArguments ts (Three a b c) = ts ≡ More (tree_of a) (More (tree_of b) (Last (tree_of c)))
 AreArguments ts Many =
-    (a : Tree) × (b : Tree) × (c : Tree) × (rest : Trees) × (ts ≡ More a (More b (More c rest)))
-
--- what is asked where this is written, or nothing
-abbrev pub IsAsked : Tree → Option Ask → Type 0
-IsAsked t (Some a) = t ≡ ask_term a
-IsAsked t None = (a : Ask) → t ≡ ask_term a → ⊥
-
--- the item of a script that is written so, or none
-abbrev pub IsLined : Tree → Option Line → Type 0
-IsLined t (Some l) = t ≡ line_term l
-IsLined t None = (l : Line) → t ≡ line_term l → ⊥
+    (a : Tree) × (b : Tree) × (c : Tree) × (rest : Trees)
+    × (ts ≡ More a (More b (More c rest)))
 
 -- a term as a list's cell, its end, or neither
 abbrev pub AreCells : Tree → Cells → Type 0
 AreCells t cells.End = t ≡ Atomic (codes "[]")
-AreCells t (cells.Cell head tail) = t ≡ Compound (codes ".") (More (tree_of head) (Last (tree_of tail)))
+AreCells t (cells.Cell head tail) =
+    t ≡ Compound (codes ".") (More (tree_of head) (Last (tree_of tail)))
 AreCells t cells.Neither = (ls : List Line) → t ≡ lines_term ls → ⊥

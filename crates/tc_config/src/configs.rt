@@ -110,7 +110,8 @@ impl Config {
 
     /// Centres, names of roles, roles and agents, given back. No memory is taken.
     pub fn into_parts(self) -> (Vec<CentreConf>, Vec<Name>, Roles, Vec<AgentConf>)
-        ensures parts { self ≡ configuration result.0.items result.1.items result.2 result.3.items }
+        ensures parts { self
+            ≡ configuration result.0.items result.1.items result.2 result.3.items }
         ensures config { IsConfig self }
     {
         (self.centres, self.role_names, self.roles, self.agents)
@@ -119,7 +120,8 @@ impl Config {
 
 /// The names of agents, in order, copied.
 pub fn agent_names(alloc: Global, agents: &[AgentConf]) -> Result<Vec<Name>, NoMemory>
-    ensures { IfOk result (λ names. names.items ≡ map (λ (a : AgentConf). a.name) agents.now) }
+    ensures { IfOk result (λ names.
+        names.items ≡ map (λ (a : AgentConf). a.name) agents.now) }
 {
     let mut names = Vec::with_capacity(alloc, agents.len())?;
     for agent in agents {
@@ -130,7 +132,8 @@ pub fn agent_names(alloc: Global, agents: &[AgentConf]) -> Result<Vec<Name>, NoM
 
 /// The names of centres, in order, copied.
 pub fn centre_names(alloc: Global, centres: &[CentreConf]) -> Result<Vec<Name>, NoMemory>
-    ensures { IfOk result (λ names. names.items ≡ map (λ (s : CentreConf). s.name) centres.now) }
+    ensures { IfOk result (λ names.
+        names.items ≡ map (λ (s : CentreConf). s.name) centres.now) }
 {
     let mut names = Vec::with_capacity(alloc, centres.len())?;
     for centre in centres {

@@ -1,4 +1,5 @@
-//! Clauses that add to what is declared: tuples and reactions of centres, grants, scripts of agents.
+//! Clauses that add to what is declared: tuples and reactions of centres,
+//! grants, scripts of agents.
 ghost use Rattle.std.specs.Prelude.{◌≡◌, ◌<◌, ◌≤◌, All, Any, IfErr, IfNone, IfOk, IfSome};
 ghost use Rattle.std.specs.Prelude.{IsTrue, OnOk, Some, length, slice_get};
 ghost use Rattle.tc_term.specs.NameBytes.{has_read_names};
@@ -15,19 +16,18 @@ ghost use Rattle.tc_config.specs.Meanings.{AreItems, changed, with_clause, with_
 ghost use Rattle.tc_config.specs.Names.{IsUnknown, place_of};
 ghost use Rattle.tc_config.specs.declared.configs.CentreConf.{CentreConf};
 ghost use Rattle.tc_config.specs.declared.forms.Form.{Form};
-ghost use Rattle.tc_config.specs.declared.forms.Line.{Line};
+ghost use Rattle.tc_model.specs.declared.lines.Line.{Line};
 ghost use Rattle.tc_config.specs.declared.limits.TheConstants.{MOST_CENTRES};
 
 use crate::configs::{AgentConf, CentreConf};
 use crate::draft::Draft;
 use crate::faults::{ClauseFault, ConfigCause};
-use crate::forms::Line;
 use crate::growing::append;
 use crate::limits::MOST_ITEMS;
 use crate::names::Names;
 use std::alloc::Global;
 use tc_lists::{NoMemory, Seq};
-use tc_model::{MOST_CLAUSES, Primitive, Reaction, Script, ScriptItem};
+use tc_model::{Line, MOST_CLAUSES, Primitive, Reaction, Script, ScriptItem};
 use tc_policy::Grant;
 use tc_spec::{ReactionFault, reaction_of};
 use tc_term::{Ground, Name, NotPattern, NotTuple, Pattern, Term};
@@ -87,7 +87,8 @@ pub fn add_grant(
 ) -> Result<(), ClauseFault>
     requires draft { IsDraft draft.old }
     requires room { HasRoom (config_of draft.old) }
-    ensures added { OnOk result (AddsClause 0 (Form.Grant role centre primitive) draft.old draft.new) }
+    ensures added { OnOk result
+        (AddsClause 0 (Form.Grant role centre primitive) draft.old draft.new) }
     ensures fault { IfErr result
         (IsClauseFault (config_of draft.old) (Form.Grant role centre primitive)) }
 {
@@ -197,7 +198,8 @@ fn items_of(
 fn item_of(centres: &Names, line: Line) -> Option<ScriptItem>
     requires { length centres.now ≤ MOST_CENTRES }
     ensures some { IfSome result
-        (λ item. (place_of centres.now line.centre ≡ Some item.centre) × (item.ask ≡ line.ask)) }
+        (λ item. (place_of centres.now line.centre ≡ Some item.centre)
+        × (item.ask ≡ line.ask)) }
     ensures none { IfNone result (IsUnknown centres.now line.centre) }
 {
     let Line { centre, ask } = line;

@@ -7,18 +7,11 @@ ghost use Rattle.tc_config.specs.Forms.{IsFormed};
 ghost use Rattle.tc_config.specs.Words.{word_name};
 
 use crate::lines::lines_of;
-use crate::words::{Arguments, Word, arguments_of, atom, budget_of, primitive_of, word_of};
+use crate::words::{Arguments, Word, arguments_of, budget_of, word_of};
 use std::alloc::Global;
 use tc_lists::{NoMemory, Seq};
-use tc_model::{Ask, Primitive};
+use tc_model::{Line, Primitive, atom_of, primitive_of};
 use tc_term::{Name, Term};
-
-/// An item of a script as it is written: the name of a centre, and what is asked there.
-#[derive(Drop)]
-pub struct Line {
-    pub centre: Name,
-    pub ask: Ask,
-}
 
 /// A clause by its form, with what was read in it.
 #[derive(Drop)]
@@ -107,7 +100,7 @@ fn form_of_three(word: Word, a: Term, b: Term, c: Term) -> Option<Form>
 fn centre_of(name: Term) -> Option<Form>
     ensures { IsFormed (of_one (codes "centre") (tree_of name)) result }
 {
-    match atom(name) {
+    match atom_of(name) {
         Some(name) => Some(Form::Centre(name, None)),
         None => None,
     }
@@ -118,7 +111,7 @@ fn centre_with(name: Term, budget: Term) -> Option<Form>
     ensures { IsFormed (of_two (codes "centre") (tree_of name) (tree_of budget)) result }
 {
     let budget = budget_of(&budget)?;
-    match atom(name) {
+    match atom_of(name) {
         Some(name) => Some(Form::Centre(name, Some(budget))),
         None => None,
     }
@@ -128,7 +121,7 @@ fn centre_with(name: Term, budget: Term) -> Option<Form>
 fn tuple_of(centre: Term, tuple: Term) -> Option<Form>
     ensures { IsFormed (of_two (codes "tuple") (tree_of centre) (tree_of tuple)) result }
 {
-    match atom(centre) {
+    match atom_of(centre) {
         Some(centre) => Some(Form::Tuple(centre, tuple)),
         None => None,
     }
@@ -138,7 +131,7 @@ fn tuple_of(centre: Term, tuple: Term) -> Option<Form>
 fn spec_of(centre: Term, reaction: Term) -> Option<Form>
     ensures { IsFormed (of_two (codes "spec") (tree_of centre) (tree_of reaction)) result }
 {
-    match atom(centre) {
+    match atom_of(centre) {
         Some(centre) => Some(Form::Spec(centre, reaction)),
         None => None,
     }
@@ -148,7 +141,7 @@ fn spec_of(centre: Term, reaction: Term) -> Option<Form>
 fn role_of(name: Term) -> Option<Form>
     ensures { IsFormed (of_one (codes "role") (tree_of name)) result }
 {
-    match atom(name) {
+    match atom_of(name) {
         Some(name) => Some(Form::Role(name)),
         None => None,
     }
@@ -159,9 +152,9 @@ fn grant_of(role: Term, centre: Term, primitive: Term) -> Option<Form>
     ensures { IsFormed (Compound (codes "grant")
         (More (tree_of role) (More (tree_of centre) (Last (tree_of primitive))))) result }
 {
-    let role = atom(role)?;
-    let centre = atom(centre)?;
-    let name = atom(primitive)?;
+    let role = atom_of(role)?;
+    let centre = atom_of(centre)?;
+    let name = atom_of(primitive)?;
     match primitive_of(name.bytes()) {
         Some(primitive) => Some(Form::Grant(role, centre, primitive)),
         None => None,
@@ -172,8 +165,8 @@ fn grant_of(role: Term, centre: Term, primitive: Term) -> Option<Form>
 fn agent_of(name: Term, role: Term) -> Option<Form>
     ensures { IsFormed (of_two (codes "agent") (tree_of name) (tree_of role)) result }
 {
-    let name = atom(name)?;
-    match atom(role) {
+    let name = atom_of(name)?;
+    match atom_of(role) {
         Some(role) => Some(Form::Agent(name, role)),
         None => None,
     }
@@ -183,7 +176,7 @@ fn agent_of(name: Term, role: Term) -> Option<Form>
 fn script_of(alloc: Global, agent: Term, list: Term) -> Result<Option<Form>, NoMemory>
     ensures { IfOk result (IsFormed (of_two (codes "script") (tree_of agent) (tree_of list))) }
 {
-    match atom(agent) {
+    match atom_of(agent) {
         Some(agent) => script_with(alloc, agent, list),
         None => Ok(None),
     }

@@ -1,7 +1,7 @@
 //! Configurations: what a text of clauses sets up, or which clause is the first that is faulty.
 //!
-//! Each clause is judged by what those before it have declared. Which histories and logs a configuration
-//! may lead to stands here as definitions; nothing here makes a call.
+//! Each clause is judged by what those before it have declared. Which histories and logs a
+//! configuration may lead to stands here as definitions; nothing here makes a call.
 //!
 //! ```
 //! let text = b"centre(c). role(r). grant(r,c,out). agent(a,r). script(a,[c ? out(p(1))]).";
@@ -29,6 +29,7 @@ pub use configs::{AgentConf, CentreConf, Config, agent_names, centre_names};
 pub use faults::{ConfigCause, ConfigFault};
 pub use laws::{
     a_refused_text_spells_nothing, configuration_of_a_text_is_unique, first_good_run_is_good,
+    limits_are_these,
 };
 pub use limits::{MOST_AGENTS, MOST_BYTES, MOST_CENTRES, MOST_ITEMS, MOST_ROLES, USUAL_BUDGET};
 pub use reading::read_config;

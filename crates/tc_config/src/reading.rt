@@ -4,7 +4,8 @@ ghost use Rattle.tc_term.specs.Faults.{Found, Nothing};
 ghost use Rattle.tc_term.specs.NameBytes.{has_read_names};
 ghost use Rattle.tc_term.specs.Tree.{Tree};
 ghost use Rattle.tc_read.specs.Clauses.{AnswersAt, IsUnreadOr};
-ghost use Rattle.tc_config.specs.Answers.{IsConfigFault, IsFaultAt, IsTermFault, IsThisFault, IsWant};
+ghost use Rattle.tc_config.specs.Answers.{IsConfigFault, IsConfigWant, IsFaultAt, IsTermFault};
+ghost use Rattle.tc_config.specs.Answers.{IsThisRefusal};
 ghost use Rattle.tc_config.specs.Configurations.{Configuration};
 ghost use Rattle.tc_config.specs.Texts.{IsRefused, Spells};
 ghost use Rattle.tc_config.specs.declared.faults.ConfigCause.{ConfigCause};
@@ -20,8 +21,8 @@ use std::alloc::Global;
 use tc_read::{Unread, next_clause};
 use tc_term::Pattern;
 
-/// The configuration that the text spells, or its first faulty clause, counted from 1, with its first
-/// cause.
+/// The configuration that the text spells, or its first faulty clause, counted from 1, with its
+/// first cause.
 ///
 /// A text of more than 16,777,216 bytes is refused as clause 0. Reading ends at the first faulty
 /// clause. Takes time linear in what is read.
@@ -30,12 +31,12 @@ pub fn read_config(alloc: Global, text: &[u8]) -> Result<Config, ConfigFault>
     ensures bad { IfErr result (IsConfigFault text.now) }
 
     // Each answer comes exactly where it is due, but for want of memory.
-    ensures whole { (c : Configuration) → Spells text.now c → IfErr result IsWant }
+    ensures whole { (c : Configuration) → Spells text.now c → IfErr result IsConfigWant }
     ensures same { (c : Configuration) → Spells text.now c → IfOk result (λ read. read ≡ c) }
     ensures refused { (clause : ℕ) (why : ConfigCause) → IsRefused text.now clause why
         → IfOk result (λ _. ⊥) }
     ensures first { (clause : ℕ) (why : ConfigCause) → IsRefused text.now clause why
-        → IfErr result (IsThisFault clause why) }
+        → IfErr result (IsThisRefusal clause why) }
 {
     let read = read_text(alloc, text);
     read
@@ -65,8 +66,8 @@ fn read_text(alloc: Global, text: &[u8]) -> Result<Config, ConfigFault>
     Ok(finish(draft))
 }
 
-// The clause at this place, behind so many others, and the place behind it. `None` says that nothing
-// but layout is left.
+// The clause at this place, behind so many others, and the place behind it. `None` says that
+// nothing but layout is left.
 fn clause_at(
     alloc: Global,
     text: &[u8],
@@ -77,7 +78,8 @@ fn clause_at(
     requires few { count ≤ MOST_BYTES }
     ensures found { IfOk result (λ r. IfSome r (λ x. AnswersAt text.now from (Found x.0 x.1))) }
     ensures names { IfOk result (λ r. IfSome r (λ x. IsTrue (has_read_names x.0))) }
-    ensures behind { IfOk result (λ r. IfSome r (λ x. (from < x.1) × (x.1 ≤ length text.now))) }
+    ensures behind { IfOk result
+        (λ r. IfSome r (λ x. (from < x.1) × (x.1 ≤ length text.now))) }
     ensures none { IfOk result (λ r. IfNone r (AnswersAt text.now from Nothing)) }
     ensures fault { (c : Configuration) → IfErr result (IsFaultAt text.now from count c) }
 {
@@ -104,7 +106,8 @@ fn no_clause(why: Option<Unread>, count: usize) -> ConfigFault
 fn refused(fault: ClauseFault, count: usize) -> ConfigFault
     requires { count ≤ MOST_BYTES }
     ensures { (text : List ℕ) (from behind : ℕ) (c : Configuration) (t : Tree)
-        → AnswersAt text from (Found t behind) → IsTermFault c t fault → IsFaultAt text from count c result }
+        → AnswersAt text from (Found t behind) → IsTermFault c t fault
+        → IsFaultAt text from count c result }
 {
     match fault {
         ClauseFault::Bad(cause) => bad(count, cause),

@@ -1,15 +1,13 @@
 //! The words that clauses begin with, and the arguments behind them.
-ghost use Rattle.std.specs.Prelude.{◌≡◌, ◌≢◌, ◌<◌, ◌≤◌, ℕ, pos, IfNone, IfSome, List, length};
-ghost use Rattle.tc_term.specs.Tree.{Atomic, Last, More, Number, Tree};
+ghost use Rattle.std.specs.Prelude.{◌≡◌, ◌≢◌, ◌<◌, ◌≤◌, ℕ, pos, IfNone, IfSome, length};
+ghost use Rattle.tc_term.specs.Tree.{Number};
 ghost use Rattle.tc_term.specs.TreeView.{tree_of, trees_of};
-ghost use Rattle.tc_model.specs.declared.asks.Primitive.{Primitive};
 ghost use Rattle.tc_model.specs.declared.limits.TheConstants.{MOST_BUDGET};
-ghost use Rattle.tc_config.specs.Forms.{primitive_name};
 ghost use Rattle.tc_config.specs.Words.{AreArguments, word_name};
 ghost use Rattle.tc_config.specs.declared.words.Word.{Word};
 
-use tc_model::{MOST_BUDGET, Primitive};
-use tc_term::{Name, Term};
+use tc_model::MOST_BUDGET;
+use tc_term::Term;
 
 /// What a clause is about.
 #[derive(Clone, Copy)]
@@ -56,30 +54,6 @@ pub fn word_of(name: &[u8]) -> Option<Word>
     }
 }
 
-/// The primitive of these bytes, if it is one.
-pub fn primitive_of(name: &[u8]) -> Option<Primitive>
-    ensures some { IfSome result (λ p. primitive_name p ≡ name.now) }
-    ensures none { IfNone result ((p : Primitive) → primitive_name p ≢ name.now) }
-{
-    if name == b"out".as_slice() {
-        Some(Primitive::Out)
-    } else if name == b"in".as_slice() {
-        Some(Primitive::In)
-    } else if name == b"rd".as_slice() {
-        Some(Primitive::Rd)
-    } else if name == b"inp".as_slice() {
-        Some(Primitive::Inp)
-    } else if name == b"rdp".as_slice() {
-        Some(Primitive::Rdp)
-    } else if name == b"set_spec".as_slice() {
-        Some(Primitive::SetSpec)
-    } else if name == b"get_spec".as_slice() {
-        Some(Primitive::GetSpec)
-    } else {
-        None
-    }
-}
-
 /// The arguments, moved out of their list.
 pub fn arguments_of(mut terms: Vec<Term>) -> Arguments
     requires { 0 < length terms.items }
@@ -94,45 +68,6 @@ pub fn arguments_of(mut terms: Vec<Term>) -> Arguments
         (Some(b), Some(a), None) => Arguments::Two(a, b),
         (Some(a), None, None) => Arguments::One(a),
         _ => unreachable!(),
-    }
-}
-
-/// The argument, where there is one alone.
-pub fn one_of(mut terms: Vec<Term>) -> Option<Term>
-    requires { 0 < length terms.items }
-    ensures some { IfSome result (λ a. trees_of terms.items ≡ Last (tree_of a)) }
-    ensures none { IfNone result ((a : Tree) → trees_of terms.items ≡ Last a → ⊥) }
-{
-    if terms.len() > 1 {
-        return None;
-    }
-    terms.pop()
-}
-
-/// The arguments, where there are two.
-pub fn two_of(mut terms: Vec<Term>) -> Option<(Term, Term)>
-    requires { 0 < length terms.items }
-    ensures some { IfSome result
-        (λ r. trees_of terms.items ≡ More (tree_of r.0) (Last (tree_of r.1))) }
-    ensures none { IfNone result ((a b : Tree) → trees_of terms.items ≡ More a (Last b) → ⊥) }
-{
-    if terms.len() != 2 {
-        return None;
-    }
-    match (terms.pop(), terms.pop()) {
-        (Some(b), Some(a)) => Some((a, b)),
-        _ => unreachable!(),
-    }
-}
-
-/// The name that the term is, if it is an atom.
-pub fn atom(t: Term) -> Option<Name>
-    ensures some { IfSome result (λ name. tree_of t ≡ Atomic name) }
-    ensures none { IfNone result ((name : List ℕ) → tree_of t ≡ Atomic name → ⊥) }
-{
-    match t {
-        Term::Atom(name) => Some(name),
-        Term::Var(_) | Term::Int(_) | Term::Comp(..) => None,
     }
 }
 

@@ -4,7 +4,7 @@ use Rattle.std.proofs.lemmas.Fmt.{decimal_injective}
 use Rattle.std.proofs.lemmas.List.{nil_from_length}
 use borrow.Enum.Total.{values_d}
 use Rattle.tc_lists.specs.Decimals.{IsLongestNumberAt, IsNumberAt}
-use Rattle.tucson.specs.Commands.{Asks, IsCount, AsksToRun, RunsOn, run_words}
+use Rattle.tucson.specs.Commands.{Asks, IsCount}
 use Rattle.tucson.specs.contracts.command.Command.{enum}
 use Rattle.tucson.specs.declared.command.Command.{Command}
 use Rattle.tucson.specs.declared.command.Command.TheVariants.{Run}
@@ -28,10 +28,6 @@ count_whole word n workers rest longest count =
           (sym (append-nil (decimal n)) ∙ ap (λ r. decimal n ++ r) (sym none) ∙ sym longest.stands.text ∙ count.text),
     )
 
--- words that ask for the one command ask to run
-pub asked : (words : List (List ℕ)) (command : Command) → Asks words command → AsksToRun words
-asked words (Run workers) on = (workers, on)
-
 -- so many workers as words may tell
 abbrev pub IsFew : ℕ → Type 0
 IsFew workers = (1 ≤ workers) × (workers ≤ 64)
@@ -39,8 +35,8 @@ IsFew workers = (1 ≤ workers) × (workers ≤ 64)
 count_few : (word : List ℕ) (workers : ℕ) → IsCount word workers → IsFew workers
 count_few word workers count = (count.some, count.few)
 
--- words that ask to run tell one worker at least, and 64 at most
-pub workers_few : (words : List (List ℕ)) (workers : ℕ) → RunsOn words workers → IsFew workers
+-- words that ask for a run tell one worker at least, and 64 at most
+workers_few : (words : List (List ℕ)) (workers : ℕ) → Asks words (Run workers) → IsFew workers
 workers_few [] workers on = absurd on
 workers_few (run ∷ []) workers on = (omega (arith, on.1), omega (arith, on.1))
 workers_few (run ∷ option ∷ []) workers on = absurd on
@@ -54,9 +50,9 @@ told command = (values_d enum 0 (0, tt) command).0
 told_is : (workers : ℕ) → told (Run workers) ≡ workers
 told_is workers = refl
 
+-- a command is the run on so many
+pub told_run : (command : Command) → Run (told command) ≡ command
+told_run (Run workers) = ap Run (told_is workers)
+
 pub told_few : (words : List (List ℕ)) (command : Command) → Asks words command → IsFew (told command)
 told_few words (Run workers) on = subst IsFew (sym (told_is workers)) (workers_few words workers on)
-
--- the words for so many workers ask to run
-pub words_run : (workers : ℕ) → IsFew workers → AsksToRun (run_words workers)
-words_run workers few = (workers, (refl, refl, record { text = refl; some = few.0; few = few.1 }))

@@ -1,5 +1,5 @@
 -- What a call reads, with which status it is to end, and what it is to write.
-use Rattle.std.specs.Prelude.{◌≡◌, ℕ, decimal, Bool, true, false, Option, List, [], ◌∷◌, codes}
+use Rattle.std.specs.Prelude.{◌≡◌, ℕ, decimal, Bool, true, false, Option, Some, None, List, [], ◌∷◌, codes}
 use Rattle.tc_lists.specs.Texts.{joined}
 use Rattle.tc_io.specs.Sources.{ReadsAll, ReadsPast}
 use Rattle.tc_model.specs.Choices.{TheFirst}
@@ -14,7 +14,8 @@ use Rattle.tc_config.specs.Texts.{IsRefused, Spells}
 use Rattle.tc_config.specs.declared.faults.ConfigCause.{ConfigCause}
 use Rattle.tc_config.specs.declared.faults.ConfigCause.TheVariants as cause
 use Rattle.tc_config.specs.declared.limits.TheConstants.{MOST_BYTES}
-use Rattle.tucson.specs.Commands.{AsksToRun}
+use Rattle.tucson.specs.declared.command.Command.{Command}
+use Rattle.tucson.specs.declared.command.Command.TheVariants.{Run}
 use Rattle.tucson.specs.declared.status.Status.{Status}
 use Rattle.tucson.specs.declared.status.Status.TheVariants.{Ended, Refused, Blocked, Usage}
 
@@ -39,31 +40,39 @@ config_cause_text cause.Length = codes "length"
 abbrev pub refused_text : ℕ → ConfigCause → List ℕ
 refused_text clause why =
     joined (
-    codes "configuration refused: clause " ∷ decimal clause ∷ codes ": " ∷ config_cause_text why ∷
-    codes "\n" ∷ [])
+    codes "configuration refused: clause " ∷ decimal clause ∷ codes ": " ∷
+    config_cause_text why ∷ codes "\n" ∷ [])
 
--- the text is that of a good run of the configuration, at whose end some agent waits, or none does
-pub record IsTextOf (c : Configuration) (waits : Bool) (text : List ℕ) : Type 0 where
+-- the text is that of such histories and logs, at whose end some agent waits, or none does
+pub record IsTextOf (Are : List (List Entry) → List (List LogRow) → Type 0) (c : Configuration)
+    (waits : Bool) (text : List ℕ) : Type 0 where
   pub histories : List (List Entry)
   pub logs : List (List LogRow)
-  pub good : IsGood TheFirst c histories logs
+  pub are : Are histories logs
   pub end : is_blocked logs ≡ waits
   pub is : text ≡ run_text One (centre_names c) (agent_names c) histories logs
 
--- the text is that of a good run of the configuration that the input spells
-pub record IsTextOfRun (waits : Bool) (input text : List ℕ) : Type 0 where
+-- the status and the text of such histories and logs
+abbrev pub IsOutcomeOf : (List (List Entry) → List (List LogRow) → Type 0) → Configuration
+    → Status → List ℕ → Type 0
+IsOutcomeOf Are c Ended text = IsTextOf Are c false text
+IsOutcomeOf Are c Blocked text = IsTextOf Are c true text
+IsOutcomeOf Are c status text = ⊥
+
+-- the status and the text that are due for a configuration, by the command
+abbrev pub IsOutcome : Command → Configuration → Status → List ℕ → Type 0
+IsOutcome (Run workers) c = IsOutcomeOf (IsGood TheFirst c) c
+
+-- the status and the text are due for the configuration that the input spells
+pub record IsOutcomeFor (command : Command) (input : List ℕ) (status : Status) (text : List ℕ)
+    : Type 0 where
   pub config : Configuration
   pub spells : Spells input config
-  pub run : IsTextOf config waits text
-
--- the status and the text that are due for a configuration
-abbrev pub IsOutcome : Configuration → Status → List ℕ → Type 0
-IsOutcome c Ended text = IsTextOf c false text
-IsOutcome c Blocked text = IsTextOf c true text
-IsOutcome c status text = ⊥
+  pub outcome : IsOutcome command config status text
 
 -- what is written of an input that is refused
-pub record IsRefusal (input : List ℕ) (clause : ℕ) (why : ConfigCause) (text : List ℕ) : Type 0 where
+pub record IsRefusal (input : List ℕ) (clause : ℕ) (why : ConfigCause) (text : List ℕ)
+    : Type 0 where
   pub refused : IsRefused input clause why
   pub is : text ≡ refused_text clause why
 
@@ -79,17 +88,20 @@ IsInput left rest Unread = rest ≡ left
 IsInput left rest (Whole input) = ReadsAll left rest MOST_BYTES input
 IsInput left rest TooLong = ReadsPast left rest MOST_BYTES
 
--- the status and the text that are due for the whole input
-abbrev pub IsDueForInput : List ℕ → Status → List ℕ → Type 0
-IsDueForInput input Ended text = IsTextOfRun false input text
-IsDueForInput input Blocked text = IsTextOfRun true input text
-IsDueForInput input (Refused clause why) text = IsRefusal input clause why text
-IsDueForInput input status text = ⊥
+-- the command reads its input
+abbrev pub ReadsInput : Command → Type 0
+ReadsInput (Run workers) = Unit {0}
 
--- a call with these words and this input is to end with this status, and to write this text
-abbrev pub IsDue : List (List ℕ) → Input → Status → List ℕ → Type 0
-IsDue words Unread Usage text = (AsksToRun words → ⊥) × (text ≡ usage_text)
-IsDue words (Whole input) status text = AsksToRun words × IsDueForInput input status text
-IsDue words TooLong (Refused clause cause.Length) text =
-    AsksToRun words × (clause ≡ 0) × (text ≡ refused_text 0 cause.Length)
-IsDue words input status text = ⊥
+-- the status and the text that are due to a command for the whole input
+abbrev pub IsDueForInput : Command → List ℕ → Status → List ℕ → Type 0
+IsDueForInput (Run workers) input (Refused clause why) text = IsRefusal input clause why text
+IsDueForInput command input status text = IsOutcomeFor command input status text
+
+-- a call for this command, or for none, and with this input is to end with this
+-- status, and to write this text
+abbrev pub IsDue : Option Command → Input → Status → List ℕ → Type 0
+IsDue None Unread Usage text = text ≡ usage_text
+IsDue (Some command) (Whole input) status text = IsDueForInput command input status text
+IsDue (Some command) TooLong (Refused clause cause.Length) text =
+    ReadsInput command × (clause ≡ 0) × (text ≡ refused_text 0 cause.Length)
+IsDue command input status text = ⊥

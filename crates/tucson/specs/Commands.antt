@@ -1,30 +1,24 @@
 -- Which words ask for which command.
-use Rattle.std.specs.Prelude.{◌≡◌, ◌≤◌, ℕ, decimal, List, [], ◌∷◌, codes}
+use Rattle.std.specs.Prelude.{◌≡◌, ◌≤◌, ℕ, decimal, Option, Some, None, List, [], ◌∷◌, codes}
 use Rattle.tucson.specs.declared.command.Command.{Command}
 use Rattle.tucson.specs.declared.command.Command.TheVariants.{Run}
+use Rattle.tucson.specs.declared.limits.TheConstants.{MOST_WORKERS, USUAL_WORKERS}
 
--- the word tells so many workers: its text is that of a number from 1 to 64
+-- the word tells so many workers: it is the text of their number, which is 1 at
+-- least, and no more than the most
 pub record IsCount (word : List ℕ) (workers : ℕ) : Type 0 where
   pub text : word ≡ decimal workers
   pub some : 1 ≤ workers
-  pub few : workers ≤ 64
+  pub few : workers ≤ MOST_WORKERS
 
--- the words of the one command, which runs a configuration on so many workers: on four, where no
--- number is told
-abbrev pub RunsOn : List (List ℕ) → ℕ → Type 0
-RunsOn (run ∷ []) workers = (run ≡ codes "run") × (workers ≡ 4)
-RunsOn (run ∷ option ∷ count ∷ []) workers =
-    (run ≡ codes "run") × (option ≡ codes "--workers") × IsCount count workers
-RunsOn words workers = ⊥
-
--- the words that ask to run a configuration on so many workers
-abbrev pub run_words : ℕ → List (List ℕ)
-run_words workers = codes "run" ∷ codes "--workers" ∷ decimal workers ∷ []
-
--- the words ask for this command
+-- the words ask for this command; a line for each form of words
 abbrev pub Asks : List (List ℕ) → Command → Type 0
-Asks words (Run workers) = RunsOn words workers
+Asks (run ∷ []) (Run workers) = (run ≡ codes "run") × (workers ≡ USUAL_WORKERS)
+Asks (run ∷ option ∷ count ∷ []) (Run workers) =
+    (run ≡ codes "run") × (option ≡ codes "--workers") × IsCount count workers
+Asks words command = ⊥
 
--- the words ask to run a configuration
-abbrev pub AsksToRun : List (List ℕ) → Type 0
-AsksToRun words = (workers : ℕ) × RunsOn words workers
+-- the words ask for this command, or for none
+abbrev pub IsCommandOf : List (List ℕ) → Option Command → Type 0
+IsCommandOf words (Some command) = Asks words command
+IsCommandOf words None = (command : Command) → Asks words command → ⊥

@@ -1,16 +1,21 @@
 -- How a call ends, by its status.
-use Rattle.std.specs.Prelude.{◌≡◌, ℕ, ◌⊎◌, false, List}
-use Rattle.tc_io.specs.Faults.{CountRises}
+use Rattle.std.specs.Prelude.{◌≡◌, ℕ, ◌⊎◌, false, Option, Some, None, List}
+use Rattle.tc_io.specs.Faults.{CountRises, Counts}
 use Rattle.tc_io.specs.Sources.{SourceState}
 use Rattle.tc_io.specs.Sinks.{SinkState, AppendsFront, appended}
+use Rattle.tc_config.specs.Configurations.{Configuration}
+use Rattle.tc_config.specs.Texts.{IsRefused, Spells}
+use Rattle.tucson.specs.declared.command.Command.{Command}
+use Rattle.tucson.specs.declared.command.Command.TheVariants.{Run}
 use Rattle.tucson.specs.declared.status.Status.{Status}
-use Rattle.tucson.specs.declared.status.Status.TheVariants.{Ended, WriteFault, Blocked, ReadFault, NoMemory}
-use Rattle.tucson.specs.Answer.{Input, IsInput, IsDue}
-use Rattle.tucson.specs.Commands.{AsksToRun}
+use Rattle.tucson.specs.declared.status.Status.TheVariants.{Ended, WriteFault, Refused, Blocked}
+use Rattle.tucson.specs.declared.status.Status.TheVariants.{ReadFault, NoMemory, Usage}
+use Rattle.tucson.specs.Answer.{Input, IsInput, IsDue, ReadsInput}
 
--- a call: its words, and the source and the sink as it begins and as it ends
+-- a call: the command that it asks for, if it asks for one, and the source and
+-- the sink as it begins and as it ends
 pub record Call : Type 0 where
-  pub words : List (List ℕ)
+  pub command : Option Command
   pub source : SourceState
   pub source_after : SourceState
   pub sink : SinkState
@@ -21,7 +26,7 @@ pub record EndsAsDue (call : Call) (status : Status) : Type 0 where
   pub input : Input
   pub text : List ℕ
   pub read : IsInput call.source.left call.source_after.left input
-  pub due : IsDue call.words input status text
+  pub due : IsDue call.command input status text
   pub taken : call.sink_after.taken ≡ appended call.sink.taken text
 
 -- the input was read, some status is due, and a beginning of its text was taken
@@ -30,7 +35,7 @@ pub record BreaksOff (call : Call) : Type 0 where
   pub status : Status
   pub text : List ℕ
   pub read : IsInput call.source.left call.source_after.left input
-  pub due : IsDue call.words input status text
+  pub due : IsDue call.command input status text
   pub taken : AppendsFront call.sink.taken call.sink_after.taken text
 
 -- nothing was taken
@@ -47,7 +52,9 @@ pub record FailsToWrite (call : Call) : Type 0 where
 pub record FailsToRead (call : Call) : Type 0 where
   pub rises : CountRises call.source.read_faults call.source_after.read_faults
   pub unsure : call.source.sure ≡ false
-  pub run : AsksToRun call.words
+  pub command : Command
+  pub asks : call.command ≡ Some command
+  pub reads : ReadsInput command
   pub nothing : TakesNothing call
 
 -- the status that is due with its whole text, or what stopped the call
@@ -64,13 +71,39 @@ IsStopped ReadFault = Unit {0}
 IsStopped NoMemory = Unit {0}
 IsStopped status = ⊥
 
--- the status is this one, unless the call was stopped
-abbrev pub IsUnlessStopped : Status → Status → Type 0
-IsUnlessStopped due status = (status ≡ due) ⊎ IsStopped status
+-- how a call is to end: with this status, or as a run does, whose agents have ended or wait
+pub data End : Type 0 where
+  With : Status → End
+  OfRun : End
 
--- the status says that a run has come to its end, unless the call was stopped
-abbrev pub IsEndOfRun : Status → Type 0
-IsEndOfRun status = IsUnlessStopped Ended status ⊎ IsUnlessStopped Blocked status
+-- the status is of this end
+abbrev pub IsOfEnd : End → Status → Type 0
+IsOfEnd (With due) status = status ≡ due
+IsOfEnd OfRun status = (status ≡ Ended) ⊎ (status ≡ Blocked)
+
+-- the status is of this end, unless the call was stopped
+abbrev pub IsUnlessStopped : End → Status → Type 0
+IsUnlessStopped end status = IsOfEnd end status ⊎ IsStopped status
+
+-- how a command is to end with this input; a line for each command and end
+abbrev pub IsEndFor : Command → List ℕ → End → Type 0
+IsEndFor (Run workers) input OfRun = (c : Configuration) × Spells input c
+IsEndFor (Run workers) input (With (Refused clause why)) = IsRefused input clause why
+IsEndFor command input end = ⊥
+
+-- how a call is to end that asks for this command, or for none, and has this input left
+abbrev pub MustEnd : Option Command → Option (List ℕ) → End → Type 0
+MustEnd None left (With Usage) = Unit {0}
+MustEnd (Some command) (Some input) end = IsEndFor command input end
+MustEnd command left end = ⊥
+
+-- what holds of a call that returns this status: it ends as the status says, as command and input
+-- decide unless it was stopped, and each fault of reading and of writing is told
+pub record Returns (call : Call) (status : Status) : Type 0 where
+  pub ends : Ends call status
+  pub due : (end : End) → MustEnd call.command call.source.left end → IsUnlessStopped end status
+  pub reads : Counts (status ≡ ReadFault) call.source.read_faults call.source_after.read_faults
+  pub writes : Counts (status ≡ WriteFault) call.sink.write_faults call.sink_after.write_faults
 
 -- a write has failed, and a beginning of the text was taken
 pub record FailsAmid (text : List ℕ) (sink sink_after : SinkState) : Type 0 where
@@ -87,14 +120,16 @@ Writes status text sink sink_after same =
     (same ≡ status) × (sink_after.taken ≡ appended sink.taken text)
 
 -- a status and a text that are due, and the writing of that text
-pub record IsDueWritten (due : Status → List ℕ → Type 0) (sink sink_after : SinkState) (result : Status)
-    : Type 0 where
+pub record IsDueWritten (due : Status → List ℕ → Type 0) (sink sink_after : SinkState)
+    (result : Status) : Type 0 where
   pub status : Status
   pub text : List ℕ
   pub is : due status text
   pub writes : Writes status text sink sink_after result
 
 -- what is due was written, or the writing was stopped; or memory ran out before
-abbrev pub WritesDue : (Status → List ℕ → Type 0) → SinkState → SinkState → Status → Type 0
+abbrev pub WritesDue : (Status → List ℕ → Type 0) → SinkState → SinkState → Status
+    → Type 0
 WritesDue due sink sink_after result =
-    IsDueWritten due sink sink_after result ⊎ ((result ≡ NoMemory) × (sink_after.taken ≡ sink.taken))
+    IsDueWritten due sink sink_after result
+    ⊎ ((result ≡ NoMemory) × (sink_after.taken ≡ sink.taken))

@@ -1,14 +1,9 @@
 //! The words of a call.
 ghost use Rattle.std.specs.Prelude.{◌∷◌, [], ℕ, map, IfNone, IfSome};
-ghost use Rattle.tucson.specs.Commands.{Asks, IsCount, AsksToRun};
+ghost use Rattle.tucson.specs.Commands.{IsCommandOf, IsCount};
 
+use crate::limits::{MOST_WORKERS, USUAL_WORKERS};
 use tc_lists::read_number;
-
-/// How many workers there are where the words don't tell.
-const WORKERS: usize = 4;
-
-/// The most workers that words may tell.
-const MOST_WORKERS: u64 = 64;
 
 /// What a call is to do.
 #[derive(Clone, Copy, PartialEq, Eq, Debug)]
@@ -19,8 +14,7 @@ pub enum Command {
 
 /// The command that the words ask for: `run`, or `run --workers N`.
 pub fn command_of(words: &[Vec<u8>]) -> Option<Command>
-    ensures some { IfSome result (Asks (map (λ w. w.items) words.now)) }
-    ensures none { IfNone result (AsksToRun (map (λ w. w.items) words.now) → ⊥) }
+    ensures { IsCommandOf (map (λ w. w.items) words.now) result }
 {
     match words {
         [run] => of_one(run),
@@ -31,19 +25,19 @@ pub fn command_of(words: &[Vec<u8>]) -> Option<Command>
 
 // The command that a single word asks for.
 fn of_one(run: &[u8]) -> Option<Command>
-    ensures some { IfSome result (Asks (run.now ∷ [])) }
-    ensures none { IfNone result (AsksToRun (run.now ∷ []) → ⊥) }
+    ensures { IsCommandOf (run.now ∷ []) result }
 {
     if run != b"run".as_slice() {
         return None;
     }
-    Some(Command::Run { workers: WORKERS })
+    Some(Command::Run {
+        workers: USUAL_WORKERS,
+    })
 }
 
 // The command that three words ask for.
 fn of_three(run: &[u8], option: &[u8], count: &[u8]) -> Option<Command>
-    ensures some { IfSome result (Asks (run.now ∷ option.now ∷ count.now ∷ [])) }
-    ensures none { IfNone result (AsksToRun (run.now ∷ option.now ∷ count.now ∷ []) → ⊥) }
+    ensures { IsCommandOf (run.now ∷ option.now ∷ count.now ∷ []) result }
 {
     if run != b"run".as_slice() {
         return None;

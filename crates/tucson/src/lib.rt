@@ -1,4 +1,5 @@
-//! The top call: a configuration is read, its agents' scripts are run, and what came of it is written.
+//! The top call: a configuration is read, its agents' scripts are run, and what
+//! came of it is written.
 //!
 //! `checked_runs` makes its calls by these lines:
 //!
@@ -8,11 +9,13 @@
 //! let status = tucson(rt, alloc, &words, &mut source, &mut sink, gate);
 //! ```
 //!
-//! `status` is then `Status::Ended` or `Status::Blocked`, and `sink.taken()` the histories and the logs;
-//! or it says why not. `run_main` does the same for a number of workers, without words.
+//! `status` is then `Status::Ended` or `Status::Blocked`, and `sink.taken()` the histories and the
+//! logs; or it says why not. `run_main` does the same for a number of workers, without words.
 #![tactic(auto)]
 
 mod command;
+mod laws;
+mod limits;
 mod refusing;
 mod running;
 mod status;
@@ -20,6 +23,8 @@ mod top;
 mod writing;
 
 pub use command::{Command, command_of};
+pub use laws::limits_are_these;
+pub use limits::{MOST_WORKERS, USUAL_WORKERS};
 pub use running::run_main;
 pub use status::Status;
 pub use tc_config::ConfigCause;

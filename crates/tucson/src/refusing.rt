@@ -3,7 +3,7 @@ ghost use Rattle.std.specs.Prelude.{◌≡◌, IfOk};
 ghost use Rattle.tc_io.specs.Faults.{Counts};
 ghost use Rattle.tc_io.specs.Sinks.{sink_of};
 ghost use Rattle.tucson.specs.Answer.{config_cause_text, refused_text};
-ghost use Rattle.tucson.specs.Ending.{IsUnlessStopped, Writes};
+ghost use Rattle.tucson.specs.Ending.{IsUnlessStopped, With, Writes};
 
 use crate::status::Status;
 use crate::writing::written;
@@ -19,7 +19,7 @@ pub fn refused<K: Sink>(alloc: Global, clause: u32, cause: ConfigCause, sink: &m
         (sink_of K.taken K.write_faults K.sure sink.new) result }
     ensures writes { Counts (result ≡ Status.WriteFault)
         (K.write_faults sink.old) (K.write_faults sink.new) }
-    ensures unless { IsUnlessStopped (Status.Refused clause cause) result }
+    ensures unless { IsUnlessStopped (With (Status.Refused clause cause)) result }
     ensures reads { result ≡ Status.ReadFault → ⊥ }
 {
     match refusal(alloc, clause, cause) {

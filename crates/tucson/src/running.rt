@@ -1,16 +1,14 @@
 //! A configuration, read to its end and run.
-ghost use Rattle.std.specs.Prelude.{◌≡◌, ◌<◌, ◌≤◌, ℕ, IfOk, IfSome};
+ghost use Rattle.std.specs.Prelude.{◌≡◌, ◌<◌, ◌≤◌, IfOk, Some};
 ghost use Rattle.tc_io.specs.Faults.{Counts};
 ghost use Rattle.tc_io.specs.Sinks.{sink_of};
 ghost use Rattle.tc_io.specs.Sources.{source_of};
-ghost use Rattle.tc_config.specs.Configurations.{Configuration};
-ghost use Rattle.tc_config.specs.Texts.{IsRefused, Spells};
-ghost use Rattle.tc_config.specs.declared.faults.ConfigCause.{ConfigCause};
 ghost use Rattle.tc_runner.specs.Runs.{IsGoodRun, MayGoOn};
 ghost use Rattle.tucson.specs.Answer.{IsDueForInput, IsOutcome};
-ghost use Rattle.tucson.specs.Commands.{run_words};
-ghost use Rattle.tucson.specs.Ending.{Ends, IsEndOfRun, IsUnlessStopped, WritesDue};
+ghost use Rattle.tucson.specs.Ending.{End, IsEndFor, IsUnlessStopped, OfRun, Returns, WritesDue};
+ghost use Rattle.tucson.specs.declared.limits.TheConstants.{MOST_WORKERS};
 
+use crate::command::Command;
 use crate::refusing::refused;
 use crate::status::Status;
 use crate::writing::write_run;
@@ -24,9 +22,10 @@ use tc_lists::NoMemory;
 use tc_runner::{Opened, go_on, open};
 use tc_workers::work;
 
-/// Reads a configuration, runs the scripts of its agents on so many workers, and writes what came of it.
+/// Reads a configuration, runs the scripts of its agents on so many workers,
+/// and writes what came of it.
 ///
-/// It promises what `tucson` does for the words `run --workers N` with this number.
+/// It is a call of the command to run on so many.
 pub fn run_main<R: Threads + Wait + Sync, S: Source, K: Sink, G: Gate + Sync>(
     rt: &R,
     alloc: Global,
@@ -36,26 +35,14 @@ pub fn run_main<R: Threads + Wait + Sync, S: Source, K: Sink, G: Gate + Sync>(
     gate: &G,
 ) -> Status
     requires some { 1 ≤ workers }
-    requires few { workers ≤ 64 }
-    ensures ends { Ends (record {
-      words = run_words workers;
+    requires few { workers ≤ MOST_WORKERS }
+    ensures { Returns (record {
+      command = Some (Command.Run workers);
       source = source_of S.left S.read_faults S.sure source.old;
       source_after = source_of S.left S.read_faults S.sure source.new;
       sink = sink_of K.taken K.write_faults K.sure sink.old;
       sink_after = sink_of K.taken K.write_faults K.sure sink.new;
     }) result }
-
-    // Every fault of reading and of writing is told, and no other status stands for one.
-    ensures reads { Counts (result ≡ Status.ReadFault)
-        (S.read_faults source.old) (S.read_faults source.new) }
-    ensures writes { Counts (result ≡ Status.WriteFault)
-        (K.write_faults sink.old) (K.write_faults sink.new) }
-
-    // The input decides the status.
-    ensures runs { IfSome (S.left source.old) (λ input. (c : Configuration) → Spells input c
-        → IsEndOfRun result) }
-    ensures refused { IfSome (S.left source.old) (λ input. (clause : ℕ) (why : ConfigCause)
-        → IsRefused input clause why → IsUnlessStopped (Status.Refused clause why) result) }
 {
     match read_all(alloc, source, MOST_BYTES) {
         Ok(input) => answer(rt, alloc, workers, &input, sink, gate),
@@ -75,14 +62,14 @@ fn answer<R: Threads + Wait + Sync, K: Sink, G: Gate + Sync>(
     gate: &G,
 ) -> Status
     requires { 0 < workers }
-    ensures tells { WritesDue (IsDueForInput input.now) (sink_of K.taken K.write_faults K.sure sink.old)
+    ensures tells { WritesDue (IsDueForInput (Command.Run workers) input.now)
+        (sink_of K.taken K.write_faults K.sure sink.old)
         (sink_of K.taken K.write_faults K.sure sink.new) result }
     ensures writes { Counts (result ≡ Status.WriteFault)
         (K.write_faults sink.old) (K.write_faults sink.new) }
     ensures reads { result ≡ Status.ReadFault → ⊥ }
-    ensures runs { (c : Configuration) → Spells input.now c → IsEndOfRun result }
-    ensures refused { (clause : ℕ) (why : ConfigCause) → IsRefused input.now clause why
-        → IsUnlessStopped (Status.Refused clause why) result }
+    ensures due { (end : End) → IsEndFor (Command.Run workers) input.now end
+        → IsUnlessStopped end result }
 {
     match read_config(alloc, input) {
         Ok(config) => run(rt, alloc, workers, config, sink, gate),
@@ -101,12 +88,13 @@ fn run<R: Threads + Wait + Sync, K: Sink, G: Gate + Sync>(
     gate: &G,
 ) -> Status
     requires { 0 < workers }
-    ensures tells { WritesDue (IsOutcome config) (sink_of K.taken K.write_faults K.sure sink.old)
+    ensures tells { WritesDue (IsOutcome (Command.Run workers) config)
+        (sink_of K.taken K.write_faults K.sure sink.old)
         (sink_of K.taken K.write_faults K.sure sink.new) result }
     ensures writes { Counts (result ≡ Status.WriteFault)
         (K.write_faults sink.old) (K.write_faults sink.new) }
     ensures reads { result ≡ Status.ReadFault → ⊥ }
-    ensures runs { IsEndOfRun result }
+    ensures runs { IsUnlessStopped OfRun result }
 {
     match ran(rt, alloc, workers, config, gate) {
         Ok(run) => write_run(alloc, &run, sink),

@@ -1,17 +1,19 @@
 //! The text of a run, written.
 ghost use Rattle.std.specs.Prelude.{◌≡◌, ◌<◌, [], All, OnOk, Some, length, slice_get};
 ghost use Rattle.tc_model.specs.Calls.{id_of};
+ghost use Rattle.tc_model.specs.Choices.{TheFirst};
 ghost use Rattle.tc_io.specs.Faults.{Counts};
 ghost use Rattle.tc_io.specs.Sinks.{sink_of};
 ghost use Rattle.tc_config.specs.Configurations.{agent_names, centre_names};
+ghost use Rattle.tc_config.specs.Good.{IsGood};
 ghost use Rattle.tc_desk.specs.Logs.{is_blocked, rows_of};
 ghost use Rattle.tc_histtext.specs.Text.{histories_text, logs_text, run_text};
 ghost use Rattle.tc_histtext.specs.declared.versions.Version.TheVariants.{One};
 ghost use Rattle.tc_runner.specs.Cores.{AreCores, histories};
 ghost use Rattle.tc_runner.specs.Runs.{IsGoodRun, MayGoOn};
 ghost use Rattle.tc_io.specs.Flow.{HandsOn, flow};
-ghost use Rattle.tucson.specs.Answer.{IsOutcome};
-ghost use Rattle.tucson.specs.Ending.{IsEndOfRun, IsStopped, IsUnlessStopped, WritesDue, Writes};
+ghost use Rattle.tucson.specs.Answer.{IsOutcomeOf};
+ghost use Rattle.tucson.specs.Ending.{IsStopped, IsUnlessStopped, OfRun, With, WritesDue, Writes};
 ghost use Rattle.tucson.specs.Status.{status_of_run};
 
 use crate::status::Status;
@@ -31,7 +33,7 @@ pub fn written<K: Sink>(status: Status, text: &[u8], sink: &mut K) -> Status
         (sink_of K.taken K.write_faults K.sure sink.new) result }
     ensures writes { Counts (result ≡ Status.WriteFault)
         (K.write_faults sink.old) (K.write_faults sink.new) }
-    ensures unless { IsUnlessStopped status result }
+    ensures unless { IsUnlessStopped (With status) result }
     ensures reads { result ≡ Status.ReadFault → ⊥ }
 {
     match write_all(sink, text) {
@@ -45,12 +47,13 @@ pub fn written<K: Sink>(status: Status, text: &[u8], sink: &mut K) -> Status
 pub fn write_run<K: Sink>(alloc: Global, run: &Opened, sink: &mut K) -> Status
     requires good { IsGoodRun run.now }
     requires goes { MayGoOn run.now }
-    ensures tells { WritesDue (IsOutcome run.now.plan) (sink_of K.taken K.write_faults K.sure sink.old)
+    ensures tells { WritesDue (IsOutcomeOf (IsGood TheFirst run.now.plan) run.now.plan)
+        (sink_of K.taken K.write_faults K.sure sink.old)
         (sink_of K.taken K.write_faults K.sure sink.new) result }
     ensures writes { Counts (result ≡ Status.WriteFault)
         (K.write_faults sink.old) (K.write_faults sink.new) }
     ensures reads { result ≡ Status.ReadFault → ⊥ }
-    ensures runs { IsEndOfRun result }
+    ensures runs { IsUnlessStopped OfRun result }
 {
     let blocked = is_blocked(&run.logs);
     let mut kept = Vec::new(alloc);
@@ -129,7 +132,8 @@ fn write_histories<K: Sink>(
     Ok(())
 }
 
-// The history of the centre at this place, with the names of the agents. One that isn't opened has none.
+// The history of the centre at this place, with the names of the agents. One
+// that isn't opened has none.
 fn history_at<'a>(plan: &Plan, cores: &'a [Core], place: usize) -> (&'a [Name], &'a [Entry])
     requires cores { AreCores plan.now cores.now }
     requires none { length plan.now.agents ≡ 0 → cores.now ≡ [] }

@@ -19,11 +19,11 @@ returns-in_default-clause-none c ms e =
     let rest = rest_is_list c.loop-lines.lines.items ms (tree_of c.loop-lines.rest) (c.loop-lines.invariant ∙ e) in
     let first =
     first_is_line (tree_of c.in-Cell.head) (tree_of c.in-Cell.tail) rest.0 (sym c.in-Cell.ensures ∙ rest.1) in
-    c.in_default.ensures first.0 first.1
+    c.in_default.ensures.none first.0 first.1
 
 pub loop-lines-preserved : goal.loop-lines-preserved
 loop-lines-preserved c =
     ap (λ ls. lines_onto ls (tree_of c.in-Cell.tail)) c.in_ok-push-in-Cell.ensures.items
     ∙ lines_onto-push c.loop-lines.lines.items c.in-Some.line (tree_of c.in-Cell.tail)
-    ∙ ap (λ h. lines_onto c.loop-lines.lines.items (of_two (codes ".") h (tree_of c.in-Cell.tail))) (sym c.in-Some.ensures)
+    ∙ ap (λ h. lines_onto c.loop-lines.lines.items (of_two (codes ".") h (tree_of c.in-Cell.tail))) (sym c.in-Some.ensures.some)
     ∙ ap (lines_onto c.loop-lines.lines.items) (sym c.in-Cell.ensures) ∙ c.loop-lines.invariant

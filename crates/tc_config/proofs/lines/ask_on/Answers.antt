@@ -1,8 +1,0 @@
-use Rattle.std.proofs.Common.{sym, ◌∙◌}
-use Rattle.tc_term.specs.TreeView.{tree_of}
-use Rattle.tc_config.proofs.Spelling.{not_a_primitive}
-use Rattle.tc_config.proofs.lines.ask_on.Goals as goal
-
-pub returns : goal.returns
-returns c =
-    not_a_primitive c.args.name (tree_of c.args.operand) (λ p same. c.in-None.ensures.none p (same ∙ sym c.bytes.ensures))
