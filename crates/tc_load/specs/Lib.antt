@@ -1,0 +1,4 @@
+pub mod Words
+pub mod Workload
+pub mod Counts
+pub mod Summaries
