@@ -1,7 +1,7 @@
 //! The top call: a configuration is read, its agents' scripts are run, and what
 //! came of it is written.
 //!
-//! `checked_runs` makes its calls by these lines:
+//! `test_checked_runs` makes its calls by these lines:
 //!
 //! ```
 //! let mut source = SureSource::new(configuration.to_vec(alloc)?);

@@ -1,6 +1,0 @@
-use Rattle.std.proofs.Common.{◌≡◌, ◌++◌}
-use Rattle.shared_rows.specs.Plays.{passes_of}
-use Rattle.shared_rows.proofs.together.apart.Given as goal
-
-abbrev pub invariant-loop-one : goal.invariant-loop-one
-invariant-loop-one l = l.ended.items ++ passes_of l.one-iterator.rest.items ≡ passes_of l.fn.played.items

@@ -1,5 +1,0 @@
-use mathlib.Core.List.{IsPrefix}
-use Rattle.term_table.proofs.equations.+take.Given as goal
-
-abbrev pub invariant-loop-step : goal.invariant-loop-step
-invariant-loop-step l = IsPrefix l.fn.sample.store.pairs l.sample.store.pairs

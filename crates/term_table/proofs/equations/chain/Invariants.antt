@@ -1,5 +1,0 @@
-use mathlib.Core.List.{IsPrefix}
-use Rattle.term_table.proofs.equations.chain.Given as goal
-
-abbrev pub invariant-loop-i : goal.invariant-loop-i
-invariant-loop-i l = IsPrefix l.fn.sample.store.pairs l.sample.store.pairs

@@ -1,0 +1,5 @@
+use mathlib.Core.List.{IsPrefix}
+use Rattle.test_term_table.proofs.equations.chain.Given as goal
+
+abbrev pub invariant-loop-i : goal.invariant-loop-i
+invariant-loop-i l = IsPrefix l.fn.sample.store.pairs l.sample.store.pairs
