@@ -1,10 +1,10 @@
 -- Each body has an outcome.
-use Rattle.std.proofs.Common.{◌≡◌, ◌+◌, ℕ, zero, suc, List, [], ◌∷◌, Some, take, refl}
+use Rattle.std.proofs.Common.{◌≡◌, ◌+◌, ℕ, suc, List, [], ◌∷◌, Some, take, refl}
 use Rattle.std.specs.List.{slice_get}
 use Rattle.tc_lists.proofs.Firsts.{NoneOf-from_All, none_first}
 use Rattle.tc_term.specs.Tree.{Tree}
 use Rattle.tc_term.specs.TreeView.{tree_of}
-use Rattle.tc_model.specs.Choices.{TheFirst, AnyOne}
+use Rattle.tc_model.specs.Choices.{TheFirst}
 use Rattle.tc_model.specs.Events.{Occurrence, Setting}
 use Rattle.tc_model.specs.Reactions.{Rule}
 use Rattle.tc_model.specs.Goals.{Scene, Moment, Move, Takes, Reads, IsStep, IsStuck, IsMatchAt, Leads, moved}

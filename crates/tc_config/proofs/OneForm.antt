@@ -1,10 +1,8 @@
 -- A term is written as one form at most.
 use Rattle.std.proofs.Common.{◌≡◌, ℕ, pos, List, [], ◌∷◌, Some, None, if◌then◌else◌, codes, refl, ap, sym, ◌∙◌}
 use Rattle.std.specs.Str.{bytes_eq}
-use Rattle.tc_term.specs.Tree.{Tree, Atomic, Number, Compound, Last, More}
-use Rattle.tc_term.specs.declared.terms.Term.{Term}
+use Rattle.tc_term.specs.Tree.{Tree, Number, Compound, Last, More}
 use Rattle.tc_term.proofs.TreeTerms.{term_of, term_of-tree_of}
-use Rattle.tc_model.specs.Lines.{line_term}
 use Rattle.tc_model.proofs.Written.{line_at, line_at-term, name_at, primitive_at, primitive_at-name}
 use Rattle.tc_config.specs.Forms.{IsFormOf, form_term, lines_term}
 use Rattle.tc_config.specs.declared.forms.Form.{Form}

@@ -1,5 +1,5 @@
 -- The forms of a clause, and how each is written.
-use Rattle.std.specs.Prelude.{◌≡◌, ◌≤◌, ℕ, pos, List, [], ◌∷◌, Option, Some, None, codes}
+use Rattle.std.specs.Prelude.{◌≡◌, ◌≤◌, pos, List, [], ◌∷◌, Option, Some, None, codes}
 use Rattle.tc_term.specs.Tree.{Tree, Atomic, Number, Compound, Last, More}
 use Rattle.tc_term.specs.TreeView.{tree_of}
 use Rattle.tc_model.specs.Asks.{primitive_name}

@@ -2,7 +2,7 @@
 ghost use Rattle.std.specs.Prelude.{◌≡◌, ◌≤◌, ◌<◌, ◌+◌, ◌*◌, length, IfOk};
 ghost use Rattle.std.specs.Prelude.{OnOk, OnErr};
 ghost use Rattle.tc_bag.specs.Stock.{AddsYounger, tuples_of};
-ghost use Rattle.tc_model.specs.Events.{MayOccur, success_event};
+ghost use Rattle.tc_model.specs.Events.{MayOccur};
 ghost use Rattle.tc_model.specs.declared.events.Phase.TheVariants.{Post};
 ghost use Rattle.tc_model.specs.declared.events.Sign.TheVariants.{Success};
 ghost use Rattle.tc_model.specs.declared.limits.TheConstants.{MOST_GOALS};

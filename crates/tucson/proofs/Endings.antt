@@ -1,5 +1,5 @@
 -- How a call ends, from what it read and what it wrote.
-use Rattle.std.proofs.Common.{◌≡◌, ◌<◌, ℕ, List, Option, Some, None, length, sym, subst, inl, inr, refl, arith}
+use Rattle.std.proofs.Common.{◌≡◌, ◌<◌, ℕ, List, Option, Some, None, length, sym, subst, inl, inr, arith}
 use Rattle.tc_io.specs.Sinks.{SinkState, appended}
 use Rattle.tc_io.specs.Sources.{ReadsAll, ReadsPast, SourceState}
 use Rattle.tc_config.specs.Configurations.{Configuration}
@@ -11,7 +11,7 @@ use Rattle.tucson.specs.declared.command.Command.{Command}
 use Rattle.tucson.specs.declared.command.Command.TheVariants.{Run}
 use Rattle.tucson.specs.declared.status.Status.{Status}
 use Rattle.tucson.specs.declared.status.Status.TheVariants.{Ended, WriteFault, Refused, Blocked, ReadFault, NoMemory, Usage}
-use Rattle.tucson.specs.Answer.{Input, Unread, Whole, TooLong, IsDueForInput, IsInput, IsDue}
+use Rattle.tucson.specs.Answer.{Input, Whole, IsDueForInput, IsInput, IsDue}
 use Rattle.tucson.specs.Ending.{Call, End, EndsAsDue, Ends, IsEndFor, IsUnlessStopped, MustEnd, OfRun, With, WritesDue, Writes}
 
 answers : (call : Call) (status same : Status) (input : Input) (text : List ℕ) → IsInput call.source.left call.source_after.left input → IsDue call.command input status text → (same ≡ status) × (call.sink_after.taken ≡ appended call.sink.taken text) → EndsAsDue call same

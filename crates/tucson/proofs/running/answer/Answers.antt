@@ -1,4 +1,4 @@
-use Rattle.std.proofs.Common.{inr, subst, sym, ap₂}
+use Rattle.std.proofs.Common.{subst, ap₂}
 use Rattle.tc_config.specs.Answers.{IsConfigWant, IsThisRefusal}
 use Rattle.tc_io.specs.Sinks.{sink_of}
 use Rattle.tucson.specs.Ending.{IsUnlessStopped, With}
