@@ -29,8 +29,8 @@ AnswersCall d centre asked (Ok how) reply e =
 AnswersCall d centre asked (Err why) reply e = (why ≢ refusal.NoMemory)
     × Refuses d centre asked why e × (reply ≡ error_line (refusal_text One why))
 
--- what a poll came to: the reply that it told, or that there is none yet; that the centre is full; or
--- that none was made, since no call is pending or no turn is left
+-- what a poll came to: the reply that it told, or that there is none yet; that the centre is
+-- full; or that none was made, since no call is pending or no turn is left
 abbrev pub AnswersPoll : DeskState → Result Seen DeskFault → List ℕ → DeskState → Type 0
 AnswersPoll d (Ok Answered) reply e = (told : Reply) × HasRowOfPoll d (Some told) e
     × (e.waits ≡ false) × (reply ≡ reply_line (reply_text told))
@@ -44,8 +44,8 @@ AnswersPoll d (Err fault.TurnsSpent) reply e =
     Stays d fault.TurnsSpent e × (reply ≡ error_line (codes "turns spent"))
 AnswersPoll d (Err fault.NoMemory) reply e = ⊥
 
--- what a wait came to: the reply that the pending call has got; or none, since no call is pending or
--- no turn is left
+-- what a wait came to: the reply that the pending call has got; or none, since no call is pending
+-- or no turn is left
 abbrev pub AnswersWait : DeskState → Result (Unit {0}) DeskFault → List ℕ → DeskState → Type 0
 AnswersWait d (Ok done) reply e =
     (got : Gets d e) × (reply ≡ reply_line (reply_text got.reply))
@@ -56,8 +56,8 @@ AnswersWait d (Err fault.TurnsSpent) reply e =
 AnswersWait d (Err (fault.Full weight pending)) reply e = ⊥
 AnswersWait d (Err fault.NoMemory) reply e = ⊥
 
--- what a line came to that asks this, and its reply; none has a reply of this kind that asks for the
--- end, or for which memory runs out
+-- what a line came to that asks this, and its reply; none has a reply of this kind that asks for
+-- the end, or for which memory runs out
 abbrev pub Answers : DeskState → Result LineAsk BadLine → List ℕ → DeskState → Type 0
 Answers d (Ok (Call centre asked)) reply e =
     (became : Result Served Refusal) × AnswersCall d centre asked became reply e
@@ -85,7 +85,8 @@ pub record UsesTurns (d e : DeskState) : Type 0 where
   pub wide : length e.turns ≡ length d.turns
   pub fell : (k : ℕ) → slice_index e.turns k ≤ slice_index d.turns k
   pub most : (k : ℕ)
-      → slice_index d.turns k + slice_index d.seen k ≤ slice_index e.turns k + slice_index e.seen k + 1
+      → slice_index d.turns k + slice_index d.seen k
+      ≤ slice_index e.turns k + slice_index e.seen k + 1
 
 -- what every line keeps, whatever it came to
 pub record KeepsDesk (d e : DeskState) : Type 0 where

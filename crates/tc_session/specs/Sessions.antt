@@ -41,7 +41,8 @@ EndsForMemory d bytes last e =
 -- how a session ends by the bytes behind the lines that were answered, and what is written last
 abbrev pub EndsBy : DeskState → List ℕ → SessionEnd → List ℕ → DeskState → Type 0
 EndsBy d bytes end.Quit last e =
-    ((rest : List ℕ) × BeginsWith bytes (Ok Quit) rest) × (last ≡ reply_line (codes "bye")) × (e ≡ d)
+    ((rest : List ℕ) × BeginsWith bytes (Ok Quit) rest) × (last ≡ reply_line (codes "bye"))
+    × (e ≡ d)
 EndsBy d bytes end.EndOfInput last e =
     HasNoBreak bytes × (length bytes ≤ MOST_LINE) × (last ≡ cut_text bytes) × (e ≡ d)
 EndsBy d bytes end.LineTooLong last e =
@@ -51,8 +52,8 @@ EndsBy d bytes end.ReadFault last e = (last ≡ []) × (e ≡ d)
 EndsBy d bytes end.WriteFault last e = (last ≡ []) × (e ≡ d)
 EndsBy d bytes end.NoMemory last e = EndsForMemory d bytes last e
 
--- what was taken of the text of a session that is due to end so: all of it; but a front where a write
--- has failed or memory has run out
+-- what was taken of the text of a session that is due to end so: all of it; but a front where a
+-- write has failed or memory has run out
 abbrev pub Wrote : SessionEnd → List ℕ → SinkState → SinkState → SessionEnd → Type 0
 Wrote due text sink after end.WriteFault = AppendsFront sink.taken after.taken text
 Wrote due text sink after end.NoMemory = AppendsFront sink.taken after.taken text

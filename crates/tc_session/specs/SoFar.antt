@@ -22,8 +22,8 @@ pub record Moment : Type 0 where
   pub kept : List ℕ
   pub desk : DeskState
 
--- the moment with this link, of which these are what is left, its read faults, whether it is sure as
--- a source, what it has taken, its write faults, and whether it is sure as a sink
+-- the moment with this link, of which these are what is left, its read faults, whether it is sure
+-- as a source, what it has taken, its write faults, and whether it is sure as a sink
 abbrev pub moment : {L : Type 0} → (L → Option (List ℕ)) → (L → ℕ) → (L → Bool)
     → (L → Option (List ℕ)) → (L → ℕ) → (L → Bool)
     → L → List ℕ → List ℕ → DeskState → Moment

@@ -7,9 +7,10 @@ ghost use Rattle.tc_session.specs.Answers.{Answers};
 ghost use Rattle.tc_session.specs.Sessions.{LeadTo};
 ghost use Rattle.tc_session.specs.Staying.{HasOneCall, LogStays};
 
-/// A line that is answered leaves the log as it was in these cases alone: it asks no call of the desk;
-/// it polls or waits where no call is pending; it polls where no turn is left at the pending call's
-/// centre; it waits, and at its end no turn is left there and the call is pending still.
+/// A line that is answered leaves the log as it was in these cases alone: it asks no call of the
+/// desk; it polls or waits where no call is pending; it polls where no turn is left at the
+/// pending call's centre; it waits, and at its end no turn is left there and the call is pending
+/// still.
 pub fn a_log_stays_in_few_cases()
     ensures only { (d : DeskState) (asked : Result LineAsk BadLine) (reply : List ℕ) (e : DeskState)
         → Answers d asked reply e → e.log ≡ d.log → LogStays d asked e }
@@ -20,8 +21,8 @@ pub fn a_log_stays_in_few_cases()
 
 /// At each centre the turns fall by no more than the lines and the entries that are newly seen.
 ///
-/// So one who begins with 4,294,967,295 turns, at a centre of which at most 4,000,000 entries are seen,
-/// has none left only after 4,290,000,000 lines.
+/// So one who begins with 4,294,967,295 turns, at a centre of which at most 4,000,000 entries are
+/// seen, has none left only after 4,290,000,000 lines.
 pub fn turns_fall_by_lines_and_entries()
     ensures fall { (d : DeskState) (raws : List (List ℕ)) (text : List ℕ) (e : DeskState)
         → LeadTo d raws text e → (k : ℕ) → slice_index d.turns k + slice_index d.seen k

@@ -1,7 +1,7 @@
 //! Sessions: lines from a link, each answered by an agent's desk.
 //!
-//! What a line comes to is what the desk's call comes to that it asks; the reply is read off the row.
-//! Nothing here knows what the link is connected to, or of centres.
+//! What a line comes to is what the desk's call comes to that it asks; the reply is read off the
+//! row. Nothing here knows what the link is connected to, or of centres.
 //!
 //! ```
 //! let mut desk = AgentDesk::new(alloc, &site, kit);

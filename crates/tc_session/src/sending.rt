@@ -21,8 +21,8 @@ use tc_lines::{FillFault, Lines, release_spare};
 /// How many bytes of replies are kept at most before they are written.
 const MOST_KEPT: usize = 16_384;
 
-/// Makes room for the next reply; where many are kept, they are written first. How the session ends, if
-/// it does.
+/// Makes room for the next reply; where many are kept, they are written first. How the session
+/// ends, if it does.
 pub(crate) fn prepare<L: Link>(link: &mut L, replies: &mut Vec<u8>) -> Option<SessionEnd>
     ensures steps { (from : Moment) (held : List ℕ) (d : DeskState) → IsSoFar from
         (moment L.Source.left L.Source.read_faults L.Source.sure L.Sink.taken L.Sink.write_faults
