@@ -48,7 +48,8 @@ pub record AsksThis (raw : List ℕ) (asked : Result LineAsk BadLine) : Type 0 w
   pub request : IsRequest line asked
 
 -- these bytes begin with a line that asks this, and these stand behind it
-pub record BeginsWith (bytes : List ℕ) (asked : Result LineAsk BadLine) (rest : List ℕ) : Type 0 where
+pub record BeginsWith (bytes : List ℕ) (asked : Result LineAsk BadLine) (rest : List ℕ)
+    : Type 0 where
   pub raw : List ℕ
   pub asks : AsksThis raw asked
   pub is : bytes ≡ raw ++ 10 ∷ rest

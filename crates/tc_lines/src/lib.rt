@@ -1,8 +1,9 @@
-//! Lines: bytes that come in pieces of any size, cut at each LF, and what each line asks, and the lines of replies.
+//! Lines: bytes that come in pieces of any size, cut at each LF, and what each line asks, and the
+//! lines of replies.
 //!
-//! A buffer holds what was read and isn't used yet, at most one byte more than a line may have, and a
-//! line is read where it lies in it. So what lines ask doesn't depend on how their bytes were cut.
-//! Nothing here knows of desks.
+//! A buffer holds what was read and isn't used yet, at most one byte more than a line may have,
+//! and a line is read where it lies in it. So what lines ask doesn't depend on how their bytes
+//! were cut. Nothing here knows of desks.
 //!
 //! ```
 //! let mut lines = Lines::new(alloc);

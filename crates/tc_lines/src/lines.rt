@@ -90,10 +90,11 @@ impl Lines {
         self.bytes.len() - self.from
     }
 
-    /// What the next line asks, or why it asks nothing; the line is used then. `None` says that no LF
-    /// is there.
+    /// What the next line asks, or why it asks nothing; the line is used then. `None` says that
+    /// no LF is there.
     ///
-    /// The line is read in place. Each byte is searched for an LF once, in however many pieces it came.
+    /// The line is read in place. Each byte is searched for an LF once, in however many pieces it
+    /// came.
     pub fn next_request(&mut self, alloc: Global) -> Option<Result<LineAsk, BadLine>>
         ensures some { IfSome result (λ asked. BeginsWith self.old asked self.new) }
         ensures none { IfNone result (HasNoBreak self.new) }

@@ -11,8 +11,8 @@ const LONGEST_WAIT: u64 = 200;
 
 /// Closes a connection: says that nothing more comes, and reads what the peer still sends.
 ///
-/// Bytes that are unread at a close make the system reset the connection, and the peer may then lose
-/// what was written last. No peer is waited for longer than 64 times 200 milliseconds.
+/// Bytes that are unread at a close make the system reset the connection, and the peer may then
+/// lose what was written last. No peer is waited for longer than 64 times 200 milliseconds.
 pub(crate) fn close(stream: TcpStream) {
     let wait = Duration::from_millis(LONGEST_WAIT);
     if stream.shutdown(Shutdown::Write).is_ok() && stream.set_read_timeout(Some(wait)).is_ok() {

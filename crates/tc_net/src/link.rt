@@ -47,7 +47,8 @@ impl Source for TcpLink {
 
     ghost sure = { λ _. false };
 
-    ghost other = { λ l. Some (record { taken = None; write_faults = l.write_faults; sure = false }) };
+    ghost other = { λ l.
+        Some (record { taken = None; write_faults = l.write_faults; sure = false }) };
 
     fn read(&mut self, into: &mut [u8]) -> Result<usize, Failed> {
         match read_some(&mut self.stream, into) {
@@ -67,7 +68,8 @@ impl Sink for TcpLink {
 
     ghost sure = { λ _. false };
 
-    ghost other = { λ l. Some (record { left = None; read_faults = l.read_faults; sure = false }) };
+    ghost other = { λ l.
+        Some (record { left = None; read_faults = l.read_faults; sure = false }) };
 
     fn write(&mut self, piece: &[u8]) -> Result<usize, SinkFault> {
         match write_some(&mut self.stream, piece) {

@@ -10,8 +10,8 @@ pub(crate) fn is_interrupted(error: &io::Error) -> bool {
     error.kind() == ErrorKind::Interrupted
 }
 
-/// Whether the next connection may be accepted all the same: a signal came in between, or a peer went
-/// away before it was accepted.
+/// Whether the next connection may be accepted all the same: a signal came in between, or a peer
+/// went away before it was accepted.
 pub(crate) fn is_passing(error: &io::Error) -> bool {
     is_interrupted(error) || error.kind() == ErrorKind::ConnectionAborted
 }

@@ -1,0 +1,5 @@
+pub mod Answers
+pub mod Sessions
+pub mod SoFar
+pub mod Answering
+pub mod Staying
