@@ -1,12 +1,12 @@
 //! Sources and sinks, in memory and over std's readers and writers, some of which fail.
 use std::alloc::Global;
-use std::io;
 use std::io::{ErrorKind, Read, Write};
 use std::process::Abort;
 use std::test::Fail;
+use std::{io, mem};
 use tc_io::{
-    InputFault, MemSink, MemSource, Sink, SinkFault, Source, StdSink, StdSource, SureSink,
-    SureSource, read_all, write_all,
+    Door, Failed, InputFault, MemDoor, MemLink, MemSink, MemSource, NoMemory, Sink, SinkFault,
+    Source, StdSink, StdSource, SureSink, SureSource, read_all, write_all,
 };
 
 const TEXT: &[u8] = b"fork(1)";
@@ -112,4 +112,97 @@ fn errors_of_the_outside_are_failures(rt: HostRuntime) {
     // Std tells nothing of what a flush does: that its failure counts, no clause can say.
     let written = write_all(&mut StdSink::new(Broken), TEXT);
     assert!(rt; written.is_err_and(|fault| fault == SinkFault::Failed));
+}
+
+// How a call of a reader or a writer goes that isn't well yet.
+#[derive(Drop)]
+enum First {
+    Fails,
+    TakesNothing,
+    // It is well.
+    Works,
+}
+
+// A reader and writer whose first call goes so, and every later one well.
+#[derive(Drop)]
+struct Late(First);
+
+impl Read for Late {
+    fn read(&mut self, buf: &mut [u8]) -> io::Result<usize> {
+        match mem::replace(&mut self.0, First::Works) {
+            First::Fails => Err(io::Error::from(ErrorKind::Other)),
+            First::TakesNothing => Ok(0),
+            First::Works => Ok(buf.len()),
+        }
+    }
+}
+
+impl Write for Late {
+    fn write(&mut self, buf: &[u8]) -> io::Result<usize> {
+        match mem::replace(&mut self.0, First::Works) {
+            First::Fails => Err(io::Error::from(ErrorKind::Other)),
+            First::TakesNothing => Ok(0),
+            First::Works => Ok(buf.len()),
+        }
+    }
+
+    fn flush(&mut self) -> io::Result<()> {
+        Ok(())
+    }
+}
+
+// Std tells nothing of how often a call failed: that no call is tried again, no clause can say.
+#[test]
+fn a_read_that_fails_once_is_told(rt: HostRuntime) {
+    let mut source = StdSource::new(Late(First::Fails));
+    let mut buffer = [0; 8];
+    assert!(rt; source.read(&mut buffer).is_err());
+    assert!(rt; source.read(&mut buffer).is_ok());
+}
+
+#[test]
+fn a_write_that_fails_once_is_told(rt: HostRuntime) {
+    for first in [First::Fails, First::TakesNothing] {
+        let mut sink = StdSink::new(Late(first));
+        assert!(rt;
+            sink.write(TEXT)
+                .is_err_and(|fault| fault == SinkFault::Failed)
+        );
+        assert!(rt; sink.write(TEXT).is_ok_and(|n| n == TEXT.len()));
+    }
+}
+
+// A link that gives these bytes, and fails at no call.
+fn link(alloc: Global, bytes: &[u8]) -> Result<MemLink, NoMemory> {
+    let source = MemSource::new(Vec::from_slice(alloc, bytes)?, 4, Vec::new(alloc));
+    Ok(MemLink::new(source, MemSink::new(alloc, 4, Vec::new(alloc))))
+}
+
+// Accepts a connection at a door that is lent.
+fn accepted<D: Door>(mut door: D) -> Result<D::Conn, Failed>
+where
+    D: Drop,
+{
+    door.accept()
+}
+
+#[test]
+fn a_door_opens_its_links_in_order(rt: HostRuntime) -> Result<(), Fail> {
+    let alloc = rt.alloc();
+    let links = vec![in alloc; link(alloc, TEXT)?, link(alloc, b"fork(2)")?]?;
+    let mut door = MemDoor::new(alloc, links, vec![in alloc; 2]?)?;
+    assert!(rt; door.listen(7000).is_ok());
+    assert!(rt; door.accept().is_err());
+    let mut first = accepted(&mut door)?;
+    let mut second = door.accept()?;
+    assert!(rt; door.accept().is_err());
+    assert_eq!(rt; read_all(alloc, &mut first, 8)?.as_slice(), TEXT);
+    assert_eq!(rt;
+        read_all(alloc, &mut second, 8)?.as_slice(),
+        b"fork(2)".as_slice()
+    );
+    write_all(&mut first, b"done")?;
+    assert_eq!(rt; first.taken(), b"done".as_slice());
+    assert!(rt; second.taken().is_empty());
+    Ok(())
 }
