@@ -64,7 +64,8 @@ impl<L: Link> Visit<L> {
 impl<L: Link + Drop> Visit<L> {
     /// The agent's desk, which has ended.
     pub fn into_desk(self) -> EndedDesk<Roles>
-        ensures { result ≡ record { site = self.site; agent = self.agent; log = self.log } }
+        ensures desk { result ≡ record { site = self.site; agent = self.agent; log = self.log } }
+        ensures visit { IsVisit ⟦<Roles as Warden>⟧.permits self }
     {
         let Visit {
             desk,
