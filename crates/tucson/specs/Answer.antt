@@ -104,16 +104,24 @@ ReadsInput (Run workers) = Unit {0}
 ReadsInput (Load agents start) = ⊥
 ReadsInput (Serve port) = Unit {0}
 
+-- how the configuration of a command is spelt, by what was read: that of a workload by its own text,
+-- for which nothing is read, and every other by the whole input
+abbrev pub IsSpeltBy : Command → Input → List ℕ → Type 0
+IsSpeltBy (Run workers) (Whole input) spelt = spelt ≡ input
+IsSpeltBy (Load agents start) Unread spelt = spelt ≡ load_text agents start
+IsSpeltBy (Serve port) (Whole input) spelt = spelt ≡ input
+IsSpeltBy command input spelt = ⊥
+
 -- a call for this command, or for none, and with this input is to end with this status, and to
--- write this text: a command's configuration is spelt by its input, and a workload by its own text
+-- write this text
 abbrev pub IsDue : Option Command → DoorState → DoorState → Input → Status → List ℕ → Type 0
 IsDue None door after Unread Usage text = text ≡ usage_text
-IsDue (Some (Run workers)) door after (Whole input) status text =
-    IsDueForText (Run workers) door after input status text
-IsDue (Some (Load agents start)) door after Unread status text =
-    IsDueForText (Load agents start) door after (load_text agents start) status text
-IsDue (Some (Serve port)) door after (Whole input) status text =
-    IsDueForText (Serve port) door after input status text
+IsDue (Some command) door after Unread status text =
+    (spelt : List ℕ) × IsSpeltBy command Unread spelt
+    × IsDueForText command door after spelt status text
+IsDue (Some command) door after (Whole input) status text =
+    (spelt : List ℕ) × IsSpeltBy command (Whole input) spelt
+    × IsDueForText command door after spelt status text
 IsDue (Some command) door after TooLong (Refused clause cause.Length) text =
     ReadsInput command × (clause ≡ 0) × (text ≡ refused_text 0 cause.Length)
 IsDue command door after input status text = ⊥

@@ -108,8 +108,7 @@ IsEndFor command spelt (With (Refused clause why)) = IsRefused spelt clause why
 IsEndFor command spelt (With status) = ⊥
 IsEndFor command spelt end = (end ≡ end_of command) × ((c : Configuration) × Spells spelt c)
 
--- how a call is to end that asks for this command, or for none, and has this input left: a workload
--- is spelt by its own text
+-- how a call is to end that asks for this command, or for none, and has this input left
 abbrev pub MustEnd : Option Command → Option (List ℕ) → End → Type 0
 MustEnd None left (With Usage) = Unit {0}
 MustEnd (Some (Run workers)) (Some input) end = IsEndFor (Run workers) input end

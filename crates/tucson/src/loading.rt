@@ -155,9 +155,11 @@ fn core_count(core: &Core) -> Option<i64>
     ensures { result ≡ core_count core.now }
 {
     for place in 0..core.tuples() {
-        let number = core.tuple(place).and_then(count_of);
-        if number.is_some() {
-            return number;
+        if let Some(tuple) = core.tuple(place) {
+            let number = count_of(tuple);
+            if number.is_some() {
+                return number;
+            }
         }
     }
     None
