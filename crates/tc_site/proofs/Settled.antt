@@ -7,7 +7,7 @@ use Rattle.std.proofs.lemmas.Bool.{cases_Bool, cases_eq, cases_lt, or_parts, tru
 use Rattle.std.proofs.lemmas.List.{append-nil, length-set, map-set}
 use Rattle.std.proofs.lemmas.Option.{none-some, same_Some, get_or_from_slice_get, slice_get_read, slice_get_within, slice_get-get_or}
 use Rattle.tc_centre.specs.Centre.{Centre}
-use Rattle.tc_desk.specs.Agreeing.{Agrees, AgreesRow, HasReply, NamesCentre}
+use Rattle.tc_desk.specs.Agreeing.{Agrees, AgreesRow, NamesCentre}
 use Rattle.tc_desk.specs.Decided.{IsDecided, IsDecidedAs, IsReadAs}
 use Rattle.tc_desk.specs.Desks.{PutsReply, replied}
 use Rattle.tc_desk.specs.Logs.{any_pending, is_pending, is_served, rows_of}

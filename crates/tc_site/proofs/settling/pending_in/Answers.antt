@@ -1,4 +1,4 @@
-use Rattle.std.proofs.Common.{ap, ◌∙◌, ⊎_elim}
+use Rattle.std.proofs.Common.{ap, ⊎_elim}
 use Rattle.tc_desk.specs.Logs.{is_served}
 use Rattle.tc_site.proofs.Settled.{replied-none, unserved-all, unserved-more}
 use Rattle.tc_site.proofs.settling.pending_in.Goals as goal

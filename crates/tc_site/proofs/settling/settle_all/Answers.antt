@@ -1,4 +1,4 @@
-use Rattle.std.proofs.Common.{Vec, length, arith}
+use Rattle.std.proofs.Common.{Vec, arith}
 use Rattle.std.specs.Global.{Global}
 use Rattle.std.proofs.lemmas.List.{length-map}
 use Rattle.tc_desk.specs.Logs.{rows_of}
