@@ -1,5 +1,5 @@
 -- What a service comes to.
-use Rattle.std.proofs.Common.{◌≡◌, ◌∙◌, ℕ, ◌+◌, ◌==◌, ◌^◌, ◌<◌, Bool, true, false, not, List, [], ◌∷◌, ◌++◌, Option, None, Some, All, length, map, refl, sym, ap, subst, arith, append-nil}
+use Rattle.std.proofs.Common.{◌≡◌, ◌∙◌, ℕ, ◌==◌, ◌^◌, ◌<◌, Bool, true, false, not, List, [], ◌∷◌, ◌++◌, Option, None, Some, All, length, map, refl, sym, ap, subst, arith, append-nil}
 use Rattle.std.specs.List.{slice_get, list_any}
 use Rattle.std.proofs.lemmas.Bool.{eq-eqb, eqb-true, true≢false}
 use Rattle.std.proofs.lemmas.List.{length-map, nil_from_length}
@@ -27,7 +27,7 @@ use Rattle.tc_site.specs.Settling.{AreNamed, AreSettled, IsSettled}
 use Rattle.tc_site.specs.Sites.{AllAgree, AreClosed, AreOfSite, EndedDeskState, IsSiteOf, KitState, SiteState, core_histories}
 use Rattle.tc_visits.specs.Service.{DoorState, HaveSessions, IsServedLog, IsService, IsServiceBy, lacked_memory, log_left}
 use Rattle.tc_visits.specs.Serving.{AreServed, kit_of, opened_all}
-use Rattle.tc_visits.specs.Sessions.{IsSessionAt, SessionState}
+use Rattle.tc_visits.specs.Sessions.{IsSessionAt}
 use Rattle.tc_visits.specs.Visits.{IsVisit, VisitState, session_of}
 use Rattle.tc_visits.proofs.Desks.{connections-of, desk-decided, desks-of, lacked-of, left_desks, log-left, visits-count, were-sessions}
 

@@ -1,4 +1,4 @@
-use Rattle.std.proofs.Common.{◌≡◌, ◌∙◌, List, Vec, not, ap, sym, subst, map, length, arith}
+use Rattle.std.proofs.Common.{◌≡◌, ◌∙◌, List, Vec, not, ap, sym, subst, map, arith}
 use Rattle.std.specs.Global.{Global}
 use Rattle.std.specs.List.{list_any}
 use Rattle.std.proofs.lemmas.List.{length-map}
@@ -123,12 +123,12 @@ returns-clause-cores g c =
     let same : c.settle.new.self.cores.items ≡ cores = ap (λ (v : Vec Centre Global). v.items) c.settle.ensures.cores in
     record {
       are = subst (AreCores plan) (sym same) (cores-are plan config c.requires.some s c.in_ok-names.names.items fresh cores c.agents.result.now c.in_ok-roles.roles
-      c.in_ok-names.ensures c.agents.ensures.agents (c.in_ok-roles.ensures ∙ c.roles.ensures) c.in_ok-site.ensures.site c.requires.fresh.may.goes.are
-      c.in_ok-closed.ensures.closed kits c.in_ok-site.ensures.kits visits idle c.in_ok-visits.ensures.served.kits_are olds
-      (left-logs c.in_ok-ended.ensures.ended c.in_ok-closed.ensures.logs));
+          c.in_ok-names.ensures c.agents.ensures.agents (c.in_ok-roles.ensures ∙ c.roles.ensures) c.in_ok-site.ensures.site c.requires.fresh.may.goes.are
+          c.in_ok-closed.ensures.closed kits c.in_ok-site.ensures.kits visits idle c.in_ok-visits.ensures.served.kits_are olds
+          (left-logs c.in_ok-ended.ensures.ended c.in_ok-closed.ensures.logs));
       none = λ no. absurd (omega (arith, c.requires.some, no));
       whole = c.in_ok-settle.ensures.settled.whole ∙ logs-count plan config c.requires.some s c.in_ok-names.names.items fresh cores c.agents.result.now c.in_ok-roles.roles
-      c.in_ok-names.ensures c.agents.ensures.agents (c.in_ok-roles.ensures ∙ c.roles.ensures) c.in_ok-site.ensures.site c.requires.fresh.may.goes.are
-      c.in_ok-closed.ensures.closed kits c.in_ok-site.ensures.kits visits idle c.in_ok-visits.ensures.served.kits_are olds
-      (left-logs c.in_ok-ended.ensures.ended c.in_ok-closed.ensures.logs);
+          c.in_ok-names.ensures c.agents.ensures.agents (c.in_ok-roles.ensures ∙ c.roles.ensures) c.in_ok-site.ensures.site c.requires.fresh.may.goes.are
+          c.in_ok-closed.ensures.closed kits c.in_ok-site.ensures.kits visits idle c.in_ok-visits.ensures.served.kits_are olds
+          (left-logs c.in_ok-ended.ensures.ended c.in_ok-closed.ensures.logs);
     }
