@@ -2,8 +2,8 @@
 use std::io::Write;
 use tc_io::{Door, Failed};
 
-/// A door that writes a line for each thing that it does: where it listens, and each connection that
-/// it opens, by its number.
+/// A door that writes a line for each thing that it does: where it listens, and each connection
+/// that it opens, by its number.
 ///
 /// What can't be written is left out.
 #[derive(Drop)]
@@ -38,7 +38,7 @@ impl<D: Door, W: Write> Door for TellingDoor<D, W> {
             Ok(()) => {
                 let _ = writeln!(
                     self.lines,
-                    "tucson: listening at 127.0.0.1:{port}; the text follows once all sessions have ended"
+                    "tucson: listening at 127.0.0.1:{port}; after the last session the text follows"
                 );
                 Ok(())
             }
