@@ -1,5 +1,5 @@
 -- Sites whose centres are those of a configuration, as they are opened and as they are closed.
-use Rattle.std.proofs.Common.{◌≡◌, ◌≢◌, ◌∙◌, ℕ, ◌<◌, List, [], Option, Some, All, AllPairs, length, map, sym, ap, subst, arith}
+use Rattle.std.proofs.Common.{◌≡◌, ◌≢◌, ◌∙◌, ℕ, List, [], Option, Some, All, AllPairs, length, map, sym, ap, subst, arith}
 use Rattle.std.specs.List.{slice_get}
 use Rattle.std.proofs.lemmas.List.{length-map}
 use Rattle.std.proofs.lemmas.Option.{same_Some}
@@ -26,7 +26,7 @@ use Rattle.tc_policy.proofs.Numbers.{number-has, number-stands}
 use Rattle.tc_shared.specs.Passes.{IsAtRest}
 use Rattle.tc_site.specs.Desks.{IsDecidedLog, WardenPermits}
 use Rattle.tc_site.specs.Settling.{AreNamed}
-use Rattle.tc_site.specs.Sites.{AllAgree, AreClosed, AreFreshCores, IsSiteOf, SiteState, core_histories, core_origins, origins_of}
+use Rattle.tc_site.specs.Sites.{AllAgree, AreClosed, AreFreshCores, IsSiteOf, SiteState, core_histories, core_origins}
 
 -- the number of the grant that permits it, as the warden tells it
 abbrev pub permits_by : List Grant → ℕ → ℕ → Primitive → Option ℕ

@@ -15,5 +15,5 @@ pub mod Pausing
 pub mod There
 pub mod Light
 pub mod Sends
-pub mod Settling
+pub mod Settled
 pub mod Configured
