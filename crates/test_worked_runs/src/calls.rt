@@ -5,6 +5,7 @@ use std::alloc::Global;
 use std::sync::Wait;
 use std::thread::Threads;
 use tc_desk::NoGate;
+use tc_io::MemDoor;
 use tc_lists::NoMemory;
 use tucson::tucson;
 
@@ -55,7 +56,8 @@ fn end_of<R: Threads + Wait + Sync>(
 ) -> Result<End, NoMemory> {
     let mut source = row.source(alloc)?;
     let mut sink = row.sink(alloc)?;
-    let status = tucson(rt, alloc, words, &mut source, &mut sink, &NoGate);
+    let mut door = MemDoor::new(alloc, Vec::new(alloc), Vec::new(alloc))?;
+    let status = tucson(rt, alloc, words, &mut source, &mut sink, &NoGate, &mut door);
     let text = sink.taken().to_vec(alloc)?;
     Ok(End { status, text })
 }
