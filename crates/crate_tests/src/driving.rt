@@ -1,5 +1,6 @@
 //! Actors at desks of one centre that deny each ask: each item has its row all the same.
-ghost use Rattle.std.specs.Prelude.{◌≡◌, ◌∷◌, [], false, IfOk, OnErr, OnOk, Some};
+ghost use Rattle.std.specs.Prelude.{◌≡◌, ◌<◌, ◌∷◌, ℕ, List, [], false, IfOk, OnErr, OnOk};
+ghost use Rattle.std.specs.Prelude.{Some, length, slice_get};
 ghost use Rattle.tc_desk.specs.Desks.{with_row};
 ghost use Rattle.tc_desk.specs.Logs.{any_pending};
 ghost use Rattle.tc_sched.specs.Steps.{IsReady, left_of};
@@ -23,25 +24,22 @@ struct ClosedDesk {
 }
 
 impl ClosedDesk {
-    // Puts the row of an ask that was refused behind the others.
-    fn refuse(
-        &mut self,
-        alloc: Global,
-        centre: &Name,
-        ask: Ask,
-        why: Refusal,
-    ) -> Result<(), NoMemory>
-        ensures log { OnOk result (self.new.log.items
-            ≡ with_row self.old.log.items centre.now (Some ask) (LogResult.Refused why)) }
+    // Puts the row of an ask that was denied at the centre of this place behind the others.
+    fn deny(&mut self, alloc: Global, place: usize, ask: Ask) -> Result<(), NoMemory>
+        requires inside { place < length self.old.names.items }
+        ensures log { OnOk result ((centre : List ℕ)
+            → slice_get self.old.names.items place ≡ Some centre
+            → self.new.log.items ≡ with_row self.old.log.items centre (Some ask)
+            (LogResult.Refused Refusal.Denied)) }
         ensures same { OnErr result (self.new.log.items ≡ self.old.log.items) }
         ensures names { self.new.names ≡ self.old.names }
         ensures turns { self.new.turns ≡ self.old.turns }
     {
         let row = LogRow {
             number: self.log.len() as u64 + 1,
-            centre: centre.copy(alloc)?,
+            centre: self.names[place].copy(alloc)?,
             ask: Some(ask),
-            result: LogResult::Refused(why),
+            result: LogResult::Refused(Refusal::Denied),
         };
         self.log.push(row)?;
         Ok(())
@@ -66,34 +64,28 @@ impl Desk for ClosedDesk {
 
     ghost sound = { λ _. Unit {0} };
 
+    // No actor asks by a name.
     fn call<R: Wait>(
         &mut self,
         _rt: &R,
-        alloc: Global,
-        centre: &Name,
-        ask: Ask,
-    ) -> Result<Served, Refusal> {
-        if !self.names.contains(centre) {
-            match self.refuse(alloc, centre, ask, Refusal::UnknownCentre) {
-                Ok(()) => return Err(Refusal::UnknownCentre),
-                Err(_) => return Err(Refusal::NoMemory),
-            }
-        }
-        match self.refuse(alloc, centre, ask, Refusal::Denied) {
-            Ok(()) => return Err(Refusal::Denied),
-            Err(_) => return Err(Refusal::NoMemory),
-        }
-    }
-
-    // No actor here asks by a place.
-    fn call_at<R: Wait>(
-        &mut self,
-        _rt: &R,
         _alloc: Global,
-        _place: u32,
+        _centre: &Name,
         _ask: Ask,
     ) -> Result<Served, Refusal> {
         Err(Refusal::NoMemory)
+    }
+
+    fn call_at<R: Wait>(
+        &mut self,
+        _rt: &R,
+        alloc: Global,
+        place: u32,
+        ask: Ask,
+    ) -> Result<Served, Refusal> {
+        match self.deny(alloc, place as usize, ask) {
+            Ok(()) => Err(Refusal::Denied),
+            Err(_) => Err(Refusal::NoMemory),
+        }
     }
 
     fn look<R: Wait>(&mut self, _rt: &R, _alloc: Global) -> Result<Seen, DeskFault> {

@@ -6,7 +6,10 @@ use Rattle.std.proofs.Common.{get_or}
 use Rattle.tc_lists.specs.Texts.{joined}
 use Rattle.tc_term.specs.Tree.{Tree}
 use Rattle.tc_term.specs.Text.{canonical, atom_text, quoted}
+use Rattle.tc_model.specs.Asks.{primitive_name}
 use Rattle.tc_model.specs.Reactions.{clauses_text}
+use Rattle.tc_model.specs.declared.asks.Primitive.{Primitive}
+use Rattle.tc_model.specs.declared.asks.Primitive.TheVariants as primitive
 use Rattle.tc_model.specs.declared.calls.CallId.{CallId}
 use Rattle.tc_model.specs.declared.calls.Op.{Op}
 use Rattle.tc_model.specs.declared.calls.Op.TheVariants.{Out, In, Rd, Inp, Rdp, SetSpec, GetSpec}
@@ -34,20 +37,19 @@ use Rattle.tc_desk.specs.declared.rows.Refusal.TheVariants as refusal
 use Rattle.tc_histtext.specs.declared.versions.Version.{Version}
 use Rattle.tc_histtext.specs.declared.versions.Version.TheVariants.{One, Two}
 
--- a word, and a term in brackets
-abbrev pub bracketed : List ℕ → Tree → List ℕ
-bracketed word t = joined (word ∷ codes "(" ∷ canonical t ∷ codes ")" ∷ [])
+-- the name of a primitive, and the text of its operand in brackets
+abbrev pub applied_text : Primitive → List ℕ → List ℕ
+applied_text p operand = joined (primitive_name p ∷ codes "(" ∷ operand ∷ codes ")" ∷ [])
 
 -- an operation
 abbrev pub op_text : Op → List ℕ
-op_text (Out t) = bracketed (codes "out") t
-op_text (In t) = bracketed (codes "in") t
-op_text (Rd t) = bracketed (codes "rd") t
-op_text (Inp t) = bracketed (codes "inp") t
-op_text (Rdp t) = bracketed (codes "rdp") t
-op_text (SetSpec clauses) =
-    joined (codes "set_spec(" ∷ quoted (clauses_text clauses) ∷ codes ")" ∷ [])
-op_text GetSpec = codes "get_spec"
+op_text (Out t) = applied_text primitive.Out (canonical t)
+op_text (In t) = applied_text primitive.In (canonical t)
+op_text (Rd t) = applied_text primitive.Rd (canonical t)
+op_text (Inp t) = applied_text primitive.Inp (canonical t)
+op_text (Rdp t) = applied_text primitive.Rdp (canonical t)
+op_text (SetSpec clauses) = applied_text primitive.SetSpec (quoted (clauses_text clauses))
+op_text GetSpec = primitive_name primitive.GetSpec
 
 -- that the reactions of a phase went over the budget
 abbrev pub over_text : Phase → List ℕ

@@ -3,11 +3,12 @@ ghost use Rattle.std.specs.Prelude.{◌≡◌, ◌++◌, OnErr, OnOk};
 ghost use mathlib.Core.List.{IsPrefix};
 ghost use Rattle.tc_term.specs.Tree.{Fits};
 ghost use Rattle.tc_term.specs.TreeView.{tree_of};
-ghost use Rattle.tc_histtext.specs.Text.{bracketed, op_text};
+ghost use Rattle.tc_term.specs.Text.{canonical};
+ghost use Rattle.tc_histtext.specs.Text.{applied_text, op_text};
 
 use std::alloc::Global;
 use tc_lists::{NoMemory, cut_back};
-use tc_model::{Clauses, Op};
+use tc_model::{Clauses, Op, Primitive};
 use tc_print::{print_quoted, print_term};
 use tc_spec::print_spec;
 use tc_term::Term;
@@ -30,26 +31,31 @@ pub(crate) fn write_op(alloc: Global, op: &Op, into: &mut Vec<u8>) -> Result<(),
     ensures kept { IsPrefix into.old.items into.new.items }
 {
     match op {
-        Op::Out(tuple) => write_applied(alloc, b"out", tuple.term(), into),
-        Op::In(template) => write_applied(alloc, b"in", template.term(), into),
-        Op::Rd(template) => write_applied(alloc, b"rd", template.term(), into),
-        Op::Inp(template) => write_applied(alloc, b"inp", template.term(), into),
-        Op::Rdp(template) => write_applied(alloc, b"rdp", template.term(), into),
+        Op::Out(tuple) => write_applied(alloc, Primitive::Out, tuple.term(), into),
+        Op::In(template) => write_applied(alloc, Primitive::In, template.term(), into),
+        Op::Rd(template) => write_applied(alloc, Primitive::Rd, template.term(), into),
+        Op::Inp(template) => write_applied(alloc, Primitive::Inp, template.term(), into),
+        Op::Rdp(template) => write_applied(alloc, Primitive::Rdp, template.term(), into),
         Op::SetSpec(clauses) => write_replaced(alloc, clauses, into),
-        Op::GetSpec => into.extend_from_slice(b"get_spec"),
+        Op::GetSpec => into.extend_from_slice(Primitive::GetSpec.name()),
     }
 }
 
-// Appends a word, and a term in brackets.
-fn write_applied(alloc: Global, word: &[u8], t: &Term, into: &mut Vec<u8>) -> Result<(), NoMemory>
-    requires fits { Fits (tree_of t.now) }
+// Appends a primitive's name, and a term in brackets.
+fn write_applied(
+    alloc: Global,
+    primitive: Primitive,
+    operand: &Term,
+    into: &mut Vec<u8>,
+) -> Result<(), NoMemory>
+    requires fits { Fits (tree_of operand.now) }
     ensures appended { OnOk result (into.new.items
-        ≡ into.old.items ++ bracketed word.now (tree_of t.now)) }
+        ≡ into.old.items ++ applied_text primitive (canonical (tree_of operand.now))) }
     ensures kept { IsPrefix into.old.items into.new.items }
 {
-    into.extend_from_slice(word)?;
+    into.extend_from_slice(primitive.name())?;
     into.extend_from_slice(b"(")?;
-    print_term(alloc, t, into)?;
+    print_term(alloc, operand, into)?;
     into.extend_from_slice(b")")
 }
 
@@ -61,7 +67,8 @@ fn write_replaced(alloc: Global, clauses: &Clauses, into: &mut Vec<u8>) -> Resul
 {
     let mut text = Vec::new(alloc);
     print_spec(alloc, clauses, &mut text)?;
-    into.extend_from_slice(b"set_spec(")?;
+    into.extend_from_slice(Primitive::SetSpec.name())?;
+    into.extend_from_slice(b"(")?;
     print_quoted(alloc, &text, into)?;
     into.extend_from_slice(b")")
 }

@@ -1,14 +1,14 @@
 -- What the calls of a desk make of the rows of scripts.
-use Rattle.std.proofs.Common.{◌≡◌, ◌≢◌, ℕ, ◌+◌, ◌<◌, ◌≤◌, true, false, ◌||◌, cond, List, [], ◌∷◌, Option, Some, IfSome, length, refl, sym, ap, ◌∙◌, subst, arith, ⊎_elim, slice_index}
+use Rattle.std.proofs.Common.{◌≡◌, ◌≢◌, ◌↔◌, ℕ, ◌+◌, ◌-◌, ◌*◌, ◌<◌, ◌≤◌, true, false, ◌||◌, cond, List, [], ◌∷◌, Option, Some, IfSome, IfOk, IsErr, OnErr, Result, Ok, Err, get_or, length, refl, sym, ap, ◌∙◌, subst, arith, inl, inr, ⊎_elim, slice_index}
 use Rattle.std.specs.List.{slice_get}
 use Rattle.std.proofs.lemmas.Bool.{false≢true}
 use Rattle.std.proofs.lemmas.List.{length-append}
-use Rattle.std.proofs.lemmas.Option.{slice_get_within}
+use Rattle.std.proofs.lemmas.Option.{slice_get_within, slice_get-get_or}
 use Rattle.tc_asks.specs.Nexts.{IsNextAsk}
 use Rattle.tc_asks.specs.Progress.{HasTakenIn, Progress}
 use Rattle.tc_asks.specs.declared.next.Next.{Next}
 use Rattle.tc_desk.specs.Asks.{IsAsk, steps_of}
-use Rattle.tc_desk.specs.Desks.{DeskState, Keeps, Spends, Makes, Refuses, MayRefuse, HasNoTurn, IsServedBy, IsRowAnswered, refused_log, replied, with_row}
+use Rattle.tc_desk.specs.Desks.{DeskState, Calls, Keeps, Spends, Makes, Refuses, MayRefuse, HasNoTurn, IsServedBy, IsRowAnswered, refused_log, replied, with_row}
 use Rattle.tc_desk.specs.Logs.{any_pending, is_pending}
 use Rattle.tc_desk.specs.declared.desks.Served.{Served}
 use Rattle.tc_desk.specs.declared.desks.Served.TheVariants as served
@@ -24,9 +24,11 @@ use Rattle.tc_model.specs.Scripts.{Lines}
 use Rattle.tc_model.specs.declared.asks.Ask.{Ask}
 use Rattle.tc_model.specs.declared.outcomes.Reply.{Reply}
 use Rattle.tc_sched.specs.Clients.{Client, IsActor, IsItemResult, IsOfScripts}
-use Rattle.tc_sched.specs.Steps.{AsksNext, IsCall, IsReady, Went, left, left_of}
+use Rattle.tc_sched.specs.Steps.{AsksNext, IsCall, IsReady, Steps, Went, left, left_of}
+use Rattle.tc_sched.specs.declared.actor.Step.{Step}
+use Rattle.tc_sched.specs.declared.actor.Step.TheVariants as step
 use Rattle.tc_desk.proofs.Logs.{any_pending-push, results-whole}
-use Rattle.tc_sched.proofs.Rows.{answered-last, rows-answered, rows-front, rows-push, rows-within, taken-answered, taken-push}
+use Rattle.tc_sched.proofs.Rows.{answered-last, next-placed, rows-answered, rows-front, rows-push, rows-within, taken-answered, taken-push}
 
 served-item : (how : Served) (result : LogResult) → IsServedBy how result → IsItemResult result
 served-item served.Replied result by = subst IsItemResult (sym by.1) tt
@@ -82,16 +84,14 @@ pub record CanAsk {D : Type 0} (state : D → DeskState) (c : Client D) (next : 
 pub ready-turns : {D : Type 0} (state : D → DeskState) (names : List (List ℕ)) (c : Client D) → IsReady state 1 names c → HasTurns (state c.desk)
 ready-turns state names c r k below = r.turns_left k (subst (λ (ns : List (List ℕ)). k < length ns) r.names below)
 
-pub can-ask : {D : Type 0} (state : D → DeskState) (names : List (List ℕ)) (c v : Client D) (next : Next) (centre : List ℕ) → v ≡ c → IsReady state 1 names c
-    → any_pending (state c.desk).log ≡ false → IsNextAsk c.scripts (state c.desk).log next → slice_get names next.centre ≡ Some centre → CanAsk state v next centre
-can-ask state names c v next centre same r idle is named =
-    subst (λ x. CanAsk state x next centre) (sym same)
-    (record {
-      turns = ready-turns state names c r;
-      idle = idle;
-      is = is;
-      named = ap (λ (ns : List (List ℕ)). slice_get ns next.centre) r.names ∙ named;
-    })
+-- the centre of the next ask is one of the desk's
+pub next-inside : {D : Type 0} (state : D → DeskState) (names : List (List ℕ)) (c w : Client D) (found : Option Next) (next : Next) → w ≡ c
+    → IsReady state 1 names c → found ≡ Some next → IfSome found (IsNextAsk c.scripts (state c.desk).log) → next.centre < length (state w.desk).names
+next-inside state names c w found next same ready at is =
+    let asks = IfSome-at (IsNextAsk c.scripts (state c.desk).log) found next at is in
+    subst (λ v. next.centre < length (state v.desk).names) (sym same)
+    (subst (λ (ns : List (List ℕ)). next.centre < length ns) (sym ready.names)
+    (next-placed (length names) c.scripts (state c.desk).log next ready.placed asks))
 
 -- the next ask was made
 module _ {D : Type 0} (state : D → DeskState) (c : Client D) (next : Next) (centre : List ℕ) (e : DeskState) (can : CanAsk state c next centre)
@@ -179,15 +179,81 @@ asked {D} state bond is_sound c w x asker next centre same can call called is =
       less = subst (λ (u : Client D). left (state x) w.scripts < left_of state u) same less;
     }
 
--- the same, from what is known of the agent before it has looked for its next ask
-pub asked-next : {D B : Type 0} (state : D → DeskState) (bond : D → B) (is_sound : D → Type 0) (names : List (List ℕ)) (c w : Client D) (x : D) (asker : Option Progress)
-    (found : Option Next) (next : Next) (centre : List ℕ) → w ≡ c → IsReady state 1 names c → any_pending (state c.desk).log ≡ false
-    → found ≡ Some next → IfSome found (IsNextAsk c.scripts (state c.desk).log) → slice_get names next.centre ≡ Some centre
-    → IsCall (state w.desk) centre next.ask (state x) → Called state bond is_sound w.desk x → IsActor (state w.desk) w.scripts asker
-    → Asked state bond is_sound c w x asker
-asked-next state bond is_sound names c w x asker found next centre same ready idle at is named call called actor =
-    asked state bond is_sound c w x asker next centre same
-    (can-ask state names c w next centre same ready idle (IfSome-at (IsNextAsk c.scripts (state c.desk).log) found next at is) named) call called actor
+-- what has come of a step that ended with the call of the next ask, for an agent that is seen as c, and whose desk is then x
+pub record Stepped {D B E : Type 0} (state : D → DeskState) (bond : D → B) (is_sound : D → Type 0) (c w : Client D) (x : D) (asker : Option Progress)
+    (result : Result Step E) : Type 0 where
+  pub actor : IsActor (state x) w.scripts asker
+  pub went : Went state bond is_sound 1 c (record w { desk = x })
+  pub steps : IfOk result (λ s. Steps state c s (record w { desk = x }))
+  pub less : IfOk result (λ s. s ≡ step.Moved → left (state x) w.scripts < left_of state c)
+  pub same : OnErr result ((state x).log ≡ (state c.desk).log)
+
+module _ {D B E : Type 0} (state : D → DeskState) (bond : D → B) (is_sound : D → Type 0) (c w : Client D) (x : D) (asker : Option Progress) (same : w ≡ c)
+    (called : Called state bond is_sound w.desk x) (is : IsActor (state w.desk) w.scripts asker) where
+  -- the ask was made
+  asked-moved : (s : Step) → s ≡ step.Moved → Asked state bond is_sound c w x asker → Stepped {E = E} state bond is_sound c w x asker (Ok s)
+  asked-moved s moved all = record {
+    actor = all.actor;
+    went = all.went;
+    steps = subst (λ t. Steps state c t (record w { desk = x })) (sym moved) (inr all.asks);
+    less = λ _. all.less;
+    same = tt;
+  }
+
+  -- there was no memory for it
+  not-asked : (e : E) → (state x).log ≡ (state w.desk).log → Stepped {E = E} state bond is_sound c w x asker (Err e)
+  not-asked e still = record {
+    actor = record {
+      rows = subst (λ ns. IsOfScripts ns w.scripts (state x).log) (sym called.kept.names)
+          (subst (IsOfScripts (state w.desk).names w.scripts) (sym still) is.rows);
+      taken = subst (λ l. IfSome asker (HasTakenIn w.scripts l)) (sym still) is.taken;
+    };
+    went = subst (λ (u : Client D). Went state bond is_sound 1 u (record w { desk = x })) same
+        (record {
+          bound = called.bound;
+          agent = refl;
+          scripts = refl;
+          kept = called.kept;
+          spent = called.spent;
+          sound = called.sound;
+          left = subst (λ l. 2 * (length (steps_of w.scripts) - length l) + cond (any_pending l) 1 0 ≤ left_of state w) (sym still) (omega arith);
+        });
+    steps = tt;
+    less = tt;
+    same = still ∙ ap (λ (u : Client D). (state u.desk).log) same;
+  }
+
+  stepped-at : (next : Next) (centre : List ℕ) (call : Result Served Refusal) (result : Result Step E) → CanAsk state w next centre
+      → IfOk result (λ s. s ≡ step.Moved) → (IsErr result ↔ (call ≡ Err refusal.NoMemory)) → Calls (state w.desk) centre next.ask call (state x)
+      → Stepped state bond is_sound c w x asker result
+  stepped-at next centre (Ok how) (Ok s) can moved memory became =
+      asked-moved s moved (asked state bond is_sound c w x asker next centre same can (inl (how, became)) called is)
+  stepped-at next centre (Ok how) (Err e) can moved memory became = absurd (cc (memory.0 refl))
+  stepped-at next centre (Err why) (Ok s) can moved memory became =
+      asked-moved s moved
+      (asked state bond is_sound c w x asker next centre same can
+      (inr (why, (λ none. absurd (cc (memory.1 (ap Err none)))), became)) called is)
+  stepped-at next centre (Err why) (Err e) can moved memory became =
+      let none : why ≡ refusal.NoMemory = cc (memory.0 refl) in
+      not-asked e (became.log ∙ ap (refused_log (state w.desk).log centre next.ask) none)
+
+  -- the next ask was made, or there was no memory for it
+  pub stepped : (names : List (List ℕ)) (found : Option Next) (next : Next) (call : Result Served Refusal) (result : Result Step E)
+      → IsReady state 1 names c → any_pending (state c.desk).log ≡ false → found ≡ Some next → IfSome found (IsNextAsk c.scripts (state c.desk).log)
+      → ((centre : List ℕ) → slice_get (state w.desk).names next.centre ≡ Some centre → Calls (state w.desk) centre next.ask call (state x))
+      → IfOk result (λ s. s ≡ step.Moved) → (IsErr result ↔ (call ≡ Err refusal.NoMemory))
+      → Stepped state bond is_sound c w x asker result
+  stepped names found next call result ready idle at asks became moved memory =
+      let centre = get_or (state w.desk).names next.centre [] in
+      let named = slice_get-get_or (state w.desk).names next.centre [] (next-inside state names c w found next same ready at asks) in
+      let can : CanAsk state w next centre = record {
+        turns = subst (λ (v : Client D). HasTurns (state v.desk)) (sym same) (ready-turns state names c ready);
+        idle = subst (λ (v : Client D). any_pending (state v.desk).log ≡ false) (sym same) idle;
+        is = subst (λ (v : Client D). IsNextAsk v.scripts (state v.desk).log next) (sym same)
+            (IfSome-at (IsNextAsk c.scripts (state c.desk).log) found next at asks);
+        named = named;
+      } in
+      stepped-at next centre call result can moved memory (became centre named)
 
 -- a look that found the reply
 module _ (d e : DeskState) (scripts : List Lines) (reply : Reply) (of : IsOfScripts d.names scripts d.log) (answered : IsRowAnswered d.log reply e.log) where

@@ -17,8 +17,8 @@ pub record Client (D : Type 0) : Type 0 where
   pub agent : ℕ
   pub scripts : List Lines
 
--- what the ask of an item may have come to: it is never refused for want of a centre, of a turn or of
--- the reply to an earlier ask
+-- what the ask of an item may have come to: it is never refused for want of a centre, of a turn or
+-- of the reply to an earlier ask
 abbrev pub IsItemResult : LogResult → Type 0
 IsItemResult (Replied reply) = Unit {0}
 IsItemResult Pending = Unit {0}
@@ -33,8 +33,8 @@ IsItemResult (Refused (refusal.Full weight pending)) = Unit {0}
 IsItemResult (Refused refusal.NoMemory) = ⊥
 IsItemResult (Polled told) = ⊥
 
--- the row at place k is that of the item at this place: it has the item's number and centre, what the
--- item asks after the rows before, and what that may have come to
+-- the row at place k is that of the item at this place: it has the item's number and centre, what
+-- the item asks after the rows before, and what that may have come to
 pub record IsItemRow (names : List (List ℕ)) (scripts : List Lines) (log : List LogRow) (k : ℕ)
     (row : LogRow) : Type 0 where
   pub number : row.number ≡ k + 1
@@ -46,11 +46,14 @@ pub record IsItemRow (names : List (List ℕ)) (scripts : List Lines) (log : Lis
   pub result : IsItemResult row.result
 
 -- the rows are those of the scripts' first items, and only the last may be pending
-pub record IsOfScripts (names : List (List ℕ)) (scripts : List Lines) (log : List LogRow) : Type 0 where
-  pub rows : (k : ℕ) (row : LogRow) → slice_get log k ≡ Some row → IsItemRow names scripts log k row
+pub record IsOfScripts (names : List (List ℕ)) (scripts : List Lines) (log : List LogRow)
+    : Type 0 where
+  pub rows : (k : ℕ) (row : LogRow) → slice_get log k ≡ Some row
+      → IsItemRow names scripts log k row
   pub last : PendsLast log
 
 -- the desk's rows are those of the scripts, and the asker, if there is one, fits them
-pub record IsActor (desk : DeskState) (scripts : List Lines) (asker : Option Progress) : Type 0 where
+pub record IsActor (desk : DeskState) (scripts : List Lines) (asker : Option Progress)
+    : Type 0 where
   pub rows : IsOfScripts desk.names scripts desk.log
   pub taken : IfSome asker (HasTakenIn scripts desk.log)

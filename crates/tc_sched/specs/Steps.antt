@@ -1,5 +1,6 @@
 -- What the steps of agents do.
-use Rattle.std.specs.Prelude.{◌≡◌, ◌≢◌, ℕ, ◌+◌, ◌-◌, ◌*◌, ◌<◌, ◌≤◌, ◌⊎◌, Bool, true, false, if◌then◌else◌}
+use Rattle.std.specs.Prelude.{◌≡◌, ◌≢◌, ℕ, ◌+◌, ◌-◌, ◌*◌, ◌<◌, ◌≤◌, ◌⊎◌}
+use Rattle.std.specs.Prelude.{true, false, if◌then◌else◌}
 use Rattle.std.specs.Prelude.{List, All, length, slice_index, slice_get, sum_by, Some}
 use Rattle.tc_model.specs.Scripts.{Lines}
 use Rattle.tc_model.specs.declared.asks.Ask.{Ask}
@@ -20,17 +21,13 @@ use Rattle.tc_sched.specs.declared.actor.Step.TheVariants as step
 
 -- the centre of each item is one of so many
 abbrev pub ArePlaced : ℕ → List Lines → Type 0
-ArePlaced count scripts = All (λ (s : Lines). All (λ (i : ScriptItem). i.centre < count) s.items) scripts
+ArePlaced count scripts =
+    All (λ (s : Lines). All (λ (i : ScriptItem). i.centre < count) s.items) scripts
 
 -- one call was made, which was served, or refused; but not for want of memory
 abbrev pub IsCall : DeskState → List ℕ → Ask → DeskState → Type 0
 IsCall d centre ask e = ((how : Served) × Makes d centre ask how e)
     ⊎ ((why : Refusal) × (why ≢ refusal.NoMemory) × Refuses d centre ask why e)
-
--- it was refused for want of memory, or for another reason
-abbrev pub HasNoMemory : Refusal → Bool → Type 0
-HasNoMemory why true = why ≡ refusal.NoMemory
-HasNoMemory why false = why ≢ refusal.NoMemory
 
 -- the ask of the first item that has no row was made, at the item's centre
 pub record AsksNext (scripts : List Lines) (d e : DeskState) : Type 0 where
@@ -41,18 +38,21 @@ pub record AsksNext (scripts : List Lines) (d e : DeskState) : Type 0 where
   pub named : slice_get d.names next.centre ≡ Some centre
   pub made : IsCall d centre next.ask e
 
--- how often an agent may still move: twice for each item that has no row, and once where a row is pending
+-- how often an agent may still move: twice for each item that has no row, and once where a row is
+-- pending
 abbrev pub left : DeskState → List Lines → ℕ
-left d scripts = 2 * (length (steps_of scripts) - length d.log) + (if any_pending d.log then 1 else 0)
+left d scripts =
+    2 * (length (steps_of scripts) - length d.log) + (if any_pending d.log then 1 else 0)
 
 module _ {D : Type 0} (state : D → DeskState) where
-  -- the agent can make steps: its desk is free, at centres of these names, where so many turns are left
-  -- at each, and these are the centres of its items
+  -- the agent can make steps: its desk is free, at centres of these names, where so many turns are
+  -- left at each, and these are the centres of its items
   pub record IsReady (turns : ℕ) (centres : List (List ℕ)) (c : Client D) : Type 0 where
     pub free : (state c.desk).free ≡ true
     pub names : (state c.desk).names ≡ centres
     pub placed : ArePlaced (length centres) c.scripts
-    pub turns_left : (k : ℕ) → k < length centres → turns ≤ slice_index (state c.desk).turns k
+    pub turns_left : (k : ℕ) → k < length centres
+        → turns ≤ slice_index (state c.desk).turns k
 
   -- each item has its row, and none is pending
   pub record HasEnded (c : Client D) : Type 0 where
@@ -63,11 +63,12 @@ module _ {D : Type 0} (state : D → DeskState) where
   abbrev pub Rests : Client D → Type 0
   Rests c = HasEnded c ⊎ (any_pending (state c.desk).log ≡ true)
 
-  -- what a step has done: the pending row got its reply, or else the next ask was made; a look found the
-  -- row still pending; or there was nothing left to do
+  -- what a step has done: the pending row got its reply, or else the next ask was made; a look
+  -- found the row still pending; or there was nothing left to do
   abbrev pub Steps : Client D → Step → Client D → Type 0
   Steps c step.Moved e =
-      Looks (state c.desk) seen.Answered (state e.desk) ⊎ AsksNext c.scripts (state c.desk) (state e.desk)
+      Looks (state c.desk) seen.Answered (state e.desk)
+      ⊎ AsksNext c.scripts (state c.desk) (state e.desk)
   Steps c step.Blocked e = Looks (state c.desk) seen.StillPending (state e.desk)
   Steps c step.Ended e = HasEnded c × (e ≡ c)
 

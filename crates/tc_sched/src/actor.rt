@@ -1,17 +1,17 @@
 //! Actors: each makes the asks of one agent's scripts, one after another.
-ghost use Rattle.std.specs.Prelude.{◌≡◌, ◌<◌, [], true, false, length, slice_get, Some};
-ghost use Rattle.std.specs.Prelude.{IfNone, IfOk, IfSome, OnErr};
+ghost use Rattle.std.specs.Prelude.{◌≡◌, ◌<◌, ◌↔◌, [], true, false, length};
+ghost use Rattle.std.specs.Prelude.{IfNone, IfOk, IfSome, IsErr, OnErr};
 ghost use Rattle.tc_asks.specs.Nexts.{IsNextAsk};
 ghost use Rattle.tc_desk.specs.Asks.{steps_of};
-ghost use Rattle.tc_desk.specs.Logs.{any_pending, is_pending};
+ghost use Rattle.tc_desk.specs.Logs.{any_pending};
 ghost use Rattle.tc_sched.specs.Clients.{IsOfScripts};
-ghost use Rattle.tc_sched.specs.Steps.{HasNoMemory, IsReady, Steps, Went, left_of};
+ghost use Rattle.tc_sched.specs.Steps.{IsReady, Steps, Went, left_of};
 
 use std::alloc::Global;
 use std::marker::Model;
 use std::sync::Wait;
 use tc_asks::{Asker, Next};
-use tc_desk::{Desk, DeskFault, Gate, LogResult, LogRow, Refusal, Seen};
+use tc_desk::{Desk, DeskFault, Gate, Refusal, Seen, Served};
 use tc_lists::NoMemory;
 use tc_model::Script;
 use tc_term::Name;
@@ -78,7 +78,8 @@ impl<D: Desk> Actor<D> {
     }
 
     /// Looks once whether the last ask has its reply, if it is pending; else makes the next ask, if
-    /// there is one. `names` are those of the desk's centres. The gate is passed before an ask.
+    /// there is one. `names` are those of the desk's centres, among which each item's centre has
+    /// its place. The gate is passed before an ask.
     ///
     /// After `NoMemory` the step can be made again. Takes the time of one call of the desk and of
     /// the item; no step takes longer as the log grows.
@@ -110,16 +111,8 @@ impl<D: Desk> Actor<D> {
             return Ok(Step::Ended);
         };
         gate.pass(self.agent, self.desk.log().len() as u64 + 1);
-        let centre = name_at(names, next.centre);
-        match self.desk.call(rt, alloc, centre, next.ask) {
-            Ok(_) => return Ok(Step::Moved),
-            Err(why) => {
-                if is_memory(why) {
-                    return Err(NoMemory);
-                }
-                return Ok(Step::Moved);
-            }
-        }
+        let called = self.desk.call_at(rt, alloc, next.centre, next.ask);
+        moved(called)
     }
 
     // Whether the last ask is pending.
@@ -128,7 +121,7 @@ impl<D: Desk> Actor<D> {
     {
         let log = self.desk.log();
         let count = log.len();
-        count > 0 && is_pending_row(&log[count - 1])
+        count > 0 && log[count - 1].is_pending()
     }
 
     // The ask of the first item that has no row.
@@ -151,32 +144,16 @@ impl<D: Desk> Actor<D> {
     }
 }
 
-// Whether the row is pending.
-fn is_pending_row(row: &LogRow) -> bool
-    ensures { result ≡ is_pending row.now.result }
+// What a call came to: a step that moved, but where memory ran out.
+fn moved(called: Result<Served, Refusal>) -> Result<Step, NoMemory>
+    ensures moved { IfOk result (λ step. step ≡ Step.Moved) }
+    ensures memory { IsErr result ↔ (called ≡ Err Refusal.NoMemory) }
 {
-    match row.result {
-        LogResult::Pending => true,
-        LogResult::Replied(_) | LogResult::Refused(_) | LogResult::Polled(_) => false,
+    match called {
+        Err(Refusal::NoMemory) => Err(NoMemory),
+        Err(Refusal::UnknownCentre | Refusal::Waiting | Refusal::Denied) => Ok(Step::Moved),
+        Err(Refusal::TooBig | Refusal::NotGround | Refusal::BadSpec(_)) => Ok(Step::Moved),
+        Err(Refusal::TurnsSpent | Refusal::Full { .. }) => Ok(Step::Moved),
+        Ok(Served::Replied | Served::Pending) => Ok(Step::Moved),
     }
-}
-
-// Whether the call was refused for want of memory.
-fn is_memory(why: Refusal) -> bool
-    ensures { HasNoMemory why result }
-{
-    match why {
-        Refusal::NoMemory => true,
-        Refusal::UnknownCentre | Refusal::Waiting | Refusal::Denied => false,
-        Refusal::TooBig | Refusal::NotGround | Refusal::BadSpec(_) => false,
-        Refusal::TurnsSpent | Refusal::Full { .. } => false,
-    }
-}
-
-// The name at a place.
-fn name_at(names: &[Name], place: u32) -> &Name
-    requires { place < length names.now }
-    ensures { slice_get names.now place ≡ Some result.now }
-{
-    &names[place as usize]
 }

@@ -1,5 +1,6 @@
 //! Crowds: many actors, dealt out to threads.
-ghost use Rattle.std.specs.Prelude.{◌≡◌, ◌<◌, ◌≤◌, ◌+◌, ◌*◌, true, false, All, IfOk, OnOk};
+ghost use Rattle.std.specs.Prelude.{◌≡◌, ◌<◌, ◌≤◌, ◌+◌, ◌*◌, true, false, All};
+ghost use Rattle.std.specs.Prelude.{IfOk, OnOk};
 ghost use Rattle.tc_sched.specs.Steps.{AllWent, IsReady, Moves, Rests, Settles, left_in, moves_of};
 
 use crate::actor::{Actor, Step};
@@ -15,8 +16,8 @@ use tc_term::Name;
 /// How many sweeps the calling thread makes before another round.
 const SWEEPS: u64 = 64;
 
-/// How long sweeps over some actors go on: while each moved some, but no more than so many, and up to so
-/// many sweeps.
+/// How long sweeps over some actors go on: while each moved some, but no more than so many, and up
+/// to so many sweeps.
 #[derive(Clone, Copy)]
 struct Pace {
     sweeps: u64,
@@ -31,11 +32,11 @@ const TO_THE_END: Pace = Pace {
 
 /// Makes steps of all actors, in so many threads, until each has ended or its last ask is pending.
 ///
-/// The actors are dealt out to the workers in equal parts, in order. In a round each worker makes a
-/// step of each of its actors, over and over, until none of them moved. Then this thread makes a step
-/// of each actor of all, over and over, while that moved some, but no more of them than there are
-/// workers: what few can do one after another, new threads would not do sooner. Where more moved, or
-/// some still move after many such sweeps, another round follows.
+/// The actors are dealt out to the workers in equal parts, in order. In a round each worker makes
+/// sweeps over its actors, a step of each, until none of them moved. Then this thread makes sweeps
+/// over all of them, while each moved some, but no more than there are workers: what few can do one
+/// after another, new threads would not do sooner. Where more moved, or some still move after many
+/// such sweeps, another round follows.
 ///
 /// Whatever is answered, the rows of each actor are those of its first items. After `NoMemory` the
 /// actors can be driven on.

@@ -20,6 +20,10 @@ use Rattle.tc_visits.specs.Visits.{IsVisit, VisitState, session_of}
 abbrev pub left_desks : List VisitState → List (KitState (List Grant)) → List (EndedDeskState (List Grant))
 left_desks visits idle = map desk_left visits ++ map desk_unused idle
 
+-- a desk of a kit whose agent has made no call
+pub desk-unused : (kit : KitState (List Grant)) (e : EndedDeskState (List Grant)) → e.site ≡ kit.site → e.agent ≡ kit.agent → e.log ≡ [] → e ≡ desk_unused kit
+desk-unused kit e site agent log = λ i. record { site = site i; agent = agent i; log = log i }
+
 -- the kit of a desk that has ended
 abbrev ended_kit : EndedDeskState (List Grant) → KitState (List Grant)
 ended_kit e = record { site = e.site; agent = e.agent }

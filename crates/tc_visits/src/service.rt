@@ -95,14 +95,19 @@ fn serve_some<R: Threads + Wait + Sync, D: Door>(
 fn found_memory<L: Link>(visits: &[Visit<L>]) -> bool
     ensures { result ≡ not (list_any (λ (v : VisitState). lacked_memory v.end) visits.now) }
 {
-    !visits.iter().any(|visit| lacked(visit.end()))
+    for visit in visits {
+        if lacked(visit) {
+            return false;
+        }
+    }
+    true
 }
 
 // Whether a session has ended for want of memory.
-fn lacked(end: SessionEnd) -> bool
-    ensures { result ≡ lacked_memory end }
+fn lacked<L: Link>(visit: &Visit<L>) -> bool
+    ensures { result ≡ lacked_memory visit.now.end }
 {
-    match end {
+    match visit.end() {
         SessionEnd::NoMemory => true,
         SessionEnd::Quit
         | SessionEnd::EndOfInput
@@ -130,7 +135,15 @@ fn end_all<L: Link + Drop>(
         ended.push(visit.into_desk())?;
     }
     for kit in idle {
-        ended.push(AgentDesk::new(alloc, site, kit).end())?;
+        ended.push(end_unused(alloc, site, kit))?;
     }
     Ok(ended)
+}
+
+// The desk of an idle kit, which ends at once.
+fn end_unused(alloc: Global, site: &Site<Roles>, kit: DeskKit<Roles>) -> EndedDesk<Roles>
+    requires { kit.site ≡ site.now }
+    ensures { result ≡ desk_unused kit }
+{
+    AgentDesk::new(alloc, site, kit).end()
 }

@@ -1,11 +1,28 @@
 -- A text that is a heading and one line for each element of a list, handed on line by line.
-use Rattle.std.proofs.Common.{◌≡◌, ℕ, ◌+◌, ◌<◌, ◌≤◌, List, [], ◌∷◌, ◌++◌, Result, Ok, Err, take, drop, length, get_or, ap, sym, subst, ◌∙◌, append-nil, append_assoc, take-append-drop, take_all}
+use Rattle.std.proofs.Common.{◌≡◌, ℕ, ◌+◌, ◌<◌, List, [], ◌∷◌, ◌++◌, Result, Ok, Err, take, drop, length, get_or, ap, sym, subst, ◌∙◌, append-nil, append_assoc, take-append-drop}
 use Rattle.std.specs.List.{flat_map}
 use Rattle.std.proofs.lemmas.Grind.{flat_map-append}
 use Rattle.tc_io.specs.declared.sinks.SinkFault.{SinkFault}
 use Rattle.tc_lists.proofs.Parts.{take_read}
 use Rattle.tc_io.specs.Flow.{Flow, HandsOn}
-use Rattle.tc_io.proofs.Flows.{amid, both, both_done}
+use Rattle.tc_io.specs.Sinks.{SinkState}
+use Rattle.tc_io.specs.declared.sinks.SinkFault.TheVariants.{NoMemory}
+use Rattle.tc_io.proofs.Flows.{amid, both, both_done, kept_first, no_memory}
+
+-- a text was printed behind what is kept, and pieces of that were written
+pub printed : (text kept after : List ℕ) (sink : SinkState) (new : Flow) (result : Result (Unit {0}) SinkFault)
+    → after ≡ kept ++ text → HandsOn [] (record { sink = sink; kept = after }) new result
+    → HandsOn text (record { sink = sink; kept = kept }) new result
+printed text kept after sink new result is then =
+    kept_first text (record { sink = sink; kept = kept }) new result
+    (subst (λ bytes. HandsOn [] (record { sink = sink; kept = bytes }) new result) is then)
+
+-- there was no memory to print a text
+pub unprinted : (text kept after : List ℕ) (sink : SinkState) → after ≡ kept
+    → HandsOn text (record { sink = sink; kept = kept }) (record { sink = sink; kept = after }) (Err NoMemory)
+unprinted text kept after sink is =
+    subst (λ bytes. HandsOn text (record { sink = sink; kept = kept }) (record { sink = sink; kept = bytes }) (Err NoMemory))
+    (sym is) (no_memory text (record { sink = sink; kept = kept }))
 
 module _ {X : Type 0} (heading : List ℕ) (line : X → List ℕ) (xs : List X) where
   -- the heading and the lines of the first elements
@@ -44,15 +61,3 @@ module _ {X : Type 0} (heading : List ℕ) (line : X → List ℕ) (xs : List X)
       (ap (λ l. l ++ flat_map line (drop (i + 1) xs)) (begun-next i x within is) ∙ begun-whole (i + 1))
       (amid (begun i ++ line x) (flat_map line (drop (i + 1) xs)) old new result told fault was told_is
       (both (begun i) (line x) old mid new result first second))
-
-  -- the heading was handed on
-  pub heading-handed : (old new : Flow) (result : Result (Unit {0}) SinkFault) → result ≡ Ok tt
-      → HandsOn heading old new result → HandsOn (begun 0) old new (Ok tt)
-  heading-handed old new result done first =
-      subst (λ text. HandsOn text old new (Ok tt)) (sym (append-nil heading)) (subst (HandsOn heading old new) done first)
-
-  -- all lines were handed on
-  pub all-handed : (i : ℕ) (old new : Flow) → length xs ≤ i → HandsOn (begun i) old new (Ok tt)
-      → HandsOn (heading ++ flat_map line xs) old new (Ok tt)
-  all-handed i old new end whole =
-      subst (λ l. HandsOn (heading ++ flat_map line l) old new (Ok tt)) (take_all i xs end) whole

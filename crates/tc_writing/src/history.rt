@@ -42,9 +42,11 @@ pub fn write_history<K: Sink>(
         (flow K.taken K.write_faults K.sure sink.old kept.old.items)
         (flow K.taken K.write_faults K.sure sink.new kept.new.items) result }
 {
-    write_heading(alloc, Heading::Centre, centre, sink, kept)?;
+    print_heading(alloc, Heading::Centre, centre, kept)?;
+    spill(sink, kept)?;
     for entry in history {
-        write_entry(alloc, agents, entry, sink, kept)?;
+        print_entry(alloc, agents, entry, kept)?;
+        spill(sink, kept)?;
     }
     Ok(())
 }
@@ -61,9 +63,11 @@ pub fn write_log<K: Sink>(
         (flow K.taken K.write_faults K.sure sink.old kept.old.items)
         (flow K.taken K.write_faults K.sure sink.new kept.new.items) result }
 {
-    write_heading(alloc, Heading::Agent, agent, sink, kept)?;
+    print_heading(alloc, Heading::Agent, agent, kept)?;
+    spill(sink, kept)?;
     for row in log {
-        write_row(alloc, row, sink, kept)?;
+        print_row(alloc, Version::One, row, kept)?;
+        spill(sink, kept)?;
     }
     Ok(())
 }
@@ -78,55 +82,4 @@ pub fn write_end<K: Sink>(blocked: bool, sink: &mut K, kept: &mut Vec<u8>) -> Re
 {
     print_end(blocked, kept)?;
     write_kept(sink, kept)
-}
-
-// Hands on a heading.
-#[tactic(auto, using(tc_io::proofs::Flows::no_memory, tc_io::proofs::Flows::kept_first))]
-fn write_heading<K: Sink>(
-    alloc: Global,
-    word: Heading,
-    name: &Name,
-    sink: &mut K,
-    kept: &mut Vec<u8>,
-) -> Result<(), SinkFault>
-    ensures { HandsOn (heading_text word name.now)
-        (flow K.taken K.write_faults K.sure sink.old kept.old.items)
-        (flow K.taken K.write_faults K.sure sink.new kept.new.items) result }
-{
-    print_heading(alloc, word, name, kept)?;
-    spill(sink, kept)
-}
-
-// Hands on an entry.
-#[tactic(auto, using(tc_io::proofs::Flows::no_memory, tc_io::proofs::Flows::kept_first))]
-fn write_entry<K: Sink>(
-    alloc: Global,
-    agents: &[Name],
-    entry: &Entry,
-    sink: &mut K,
-    kept: &mut Vec<u8>,
-) -> Result<(), SinkFault>
-    requires agent { (id_of entry.now).agent < length agents.now }
-    ensures { HandsOn (entry_text agents.now entry.now)
-        (flow K.taken K.write_faults K.sure sink.old kept.old.items)
-        (flow K.taken K.write_faults K.sure sink.new kept.new.items) result }
-{
-    print_entry(alloc, agents, entry, kept)?;
-    spill(sink, kept)
-}
-
-// Hands on a row.
-#[tactic(auto, using(tc_io::proofs::Flows::no_memory, tc_io::proofs::Flows::kept_first))]
-fn write_row<K: Sink>(
-    alloc: Global,
-    row: &LogRow,
-    sink: &mut K,
-    kept: &mut Vec<u8>,
-) -> Result<(), SinkFault>
-    ensures { HandsOn (row_text One row.now)
-        (flow K.taken K.write_faults K.sure sink.old kept.old.items)
-        (flow K.taken K.write_faults K.sure sink.new kept.new.items) result }
-{
-    print_row(alloc, Version::One, row, kept)?;
-    spill(sink, kept)
 }

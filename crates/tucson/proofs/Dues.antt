@@ -1,5 +1,5 @@
 -- What is due to a call decides how it ends.
-use Rattle.std.proofs.Common.{◌≡◌, ◌<◌, ℕ, List, Option, Some, None, length, refl, sym, ap₂, subst, inl, inr}
+use Rattle.std.proofs.Common.{◌≡◌, ◌∙◌, ◌<◌, ℕ, List, Option, Some, None, length, refl, sym, ap₂, subst, inl, inr}
 use Rattle.tc_config.specs.Configurations.{Configuration}
 use Rattle.tc_config.specs.Texts.{IsRefused, Spells}
 use Rattle.tc_config.specs.declared.faults.ConfigCause.{ConfigCause}
@@ -10,7 +10,7 @@ use Rattle.tucson.specs.declared.command.Command.{Command}
 use Rattle.tucson.specs.declared.command.Command.TheVariants.{Run, Load, Serve}
 use Rattle.tucson.specs.declared.status.Status.{Status}
 use Rattle.tucson.specs.declared.status.Status.TheVariants.{Ended, WriteFault, Refused, Blocked, ReadFault, NoMemory, Usage, NetFault}
-use Rattle.tucson.specs.Answer.{Input, Unread, Whole, TooLong, IsDue, IsDueForText, IsInput, IsOutcome, IsOutcomeOf, IsOutcomeOfService, IsSpeltBy, ReadsInput}
+use Rattle.tucson.specs.Answer.{Input, Unread, Whole, TooLong, IsDue, IsDueForText, IsInput, IsOutcome, IsOutcomeOf, IsOutcomeOfService, ReadsInput}
 use Rattle.tucson.specs.Ending.{Call, End, EndsAsDue, Ends, IsEndFor, IsUnlessStopped, MustEnd, OfRun, OfService, With, end_of}
 
 -- a text that is refused is refused for one clause and one cause, and spells nothing

@@ -1,10 +1,6 @@
 -- How a call ends, from what it read and what it wrote.
-use Rattle.std.proofs.Common.{◌≡◌, ℕ, List, Option, Some, None, refl, sym, subst, inl, inr}
-use Rattle.tc_io.specs.Sinks.{SinkState, appended}
-use Rattle.tc_io.specs.Sources.{SourceState}
-use Rattle.tc_visits.specs.Service.{DoorState}
-use Rattle.tucson.specs.declared.command.Command.{Command}
-use Rattle.tucson.specs.declared.command.Command.TheVariants.{Run, Load, Serve}
+use Rattle.std.proofs.Common.{◌≡◌, ℕ, List, sym, subst, inl, inr}
+use Rattle.tc_io.specs.Sinks.{appended}
 use Rattle.tucson.specs.declared.status.Status.{Status}
 use Rattle.tucson.specs.declared.status.Status.TheVariants.{Ended, WriteFault, Refused, Blocked, ReadFault, NoMemory, Usage, NetFault}
 use Rattle.tucson.specs.Answer.{Input, IsInput}

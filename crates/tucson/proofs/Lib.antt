@@ -1,5 +1,7 @@
 pub mod Endings
 pub mod Dues
+pub mod Outcomes
+pub mod Stops
 pub mod Returning
 pub mod Words
 pub mod Runs

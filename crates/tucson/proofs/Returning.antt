@@ -1,7 +1,7 @@
 -- How a call of a command returns, from what it found of its configuration and what it wrote.
-use Rattle.std.proofs.Common.{◌≡◌, ℕ, List, Option, Some, None, Bool, false, refl, sym, ap, ap₂, subst, inl, inr}
+use Rattle.std.proofs.Common.{◌≡◌, ℕ, List, Option, Some, None, false, refl, sym, ap, subst, inl, inr}
 use Rattle.tc_config.specs.Configurations.{Configuration}
-use Rattle.tc_config.specs.Texts.{IsRefused, Spells}
+use Rattle.tc_config.specs.Texts.{Spells}
 use Rattle.tc_config.specs.declared.faults.ConfigCause.{ConfigCause}
 use Rattle.tc_config.specs.declared.faults.ConfigCause.TheVariants as cause
 use Rattle.tc_io.specs.Faults.{CountRises, Counts}
@@ -15,12 +15,13 @@ use Rattle.tucson.specs.declared.reading.Stop.{Stop}
 use Rattle.tucson.specs.declared.reading.Stop.TheVariants as stop
 use Rattle.tucson.specs.declared.status.Status.{Status}
 use Rattle.tucson.specs.declared.status.Status.TheVariants.{Ended, WriteFault, Refused, Blocked, ReadFault, NoMemory, Usage, NetFault}
-use Rattle.tucson.specs.Answer.{Input, Unread, Whole, TooLong, IsDue, IsDueForText, IsInput, IsOutcome, IsOutcomeOfService, IsSpeltBy, ReadsInput}
-use Rattle.tucson.specs.Ending.{Call, Ends, IsStopped, LeavesDoor, Returns, WritesDue, Writes}
-use Rattle.tucson.specs.Reading.{FindsConfig, IsRefusedInput, IsStopFor, StopsReading, TellsStop}
+use Rattle.tucson.specs.Answer.{Input, Unread, Whole, TooLong, IsDue, IsDueForText, IsInput, IsOutcome, IsSpeltBy, ReadsInput}
+use Rattle.tucson.specs.Ending.{Call, Ends, LeavesDoor, Returns, WritesDue, Writes}
+use Rattle.tucson.specs.Reading.{IsRefusedInput, IsStopFor, StopsReading, TellsStop}
 use Rattle.tucson.specs.Texts.{refused_text}
 use Rattle.tucson.proofs.Dues.{ends_as_due}
 use Rattle.tucson.proofs.Endings.{Ends-told, Ends-written}
+use Rattle.tucson.proofs.Outcomes.{Nets}
 
 -- a call of a command, or of none
 abbrev pub called : Option Command → SourceState → SourceState → SinkState → SinkState → DoorState → DoorState → Call
@@ -93,10 +94,6 @@ refusal_due command door after TooLong clause cause.Twice reads refused = absurd
 refusal_due command door after TooLong clause cause.NotGround reads refused = absurd (cc)
 refusal_due command door after TooLong clause cause.Count reads refused = absurd (cc)
 
--- no call of the door has failed that isn't told
-abbrev Nets : DoorState → DoorState → Status → Type 0
-Nets door after status = (status ≡ NetFault → ⊥) → IsStopped status ⊎ (after.faults ≡ door.faults)
-
 -- why a command has no configuration
 abbrev pub StopsCommand : Command → SourceState → SourceState → Stop → Type 0
 StopsCommand command source after (stop.Refused clause why) =
@@ -113,12 +110,12 @@ module _ (command : Command) (source source_after : SourceState) (sink sink_afte
   returning : (status : Status) → Ends call status → Counts (status ≡ ReadFault) source.read_faults source_after.read_faults
       → Counts (status ≡ WriteFault) sink.write_faults sink_after.write_faults → LeavesDoor (Some command) door door_after
       → Nets door door_after status → Returns call status
-  returning status ends reads writes leaves nets = record {
+  returning status ends reads writes left nets = record {
     ends = ends;
     due = ends_as_due call status ends;
     reads = reads;
     writes = writes;
-    door = leaves;
+    door = left;
     nets = nets;
   }
 
@@ -128,11 +125,11 @@ module _ (command : Command) (source source_after : SourceState) (sink sink_afte
       → (status ≡ ReadFault → ⊥) → source_after.read_faults ≡ source.read_faults
       → Counts (status ≡ WriteFault) sink.write_faults sink_after.write_faults → LeavesDoor (Some command) door door_after
       → Nets door door_after status → Returns call status
-  returns-told input spelt c status read by spells told sure same writes leaves nets =
+  returns-told input spelt c status read by spells told sure same writes left nets =
       returning status
       (Ends-told call (IsOutcome command door door_after c) status input read
       (λ s text is. text_due command door door_after input spelt by s text (outcome_due command door door_after spelt c spells s text is)) told)
-      (record { failed = λ is. absurd (sure is); unfailed = λ other. same }) writes leaves nets
+      (record { failed = λ is. absurd (sure is); unfailed = λ other. same }) writes left nets
 
 module _ (command : Command) (source source_after : SourceState) (sink sink_after : SinkState) (door : DoorState) where
   abbrev untouched : Call
@@ -203,13 +200,3 @@ returns-usage source sink sink_after door text status due wrote sure writes =
       door = refl;
       nets = λ other. inr refl;
     }
-
--- what is told of a service tells whether a call of the door has failed
-told_faults : (door after : DoorState) (c : Configuration) (sink sink_after : SinkState) (status result : Status) (text : List ℕ)
-    → IsOutcomeOfService door after c status text → Writes status text sink sink_after result → Nets door after result
-told_faults door after c sink sink_after status result text is wrote = ?
-
-pub service_nets : (door after : DoorState) (c : Configuration) (sink sink_after : SinkState) (status : Status)
-    → WritesDue (IsOutcomeOfService door after c) sink sink_after status → Nets door after status
-service_nets door after c sink sink_after status (inl told) = told_faults door after c sink sink_after told.status status told.text told.is told.writes
-service_nets door after c sink sink_after status (inr none) = λ other. inl (subst IsStopped (sym none.0) tt)

@@ -18,11 +18,11 @@ use crate::writing::{is_blocked, status_of_run, write_whole};
 use std::alloc::Global;
 use std::sync::Wait;
 use std::thread::Threads;
+use tc_visits::Service;
 use tc_config::Config;
 use tc_io::{Door, Sink, Source};
 use tc_lists::NoMemory;
 use tc_runner::open;
-use tc_visits::Service;
 
 /// Reads a configuration, listens at a port, serves the agents over the connections that the door
 /// accepts, the first agent over the first, and writes what came of it once all sessions have ended.
@@ -116,11 +116,9 @@ fn write_service<K: Sink>(alloc: Global, service: &Service, sink: &mut K) -> Sta
 fn status_of_service(all: bool, enough: bool, blocked: bool) -> Status
     ensures { result ≡ status_of_service all enough blocked }
 {
-    if !enough {
-        return Status::NoMemory;
+    match (enough, all) {
+        (false, _) => Status::NoMemory,
+        (true, false) => Status::NetFault,
+        (true, true) => status_of_run(blocked),
     }
-    if !all {
-        return Status::NetFault;
-    }
-    status_of_run(blocked)
 }

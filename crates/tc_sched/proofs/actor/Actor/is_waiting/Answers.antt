@@ -11,7 +11,7 @@ returns-then-count-gt0 g c =
     let log = c.log-log.result.now in
     let same : log ≡ desk.log = c.log-log.ensures in
     let of : IsOfScripts desk.names scripts log = subst (IsOfScripts desk.names scripts) (sym same) c.self.invariant.rows in
-    c.is_pending_row.ensures
+    c.is_pending.ensures
     ∙ last-pending desk.names scripts log (length log - 1) c.index-log-count.result of (omega (arith, c.if-count-gt0.true)) c.index-log-count.is
     ∙ ap any_pending same
     ∙ ap (λ (v : Client g.row.D.Denot). any_pending (g.D.Desk.state v.desk).log) c.self.view_is

@@ -1,12 +1,10 @@
-use Rattle.std.proofs.Common.{◌∙◌, inl, inr, sym, subst, length}
-use Rattle.tc_asks.specs.Nexts.{IsNextAsk}
+use Rattle.std.proofs.Common.{◌∙◌, sym, subst}
 use Rattle.tc_desk.specs.Desks.{Gets}
-use Rattle.tc_lists.proofs.Options.{IfSome-at}
 use Rattle.tc_sched.specs.Clients.{Client}
-use Rattle.tc_sched.specs.Steps.{HasNoMemory}
-use Rattle.tc_sched.proofs.Desks.{HasTurns, answered-actor, asked-next, ready-turns, turn-left}
-use Rattle.tc_sched.proofs.Rows.{next-placed}
+use Rattle.tc_sched.proofs.Desks.{HasTurns, answered-actor, next-inside, ready-turns, stepped, Stepped, turn-left}
+use Rattle.tc_sched.proofs.actor.Actor.step.Given.{Over}
 use Rattle.tc_sched.proofs.actor.Actor.step.Goals as goal
+use Rattle.tc_sched.proofs.actor.Actor.step.Goals.{After-moved}
 
 pub invariant_of-self : goal.invariant_of-self
 invariant_of-self g c =
@@ -24,86 +22,41 @@ unreachable-requires-in-Err-TurnsSpent g c =
     (ready-turns g.D.Desk.state c.args.names.now c.args.self.now c.requires.ready) in
     turn-left (g.D.Desk.state c.self.inside.desk) spent.row.centre turns spent.none
 
-pub name_at-centre-requires : goal.name_at-centre-requires
-name_at-centre-requires g c =
-    let v = c.args.self.now in
-    let log = (g.D.Desk.state v.desk).log in
-    next-placed (length c.args.names.now) v.scripts log c.in-Some.next c.requires.ready.placed
-    (IfSome-at (IsNextAsk v.scripts log) c.in_ok-next.field-0 c.in-Some.next c.in-Some.is c.in_ok-next.ensures.some)
+pub call_at-called-requires-clause-inside : goal.call_at-called-requires-clause-inside
+call_at-called-requires-clause-inside g c =
+    next-inside g.D.Desk.state c.args.names.now c.args.self.now (record { desk = c.self-2.inside.desk; agent = c.self-2.inside.agent; scripts = c.self-2.inside.scripts.items }) c.in_ok-next.field-0 c.in-Some.next
+    (c.self-2.view_is ∙ c.next_ask.ensures.same) c.requires.ready c.in-Some.is c.in_ok-next.ensures.some
 
-pub invariant_of-self-in-Ok : goal.invariant_of-self-in-Ok
-invariant_of-self-in-Ok g c =
-    let before : Client g.row.D.Denot = record { desk = c.self-2.inside.desk; agent = c.self-2.inside.agent; scripts = c.self-2.inside.scripts.items } in
-    let all = asked-next g.D.Desk.state g.D.Desk.bond g.D.Desk.sound c.args.names.now c.args.self.now before c.call.new.self c.self-2.inside.asker
-    c.in_ok-next.field-0 c.in-Some.next c.name_at-centre.result.now (c.self-2.view_is ∙ c.next_ask.ensures.same) c.requires.ready
-    (sym c.is_waiting.ensures ∙ c.if-is_waiting.false) c.in-Some.is c.in_ok-next.ensures.some c.name_at-centre.ensures
-    (inl (c.in-Ok.field-0, c.in-Ok.ensures.became))
-    (record { bound = c.call.ensures.bond; kept = c.call.ensures.kept; spent = c.call.ensures.turns; sound = c.call.ensures.sound })
-    c.self-2.invariant in
-    all.actor
+-- what has come of the call
+came : (g : Over) (c : After-moved g)
+    → Stepped g.D.Desk.state g.D.Desk.bond g.D.Desk.sound c.args.self.now
+    (record { desk = c.self-2.inside.desk; agent = c.self-2.inside.agent; scripts = c.self-2.inside.scripts.items })
+    c.call_at-called.new.self c.self-2.inside.asker c.moved.result
+came g c =
+    stepped g.D.Desk.state g.D.Desk.bond g.D.Desk.sound c.args.self.now
+    (record { desk = c.self-2.inside.desk; agent = c.self-2.inside.agent; scripts = c.self-2.inside.scripts.items })
+    c.call_at-called.new.self c.self-2.inside.asker (c.self-2.view_is ∙ c.next_ask.ensures.same)
+    (record {
+      bound = c.call_at-called.ensures.bond;
+      kept = c.call_at-called.ensures.kept;
+      spent = c.call_at-called.ensures.turns;
+      sound = c.call_at-called.ensures.sound;
+    })
+    c.self-2.invariant c.args.names.now c.in_ok-next.field-0 c.in-Some.next c.call_at-called.result c.moved.result c.requires.ready
+    (sym c.is_waiting.ensures ∙ c.if-is_waiting.false) c.in-Some.is c.in_ok-next.ensures.some
+    c.call_at-called.ensures.became c.moved.ensures.moved c.moved.ensures.memory
 
-pub returns-in-Ok-clause-went : goal.returns-in-Ok-clause-went
-returns-in-Ok-clause-went g c =
-    let before : Client g.row.D.Denot = record { desk = c.self-2.inside.desk; agent = c.self-2.inside.agent; scripts = c.self-2.inside.scripts.items } in
-    let all = asked-next g.D.Desk.state g.D.Desk.bond g.D.Desk.sound c.args.names.now c.args.self.now before c.call.new.self c.self-2.inside.asker
-    c.in_ok-next.field-0 c.in-Some.next c.name_at-centre.result.now (c.self-2.view_is ∙ c.next_ask.ensures.same) c.requires.ready
-    (sym c.is_waiting.ensures ∙ c.if-is_waiting.false) c.in-Some.is c.in_ok-next.ensures.some c.name_at-centre.ensures
-    (inl (c.in-Ok.field-0, c.in-Ok.ensures.became))
-    (record { bound = c.call.ensures.bond; kept = c.call.ensures.kept; spent = c.call.ensures.turns; sound = c.call.ensures.sound })
-    c.self-2.invariant in
-    all.went
+pub invariant_of-self-2 : goal.invariant_of-self-2
+invariant_of-self-2 g c = (came g (goal.at.invariant_of-self-2 g c).After-moved).actor
 
-pub returns-in-Ok-clause-steps : goal.returns-in-Ok-clause-steps
-returns-in-Ok-clause-steps g c =
-    let before : Client g.row.D.Denot = record { desk = c.self-2.inside.desk; agent = c.self-2.inside.agent; scripts = c.self-2.inside.scripts.items } in
-    let all = asked-next g.D.Desk.state g.D.Desk.bond g.D.Desk.sound c.args.names.now c.args.self.now before c.call.new.self c.self-2.inside.asker
-    c.in_ok-next.field-0 c.in-Some.next c.name_at-centre.result.now (c.self-2.view_is ∙ c.next_ask.ensures.same) c.requires.ready
-    (sym c.is_waiting.ensures ∙ c.if-is_waiting.false) c.in-Some.is c.in_ok-next.ensures.some c.name_at-centre.ensures
-    (inl (c.in-Ok.field-0, c.in-Ok.ensures.became))
-    (record { bound = c.call.ensures.bond; kept = c.call.ensures.kept; spent = c.call.ensures.turns; sound = c.call.ensures.sound })
-    c.self-2.invariant in
-    inr all.asks
+pub returns-clause-went : goal.returns-clause-went
+returns-clause-went g c = (came g (goal.at.returns-clause-went g c).After-moved).went
 
-pub returns-in-Ok-clause-less : goal.returns-in-Ok-clause-less
-returns-in-Ok-clause-less g c = λ moved.
-    let before : Client g.row.D.Denot = record { desk = c.self-2.inside.desk; agent = c.self-2.inside.agent; scripts = c.self-2.inside.scripts.items } in
-    let all = asked-next g.D.Desk.state g.D.Desk.bond g.D.Desk.sound c.args.names.now c.args.self.now before c.call.new.self c.self-2.inside.asker
-    c.in_ok-next.field-0 c.in-Some.next c.name_at-centre.result.now (c.self-2.view_is ∙ c.next_ask.ensures.same) c.requires.ready
-    (sym c.is_waiting.ensures ∙ c.if-is_waiting.false) c.in-Some.is c.in_ok-next.ensures.some c.name_at-centre.ensures
-    (inl (c.in-Ok.field-0, c.in-Ok.ensures.became))
-    (record { bound = c.call.ensures.bond; kept = c.call.ensures.kept; spent = c.call.ensures.turns; sound = c.call.ensures.sound })
-    c.self-2.invariant in
-    all.less
+pub returns-clause-steps : goal.returns-clause-steps
+returns-clause-steps g c = (came g (goal.at.returns-clause-steps g c).After-moved).steps
 
-pub invariant_of-self-in-Err : goal.invariant_of-self-in-Err
-invariant_of-self-in-Err g c =
-    let before : Client g.row.D.Denot = record { desk = c.self-2.inside.desk; agent = c.self-2.inside.agent; scripts = c.self-2.inside.scripts.items } in
-    let all = asked-next g.D.Desk.state g.D.Desk.bond g.D.Desk.sound c.args.names.now c.args.self.now before c.call.new.self c.self-2.inside.asker
-    c.in_ok-next.field-0 c.in-Some.next c.name_at-centre.result.now (c.self-2.view_is ∙ c.next_ask.ensures.same) c.requires.ready
-    (sym c.is_waiting.ensures ∙ c.if-is_waiting.false) c.in-Some.is c.in_ok-next.ensures.some c.name_at-centre.ensures
-    (inr (c.in-Err.why, subst (HasNoMemory c.in-Err.why) c.if-is_memory.false c.is_memory.ensures, c.in-Err.ensures.became))
-    (record { bound = c.call.ensures.bond; kept = c.call.ensures.kept; spent = c.call.ensures.turns; sound = c.call.ensures.sound })
-    c.self-2.invariant in
-    all.actor
+pub returns-clause-less : goal.returns-clause-less
+returns-clause-less g c = (came g (goal.at.returns-clause-less g c).After-moved).less
 
-pub returns-in-Err-clause-steps : goal.returns-in-Err-clause-steps
-returns-in-Err-clause-steps g c =
-    let before : Client g.row.D.Denot = record { desk = c.self-2.inside.desk; agent = c.self-2.inside.agent; scripts = c.self-2.inside.scripts.items } in
-    let all = asked-next g.D.Desk.state g.D.Desk.bond g.D.Desk.sound c.args.names.now c.args.self.now before c.call.new.self c.self-2.inside.asker
-    c.in_ok-next.field-0 c.in-Some.next c.name_at-centre.result.now (c.self-2.view_is ∙ c.next_ask.ensures.same) c.requires.ready
-    (sym c.is_waiting.ensures ∙ c.if-is_waiting.false) c.in-Some.is c.in_ok-next.ensures.some c.name_at-centre.ensures
-    (inr (c.in-Err.why, subst (HasNoMemory c.in-Err.why) c.if-is_memory.false c.is_memory.ensures, c.in-Err.ensures.became))
-    (record { bound = c.call.ensures.bond; kept = c.call.ensures.kept; spent = c.call.ensures.turns; sound = c.call.ensures.sound })
-    c.self-2.invariant in
-    inr all.asks
-
-pub returns-in-Err-clause-less : goal.returns-in-Err-clause-less
-returns-in-Err-clause-less g c = λ moved.
-    let before : Client g.row.D.Denot = record { desk = c.self-2.inside.desk; agent = c.self-2.inside.agent; scripts = c.self-2.inside.scripts.items } in
-    let all = asked-next g.D.Desk.state g.D.Desk.bond g.D.Desk.sound c.args.names.now c.args.self.now before c.call.new.self c.self-2.inside.asker
-    c.in_ok-next.field-0 c.in-Some.next c.name_at-centre.result.now (c.self-2.view_is ∙ c.next_ask.ensures.same) c.requires.ready
-    (sym c.is_waiting.ensures ∙ c.if-is_waiting.false) c.in-Some.is c.in_ok-next.ensures.some c.name_at-centre.ensures
-    (inr (c.in-Err.why, subst (HasNoMemory c.in-Err.why) c.if-is_memory.false c.is_memory.ensures, c.in-Err.ensures.became))
-    (record { bound = c.call.ensures.bond; kept = c.call.ensures.kept; spent = c.call.ensures.turns; sound = c.call.ensures.sound })
-    c.self-2.invariant in
-    all.less
+pub returns-clause-same : goal.returns-clause-same
+returns-clause-same g c = (came g (goal.at.returns-clause-same g c).After-moved).same
