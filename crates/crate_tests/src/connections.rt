@@ -3,8 +3,11 @@ use std::io::{Read, Write};
 use std::net::{Net, Shutdown, TcpListener, TcpStream};
 use std::process::Abort;
 use std::test::Fail;
+use tc_config::read_config;
 use tc_io::{Door, read_all, write_all};
 use tc_net::TcpDoor;
+use tc_runner::open;
+use tc_visits::serve;
 
 const TEXT: &[u8] = b"c ? out(p(1))\n";
 
@@ -67,5 +70,30 @@ fn the_last_bytes_come_though_others_are_unread(rt: HostRuntime) -> Result<(), F
     let mut reply = Vec::new(alloc);
     peer.read_to_end(&mut reply)?;
     assert_eq!(rt; reply.as_slice(), b"bye\n".as_slice());
+    Ok(())
+}
+
+const CONFIGURATION: &[u8] = b"centre(c). role(r). grant(r,c,out). grant(r,c,in). agent(a,r).";
+
+#[test]
+fn an_agent_is_served_over_tcp(rt: HostRuntime) -> Result<(), Fail> {
+    let alloc = rt.alloc();
+    let mut door = TcpDoor::new(&rt);
+    let port = listen(&rt, &mut door);
+    let mut peer = TcpStream::connect(&rt, ("127.0.0.1", port))?;
+    peer.write_all(b"c ? in(p(X))\npoll\r\nc ? out(p(1))\n")?;
+    peer.shutdown(Shutdown::Write)?;
+    let Ok(config) = read_config(alloc, CONFIGURATION) else {
+        panic!(rt; "the configuration is refused");
+    };
+    let opened = open(alloc, config)?;
+    let service = serve(&rt, alloc, opened, &mut door)?;
+    assert!(rt; service.all && service.enough);
+    let mut replies = Vec::new(alloc);
+    peer.read_to_end(&mut replies)?;
+    assert_eq!(rt;
+        replies.as_slice(),
+        b"pending\npending\nerror waiting\n".as_slice()
+    );
     Ok(())
 }

@@ -21,6 +21,10 @@ mod numbers;
 #[cfg(test)]
 mod pieces;
 #[cfg(test)]
+mod sessions;
+#[cfg(test)]
 mod streams;
 #[cfg(test)]
 mod turnstile;
+#[cfg(test)]
+mod workloads;
