@@ -15,7 +15,7 @@ asks_nothing t word line Poll is = word (inl is)
 asks_nothing t word line Wait is = word (inr (inl is))
 asks_nothing t word line Quit is = word (inr (inr is))
 
--- lines beyond the limits
+-- a line beyond a limit
 pub has_wide_number : (line : List ℕ) (place : ℕ) → LineReadsAs line (WideInt place) → IsRequest line (Err Size)
 has_wide_number line place reads = (place, inl reads)
 
@@ -24,3 +24,6 @@ has_many_variables line place reads = (place, inr (inl reads))
 
 pub is_big : (line : List ℕ) (place : ℕ) → LineReadsAs line (TooBig place) → IsRequest line (Err Size)
 is_big line place reads = (place, inr (inr reads))
+
+-- how a line may be beyond the limits
+pub ruleset beyond_the_limits = (has_wide_number, has_many_variables, is_big)

@@ -1,12 +1,12 @@
 -- Where bytes are cut.
-use Rattle.std.proofs.Common.{◌≡◌, ℕ, ◌+◌, ◌-◌, ◌<◌, ◌≤◌, List, [], ◌∷◌, Option, Some, None, Result, ◌++◌, length, take, drop, refl, sym, ap, subst, ◌∙◌, arith, take-append-drop, length-append, length-drop, length-take-le, eq-eqb, inl, inr, ◌⊎◌}
+use Rattle.std.proofs.Common.{◌≡◌, ℕ, ◌+◌, ◌-◌, ◌<◌, ◌≤◌, List, [], ◌∷◌, Option, Some, None, Result, ◌++◌, length, take, drop, sym, ap, subst, ◌∙◌, arith, take-append-drop, length-append, length-drop, length-take-le, eq-eqb, inl, inr, ◌⊎◌}
 use Rattle.std.specs.Prelude.{slice_index}
-use Rattle.std.proofs.Math.ListN.{drop_of_length-le, get_or}
+use Rattle.std.proofs.Math.ListN.{drop_of_length-le}
 use Rattle.std.proofs.Math.Seq.{get_or-append_seam}
 use Rattle.std.proofs.lemmas.List.{drop-drop, drop_more, get_or-drop, get_or-take}
 use Rattle.std.proofs.lemmas.Bool.{cases_lt, eqb-true}
 use Rattle.memchr.specs.Find.{IsFirstByte, is_byte}
-use Rattle.tc_lines.specs.Lines.{HasNoBreakFrom, IsBreak, IsLine, IsReadAs}
+use Rattle.tc_lines.specs.Lines.{HasNoBreakFrom, IsBreak, IsReadAs}
 use Rattle.tc_lines.specs.Requests.{BeginsWith, IsRequest}
 use Rattle.tc_lines.specs.declared.limits.TheConstants.{MOST_LINE}
 use Rattle.tc_lines.specs.declared.requests.BadLine.{BadLine}

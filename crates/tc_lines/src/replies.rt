@@ -14,7 +14,7 @@ use tc_model::Reply;
 
 /// Appends the line of a reply.
 ///
-/// Takes time in the length of the line.
+/// Takes time linear in the length of the line.
 pub fn print_reply(alloc: Global, r: &Reply, into: &mut Vec<u8>) -> Result<(), NoMemory>
     ensures appended { OnOk result
         (into.new.items ≡ into.old.items ++ reply_line (reply_text r.now)) }
@@ -36,6 +36,7 @@ pub fn refusal_text(r: Refusal, into: &mut Vec<u8>) -> Result<(), NoMemory>
     cut_back(written, before, into)
 }
 
+// Appends the words of a reply, and the end of its line.
 fn write_reply(alloc: Global, r: &Reply, into: &mut Vec<u8>) -> Result<(), NoMemory>
     ensures appended { OnOk result
         (into.new.items ≡ into.old.items ++ reply_line (reply_text r.now)) }
@@ -45,6 +46,7 @@ fn write_reply(alloc: Global, r: &Reply, into: &mut Vec<u8>) -> Result<(), NoMem
     into.extend_from_slice(b"\n")
 }
 
+// Appends the words of a refusal behind `error`, and the end of their line.
 fn write_refusal(r: Refusal, into: &mut Vec<u8>) -> Result<(), NoMemory>
     ensures appended { OnOk result
         (into.new.items ≡ into.old.items ++ error_line (refusal_words One r)) }

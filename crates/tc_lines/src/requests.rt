@@ -41,8 +41,8 @@ pub enum BadLine {
 
 /// What the line asks, without the LF behind it and a CR before that.
 ///
-/// Takes time in the length of the line.
-#[tactic(auto, using(crate::proofs::Asking::has_wide_number, crate::proofs::Asking::has_many_variables, crate::proofs::Asking::is_big))]
+/// Takes time linear in the length of the line.
+#[tactic(auto, using(crate::proofs::Asking::beyond_the_limits))]
 pub fn read_line_request(alloc: Global, line: &[u8]) -> Result<LineAsk, BadLine>
     ensures { IsRequest line.now result }
 {

@@ -27,4 +27,5 @@ pub record IsFresh (run : Opened) : Type 0 where
 
 -- it is a good one, in which every choice was the first
 abbrev pub IsGoodRun : Opened → Type 0
-IsGoodRun run = IsGood TheFirst run.plan (histories run.plan run.cores.items) (rows_of run.logs.items)
+IsGoodRun run =
+    IsGood TheFirst run.plan (histories run.plan run.cores.items) (rows_of run.logs.items)

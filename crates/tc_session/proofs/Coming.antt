@@ -1,5 +1,5 @@
 -- What a line came to.
-use Rattle.std.proofs.Common.{◌≡◌, ◌≢◌, ℕ, ◌+◌, ◌-◌, ◌<◌, List, [], ◌∷◌, ◌++◌, false, true, Option, Some, None, Result, Ok, Err, OnOk, OnErr, IfSome, length, refl, sym, ap, subst, ◌∙◌, length-append, codes, arith}
+use Rattle.std.proofs.Common.{◌≡◌, ℕ, ◌+◌, ◌-◌, ◌<◌, List, [], ◌∷◌, ◌++◌, false, Option, Some, None, Result, Ok, Err, OnOk, OnErr, IfSome, length, refl, sym, ap, subst, ◌∙◌, length-append, arith}
 use Rattle.std.specs.Prelude.{slice_get}
 use Rattle.std.specs.declared.alloc.AllocError.{AllocError}
 use Rattle.tc_lists.proofs.Places.{slice_get_longer, slice_get_pushed}
@@ -29,7 +29,7 @@ pub told : (d : DeskState) (asked : Result LineAsk BadLine) (reply : List ℕ) (
 told d asked reply e old new came.GoesOn answers pushed = (reply, answers, pushed)
 told d asked reply e old new came.Unwritten answers pushed = (reply, answers, pushed)
 told d asked reply e old new came.Quits answers pushed = absurd pushed
-told d asked reply e old new came.FindsNone answers pushed = absurd pushed
+told d asked reply e old new came.NoMemory answers pushed = absurd pushed
 
 pub pushed_so : (reply old new : List ℕ) (written : Result (Unit {0}) AllocError) → OnOk written (new ≡ old ++ reply) → OnErr written (new ≡ old)
     → IsPushed reply old (came_of written) new

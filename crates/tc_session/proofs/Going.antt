@@ -1,10 +1,9 @@
 -- A session, as it goes on.
-use Rattle.std.proofs.Common.{◌≡◌, ℕ, ◌≤◌, List, [], ◌∷◌, ◌++◌, Option, Some, None, Result, Ok, Err, IsTrue, refl, sym, ap, subst, ◌∙◌, append-nil, append_assoc, arith}
+use Rattle.std.proofs.Common.{◌≡◌, ℕ, List, [], ◌∷◌, ◌++◌, Option, Some, None, Result, Ok, refl, sym, ap, subst, ◌∙◌, append-nil, append_assoc, arith}
 use Rattle.std.proofs.lemmas.Option.{same_Some}
 use Rattle.tc_io.specs.Flow.{Flow, HandsOn, handed}
 use Rattle.tc_io.specs.Sinks.{SinkState}
 use Rattle.tc_io.specs.Sources.{SourceState, ReadsBytes}
-use Rattle.tc_io.specs.declared.sinks.SinkFault.{SinkFault}
 use Rattle.tc_io.proofs.Flows.{appended-nil, both, kept_first}
 use Rattle.tc_io.proofs.Inputs.{ReadsBytes-none}
 use Rattle.tc_desk.specs.Desks.{DeskState}

@@ -1,8 +1,7 @@
 -- What calls keep of a desk.
-use Rattle.std.proofs.Common.{◌≡◌, ℕ, ◌+◌, ◌≤◌, true, refl, sym, subst, ◌∙◌, arith}
-use Rattle.std.specs.Prelude.{slice_index}
+use Rattle.std.proofs.Common.{◌≡◌, true, refl, sym, subst, ◌∙◌, arith}
 use Rattle.tc_desk.specs.Desks.{DeskState, Keeps, Spends, Waits}
-use Rattle.tc_session.specs.Answers.{KeepsDesk, UsesTurns}
+use Rattle.tc_session.specs.Answers.{KeepsDesk}
 
 -- a desk that is free keeps all of itself
 pub kept_same : (d : DeskState) → d.free ≡ true → Keeps d d

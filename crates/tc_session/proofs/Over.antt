@@ -17,7 +17,7 @@ use Rattle.tc_lines.specs.declared.requests.BadLine.{BadLine}
 use Rattle.tc_lines.specs.declared.requests.LineAsk.{LineAsk}
 use Rattle.tc_lines.specs.declared.requests.LineAsk.TheVariants.{Quit}
 use Rattle.tc_lines.specs.declared.limits.TheConstants.{MOST_LINE}
-use Rattle.tc_session.specs.Sessions.{EndsBy, IsAtEnd, IsSession, Wrote, cut_text}
+use Rattle.tc_session.specs.Sessions.{EndsBy, IsAtEnd, Wrote, cut_text}
 use Rattle.tc_session.specs.SoFar.{EndIs, Finishes, IsOver, IsSoFar, IsStop, Moment, flow_at}
 use Rattle.tc_lines.specs.Replies.{error_line, reply_line}
 use Rattle.tc_session.specs.Answers.{Answers, FindsNoMemory, KeepsDesk}

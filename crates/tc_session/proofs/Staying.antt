@@ -1,10 +1,9 @@
 -- Where a line leaves the log as it was, and what turns and replies of lines add up to.
-use Rattle.std.proofs.Common.{◌≡◌, ◌⊎◌, ℕ, ◌+◌, ◌≤◌, List, [], ◌∷◌, ◌++◌, false, Option, Some, None, Result, Ok, Err, length, inl, inr, refl, sym, ap, subst, ◌∙◌, append_assoc, length-append, arith}
+use Rattle.std.proofs.Common.{◌≡◌, ◌⊎◌, ℕ, ◌+◌, ◌≤◌, List, [], ◌∷◌, ◌++◌, false, Some, None, Result, Ok, Err, length, inl, inr, refl, sym, ap, subst, ◌∙◌, append_assoc, length-append, arith}
 use Rattle.std.specs.Prelude.{slice_get, slice_index}
-use Rattle.std.proofs.lemmas.Option.{slice_get-get_or}
 use Rattle.tc_lists.proofs.Places.{slice_get_seam}
 use Rattle.tc_desk.proofs.Logs.{any_pending-none}
-use Rattle.tc_desk.specs.Desks.{DeskState, Gets, HasNoTurnLeft, IsAnsweredIf, IsPendingRow, TakesTurn, refused_log, replied}
+use Rattle.tc_desk.specs.Desks.{DeskState, Gets, HasNoTurnLeft, IsPendingRow, TakesTurn, refused_log}
 use Rattle.tc_desk.specs.Logs.{any_pending}
 use Rattle.tc_model.specs.declared.asks.Ask.{Ask}
 use Rattle.tc_desk.specs.declared.rows.LogRow.{LogRow}
@@ -12,7 +11,6 @@ use Rattle.tc_desk.specs.declared.rows.Refusal.{Refusal}
 use Rattle.tc_desk.specs.declared.rows.Refusal.TheVariants as refusal
 use Rattle.tc_desk.specs.declared.desks.Seen.TheVariants.{Answered, StillPending}
 use Rattle.tc_desk.specs.declared.desks.DeskFault.TheVariants as fault
-use Rattle.tc_model.specs.declared.outcomes.Reply.{Reply}
 use Rattle.tc_lines.specs.declared.requests.BadLine.{BadLine}
 use Rattle.tc_lines.specs.declared.requests.BadLine.TheVariants as bad
 use Rattle.tc_lines.specs.declared.requests.LineAsk.{LineAsk}

@@ -13,12 +13,13 @@ use Rattle.tc_session.specs.declared.answering.Came.{Came}
 use Rattle.tc_session.specs.declared.answering.Came.TheVariants as came
 
 -- it was answered; it asked for the end; no memory was found for it; or its reply found no room
-abbrev pub IsCame : DeskState → Result LineAsk BadLine → List ℕ → Came → List ℕ → DeskState → Type 0
+abbrev pub IsCame :
+    DeskState → Result LineAsk BadLine → List ℕ → Came → List ℕ → DeskState → Type 0
 IsCame d asked old came.GoesOn new e =
     (reply : List ℕ) × Answers d asked reply e × (new ≡ old ++ reply)
 IsCame d asked old came.Quits new e =
     (asked ≡ Ok Quit) × (e ≡ d) × (new ≡ old ++ reply_line (codes "bye"))
-IsCame d asked old came.FindsNone new e =
+IsCame d asked old came.NoMemory new e =
     FindsNoMemory d asked e × (new ≡ old ++ error_line (codes "no memory"))
 IsCame d asked old came.Unwritten new e =
     (reply : List ℕ) × Answers d asked reply e × (new ≡ old)
@@ -38,4 +39,4 @@ abbrev pub IsPushed : List ℕ → List ℕ → Came → List ℕ → Type 0
 IsPushed reply old came.GoesOn new = new ≡ old ++ reply
 IsPushed reply old came.Unwritten new = new ≡ old
 IsPushed reply old came.Quits new = ⊥
-IsPushed reply old came.FindsNone new = ⊥
+IsPushed reply old came.NoMemory new = ⊥

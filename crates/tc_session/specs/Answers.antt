@@ -22,8 +22,8 @@ use Rattle.tc_lines.specs.declared.requests.BadLine.TheVariants as bad
 
 -- what a call came to: it was served, and the reply is read off its row; or it was refused, and the
 -- reply says why
-abbrev pub AnswersCall : DeskState → List ℕ → Ask → Result Served Refusal → List ℕ → DeskState
-    → Type 0
+abbrev pub AnswersCall :
+    DeskState → List ℕ → Ask → Result Served Refusal → List ℕ → DeskState → Type 0
 AnswersCall d centre asked (Ok how) reply e =
     (made : Makes d centre asked how e) × (reply ≡ reply_line (result_text One made.result))
 AnswersCall d centre asked (Err why) reply e = (why ≢ refusal.NoMemory)
@@ -31,7 +31,8 @@ AnswersCall d centre asked (Err why) reply e = (why ≢ refusal.NoMemory)
 
 -- what a poll came to: the reply that it told, or that there is none yet; that the centre is
 -- full; or that none was made, since no call is pending or no turn is left
-abbrev pub AnswersPoll : DeskState → Result Seen DeskFault → List ℕ → DeskState → Type 0
+abbrev pub AnswersPoll :
+    DeskState → Result Seen DeskFault → List ℕ → DeskState → Type 0
 AnswersPoll d (Ok Answered) reply e = (told : Reply) × HasRowOfPoll d (Some told) e
     × (e.waits ≡ false) × (reply ≡ reply_line (reply_text told))
 AnswersPoll d (Ok StillPending) reply e =
@@ -46,7 +47,8 @@ AnswersPoll d (Err fault.NoMemory) reply e = ⊥
 
 -- what a wait came to: the reply that the pending call has got; or none, since no call is pending
 -- or no turn is left
-abbrev pub AnswersWait : DeskState → Result (Unit {0}) DeskFault → List ℕ → DeskState → Type 0
+abbrev pub AnswersWait :
+    DeskState → Result (Unit {0}) DeskFault → List ℕ → DeskState → Type 0
 AnswersWait d (Ok done) reply e =
     (got : Gets d e) × (reply ≡ reply_line (reply_text got.reply))
 AnswersWait d (Err fault.Idle) reply e =

@@ -61,7 +61,8 @@ Wrote due text sink after result = (result ≡ due) × (after.taken ≡ appended
 
 -- where the end of input was met, all that was left was read
 abbrev pub IsAtEnd : SessionEnd → SourceState → List ℕ → Type 0
-IsAtEnd end.EndOfInput source bytes = (all : List ℕ) → source.left ≡ Some all → all ≡ bytes
+IsAtEnd end.EndOfInput source bytes =
+    (all : List ℕ) → source.left ≡ Some all → all ≡ bytes
 IsAtEnd due source bytes = Unit {0}
 
 -- a session at this desk: the link before it and after it, as a source and as a sink, how it has

@@ -17,6 +17,7 @@ LogStays d (Err bad) e = Unit {0}
 
 -- at most one row is pending, and no two centres have one name
 pub record HasOneCall (d : DeskState) : Type 0 where
-  pub one : (row other : LogRow) → IsPendingRow d.log row → IsPendingRow d.log other → row ≡ other
+  pub one : (row other : LogRow)
+      → IsPendingRow d.log row → IsPendingRow d.log other → row ≡ other
   pub named : (i j : ℕ) (name : List ℕ) → slice_get d.names i ≡ Some name
       → slice_get d.names j ≡ Some name → i ≡ j

@@ -1,6 +1,7 @@
 //! One line at a desk.
-ghost use Rattle.std.specs.Prelude.{◌≡◌, ◌+◌, ◌<◌, ◌≤◌, List, [], ◌∷◌, ◌++◌, true, false, Ok, Some, IfNone, IfSome};
-ghost use Rattle.std.specs.Prelude.{IsSomeAnd, IsTrue, codes, length, slice_get, vec_len, vec_capacity};
+ghost use Rattle.std.specs.Prelude.{◌≡◌, ◌+◌, ◌<◌, ◌≤◌, List, [], ◌∷◌, ◌++◌, true, false};
+ghost use Rattle.std.specs.Prelude.{Ok, Some, IfNone, IfSome, IsSomeAnd, IsTrue, codes};
+ghost use Rattle.std.specs.Prelude.{length, slice_get, vec_len, vec_capacity};
 ghost use Rattle.tc_desk.specs.Logs.{any_pending};
 ghost use Rattle.tc_desk.specs.declared.rows.LogRow.{LogRow};
 ghost use Rattle.tc_desk.specs.declared.rows.LogResult.TheVariants.{Pending};
@@ -20,7 +21,7 @@ use tc_lists::NoMemory;
 use tc_model::Ask;
 use tc_term::Name;
 
-/// The room for a reply that is made before a line is looked at.
+/// The room, in bytes, that is made before a line is looked at. Each reply of fixed words fits in.
 pub(crate) const ROOM: usize = 32;
 
 /// What a line came to.
@@ -31,7 +32,7 @@ pub(crate) enum Came {
     /// It asked for the end.
     Quits,
     /// No memory was found for it.
-    FindsNone,
+    NoMemory,
     /// It was served, and its reply found no room.
     Unwritten,
 }
@@ -63,7 +64,7 @@ pub(crate) fn answer<R: Wait, D: Desk>(
         Err(BadLine::Syntax) => complain(b"line syntax", replies),
         Err(BadLine::Size) => complain(b"line size", replies),
         Err(BadLine::Shape) => complain(b"line shape", replies),
-        Err(BadLine::NoMemory) => find_none(replies),
+        Err(BadLine::NoMemory) => tell_no_memory(replies),
     }
 }
 
@@ -88,7 +89,7 @@ fn answer_call<R: Wait, D: Desk>(
         Ok(_) => push_last(alloc, desk.log(), replies),
         Err(why) => {
             if why == Refusal::NoMemory {
-                find_none(replies)
+                tell_no_memory(replies)
             } else {
                 push_refusal(why, replies)
             }
@@ -116,7 +117,7 @@ fn answer_poll<R: Wait, D: Desk>(rt: &R, alloc: Global, desk: &mut D, replies: &
         Err(DeskFault::Full { .. }) => complain(b"full", replies),
         Err(DeskFault::Idle) => complain(b"idle", replies),
         Err(DeskFault::TurnsSpent) => complain(b"turns spent", replies),
-        Err(DeskFault::NoMemory) => find_none(replies),
+        Err(DeskFault::NoMemory) => tell_no_memory(replies),
     }
 }
 
@@ -135,7 +136,7 @@ fn answer_wait<R: Wait, D: Desk>(rt: &R, alloc: Global, desk: &mut D, replies: &
         Ok(()) => push_answered(alloc, desk.log(), place, replies),
         Err(DeskFault::Idle) => complain(b"idle", replies),
         Err(DeskFault::TurnsSpent) => complain(b"turns spent", replies),
-        Err(DeskFault::NoMemory) => find_none(replies),
+        Err(DeskFault::NoMemory) => tell_no_memory(replies),
         Err(DeskFault::Full { .. }) => unreachable!(),
     }
 }
@@ -158,8 +159,8 @@ fn pending_place(log: &[LogRow]) -> Option<usize>
 fn is_pending_at(log: &[LogRow], place: usize) -> bool
     requires { place < length log.now }
     ensures found { IsTrue result → IsPendingPlace log.now place }
-    ensures told { (row : LogRow) → slice_get log.now place ≡ Some row → row.result ≡ Pending
-        → IsTrue result }
+    ensures told { (row : LogRow) → slice_get log.now place ≡ Some row
+        → row.result ≡ Pending → IsTrue result }
 {
     log[place].is_pending()
 }
@@ -218,11 +219,11 @@ fn complain(words: &[u8], replies: &mut Vec<u8>) -> Came
 }
 
 // Appends that no memory was found.
-fn find_none(replies: &mut Vec<u8>) -> Came
+fn tell_no_memory(replies: &mut Vec<u8>) -> Came
     requires { vec_len replies.old + ROOM ≤ vec_capacity replies.old }
-    ensures came { result ≡ Came.FindsNone }
+    ensures came { result ≡ Came.NoMemory }
     ensures text { replies.new.items ≡ replies.old.items ++ error_line (codes "no memory") }
 {
     push_error(b"no memory", replies);
-    Came::FindsNone
+    Came::NoMemory
 }

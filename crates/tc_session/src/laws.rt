@@ -12,8 +12,8 @@ ghost use Rattle.tc_session.specs.Staying.{HasOneCall, LogStays};
 /// pending call's centre; it waits, and at its end no turn is left there and the call is pending
 /// still.
 pub fn a_log_stays_in_few_cases()
-    ensures only { (d : DeskState) (asked : Result LineAsk BadLine) (reply : List ℕ) (e : DeskState)
-        → Answers d asked reply e → e.log ≡ d.log → LogStays d asked e }
+    ensures only { (d : DeskState) (asked : Result LineAsk BadLine) (reply : List ℕ)
+        (e : DeskState) → Answers d asked reply e → e.log ≡ d.log → LogStays d asked e }
     ensures always { (d : DeskState) (asked : Result LineAsk BadLine) (reply : List ℕ)
         (e : DeskState) → Answers d asked reply e → HasOneCall d → LogStays d asked e
         → e.log ≡ d.log }
@@ -36,6 +36,7 @@ pub fn turns_fall_by_lines_and_entries()
 /// What is replied to lines begins with what is replied to the first of them.
 pub fn replies_of_a_front_are_a_front()
     ensures { (d : DeskState) (raws more : List (List ℕ)) (text : List ℕ) (e : DeskState)
-        → LeadTo d (raws ++ more) text e → (mid : DeskState) × (front : List ℕ) × (rest : List ℕ)
+        → LeadTo d (raws ++ more) text e
+        → (mid : DeskState) × (front : List ℕ) × (rest : List ℕ)
         × LeadTo d raws front mid × LeadTo mid more rest e × (text ≡ front ++ rest) }
 {}

@@ -1,7 +1,6 @@
 //! The link's two halves: replies are gathered and written, and more bytes are read.
-ghost use Rattle.std.specs.Prelude.{◌≡◌, ◌+◌, ◌<◌, ◌≤◌, ℕ, List, [], Err, IfNone, IfOk, OnErr, OnOk};
-ghost use Rattle.std.specs.Prelude.{IsTrue};
-ghost use Rattle.std.specs.Prelude.{length, vec_len, vec_capacity};
+ghost use Rattle.std.specs.Prelude.{◌≡◌, ◌+◌, ◌<◌, ◌≤◌, ℕ, List, [], Err, IfNone, IfOk, OnErr};
+ghost use Rattle.std.specs.Prelude.{OnOk, IsTrue, length, vec_len, vec_capacity};
 ghost use Rattle.std.specs.Result.{IsErrOf};
 ghost use Rattle.tc_desk.specs.Desks.{DeskState};
 ghost use Rattle.tc_io.specs.Faults.{Counts};

@@ -48,8 +48,10 @@ pub fn serve_session<R: Wait, D: Desk, L: Link>(
         (L.Source.read_faults link.old) (L.Source.read_faults link.new) }
     ensures writes { Counts (result ≡ SessionEnd.WriteFault)
         (L.Sink.write_faults link.old) (L.Sink.write_faults link.new) }
-    ensures read_sure { IsTrue (L.Source.sure link.old) → result ≡ SessionEnd.ReadFault → ⊥ }
-    ensures write_sure { IsTrue (L.Sink.sure link.old) → result ≡ SessionEnd.WriteFault → ⊥ }
+    ensures read_sure { IsTrue (L.Source.sure link.old)
+        → result ≡ SessionEnd.ReadFault → ⊥ }
+    ensures write_sure { IsTrue (L.Sink.sure link.old)
+        → result ≡ SessionEnd.WriteFault → ⊥ }
 {
     let mut lines = Lines::new(alloc);
     let mut replies = Vec::new(alloc);
@@ -89,7 +91,7 @@ fn step<R: Wait, D: Desk, L: Link>(
     }
     match lines.next_request(alloc) {
         Some(asked) => serve_line(rt, alloc, desk, link, asked, replies),
-        None => more(link, lines, replies, buffer),
+        None => refill(link, lines, replies, buffer),
     }
 }
 
@@ -105,7 +107,8 @@ fn serve_line<R: Wait, D: Desk, L: Link>(
 ) -> Option<SessionEnd>
     requires free { (D.state desk.old).free ≡ true }
     requires room { vec_len replies.old + ROOM ≤ vec_capacity replies.old }
-    ensures steps { (from : Moment) (held rest : List ℕ) → BeginsWith held asked rest → IsSoFar from
+    ensures steps { (from : Moment) (held rest : List ℕ) → BeginsWith held asked rest
+        → IsSoFar from
         (moment L.Source.left L.Source.read_faults L.Source.sure L.Sink.taken L.Sink.write_faults
         L.Sink.sure link.old held replies.old.items (D.state desk.old))
         → StepsTo from result
@@ -121,7 +124,7 @@ fn serve_line<R: Wait, D: Desk, L: Link>(
     match answer(rt, alloc, desk, asked, replies) {
         Came::GoesOn => None,
         Came::Quits => Some(finish(link, replies, SessionEnd::Quit)),
-        Came::FindsNone => Some(finish(link, replies, SessionEnd::NoMemory)),
+        Came::NoMemory => Some(finish(link, replies, SessionEnd::NoMemory)),
         Came::Unwritten => Some(finish(link, replies, SessionEnd::NoMemory)),
     }
 }
@@ -148,7 +151,7 @@ fn flush_before<L: Link>(
 }
 
 // Reads more, where no whole line is held. How the session ends, if it does.
-fn more<L: Link>(
+fn refill<L: Link>(
     link: &mut L,
     lines: &mut Lines,
     replies: &mut Vec<u8>,

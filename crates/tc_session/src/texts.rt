@@ -57,6 +57,7 @@ fn push_result(alloc: Global, became: &LogResult, into: &mut Vec<u8>) -> Result<
     cut_back(written, before, into)
 }
 
+// Appends what became of an ask, or a beginning of it.
 fn write_result(alloc: Global, became: &LogResult, into: &mut Vec<u8>) -> Result<(), NoMemory>
     ensures appended { OnOk result
         (into.new.items ≡ into.old.items ++ reply_line (result_text One became.now)) }

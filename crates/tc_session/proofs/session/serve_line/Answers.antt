@@ -16,11 +16,11 @@ returns-in-Quits-clause-steps g c from held rest begins before =
     quit_over from _ c.args.asked _ _ _ rest _ _ (c.in_default.ensures.steps from held (g.D.Desk.state c.args.desk.now) before) begins came.0 came.1
     c.finish.ensures.source came.2 c.finish.ensures.finishes
 
-pub returns-in-FindsNone-clause-steps : goal.returns-in-FindsNone-clause-steps
-returns-in-FindsNone-clause-steps g c from held rest begins before =
-    let came = c.in-FindsNone.ensures.came in
+pub returns-in-NoMemory-clause-steps : goal.returns-in-NoMemory-clause-steps
+returns-in-NoMemory-clause-steps g c from held rest begins before =
+    let came = c.in-NoMemory.ensures.came in
     none_over from _ c.args.asked _ _ _ rest _ _ (c.in_default.ensures.steps from held (g.D.Desk.state c.args.desk.now) before) begins came.0 c.answer.ensures.kept
-    c.finish-in-FindsNone.ensures.source came.1 c.finish-in-FindsNone.ensures.finishes
+    c.finish-in-NoMemory.ensures.source came.1 c.finish-in-NoMemory.ensures.finishes
 
 pub returns-in-Unwritten-clause-steps : goal.returns-in-Unwritten-clause-steps
 returns-in-Unwritten-clause-steps g c from held rest begins before =

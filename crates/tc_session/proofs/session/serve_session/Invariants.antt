@@ -1,4 +1,4 @@
-use Rattle.std.proofs.Common.{◌≡◌, ◌<◌, [], true, length}
+use Rattle.std.proofs.Common.{◌≡◌, ◌<◌, [], length}
 use Rattle.tc_desk.specs.Desks.{Keeps}
 use Rattle.tc_session.specs.SoFar.{IsSoFar, moment}
 use Rattle.tc_session.proofs.session.serve_session.Given as goal

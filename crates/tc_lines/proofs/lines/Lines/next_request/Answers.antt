@@ -1,4 +1,4 @@
-use Rattle.std.proofs.Common.{◌≡◌, ◌-◌, ◌+◌, List, ℕ, refl, subst, take, drop}
+use Rattle.std.proofs.Common.{◌-◌, ◌+◌, List, ℕ, refl, subst, take, drop}
 use Rattle.tc_lines.specs.Lines.{IsBreak, IsReadAs}
 use Rattle.tc_lines.specs.Requests.{BeginsWith}
 use Rattle.tc_lines.proofs.Cuts.{line_found}

@@ -1,6 +1,6 @@
 use Rattle.std.proofs.Common.{arith}
 use Rattle.tc_session.proofs.Over.{long_over}
-use Rattle.tc_session.proofs.session.more.Goals as goal
+use Rattle.tc_session.proofs.session.refill.Goals as goal
 
 pub returns-then-count-gt-MOST_LINE : goal.returns-then-count-gt-MOST_LINE
 returns-then-count-gt-MOST_LINE g c = record {
