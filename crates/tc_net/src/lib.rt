@@ -13,7 +13,9 @@
 mod closing;
 mod door;
 mod link;
+mod telling;
 mod tries;
 
 pub use door::TcpDoor;
 pub use link::TcpLink;
+pub use telling::TellingDoor;

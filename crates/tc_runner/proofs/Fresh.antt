@@ -28,7 +28,7 @@ histories-whole (s ∷ ss) [] = let rest = histories-whole ss [] in omega (arith
 histories-whole (s ∷ ss) (x ∷ xs) = let rest = histories-whole ss xs in omega (arith, rest)
 
 -- an empty one, where no core has served anything
-histories-empty : (ss : List CentreConf) (xs : List Centre) (k : ℕ) (h : List Entry) → All (λ (x : Centre). x.history ≡ []) xs
+pub histories-empty : (ss : List CentreConf) (xs : List Centre) (k : ℕ) (h : List Entry) → All (λ (x : Centre). x.history ≡ []) xs
     → slice_get (histories_of ss xs) k ≡ Some h → h ≡ []
 histories-empty ss xs k h unserved at = All-slice_get (λ h. h ≡ []) (histories_of ss xs) k h (all-empty ss xs unserved) at
   where
@@ -39,7 +39,7 @@ histories-empty ss xs k h unserved at = All-slice_get (λ h. h ≡ []) (historie
         let P : Centre → Type 0 = λ y. y.history ≡ [] in
         All-cons (λ h. h ≡ []) x.history (histories_of ss xs) (All-head P x xs none) (all-empty ss xs (All-tail P x xs none))
 
-empty-history : (origin : Origin) → IsHistory TheFirst origin []
+pub empty-history : (origin : Origin) → IsHistory TheFirst origin []
 empty-history origin = record {
   run = EachEntry-none (IsLegal TheFirst origin) (opening origin);
   quiescent = λ r stands. absurd (omega (arith, stands.1));

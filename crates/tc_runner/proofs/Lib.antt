@@ -10,3 +10,4 @@ pub mod Sweeping
 pub mod Fresh
 pub mod Turns
 pub mod Exchanges
+pub mod Runs

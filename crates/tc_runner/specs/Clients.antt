@@ -33,7 +33,8 @@ WaitsAt scripts log None = any_pending log ≡ false
 WaitsAt scripts log (Some place) = IsWaiting scripts log place
 
 -- the client is this agent's: it knows where the agent waits, and its asker fits the log
-pub record IsClient (agent : ℕ) (scripts : List Lines) (log : List LogRow) (client : Client) : Type 0 where
+pub record IsClient (agent : ℕ) (scripts : List Lines) (log : List LogRow) (client : Client)
+    : Type 0 where
   pub agent_is : client.agent ≡ agent
   pub taken : HasTakenIn scripts log client.asker
   pub waits : WaitsAt scripts log client.waits
@@ -42,11 +43,12 @@ pub record IsClient (agent : ℕ) (scripts : List Lines) (log : List LogRow) (cl
 pub record AreClients (agents : List AgentConf) (logs : List (List LogRow)) (clients : List Client)
     : Type 0 where
   pub whole : length clients ≡ length agents
-  pub each : (k : ℕ) (a : AgentConf) (log : List LogRow) (client : Client) → slice_get agents k ≡ Some a
-      → slice_get logs k ≡ Some log → slice_get clients k ≡ Some client
+  pub each : (k : ℕ) (a : AgentConf) (log : List LogRow) (client : Client)
+      → slice_get agents k ≡ Some a → slice_get logs k ≡ Some log → slice_get clients k ≡ Some client
       → IsClient k a.scripts log client
 
--- how many steps are left at most: two for each item without a row, and one where the last row is pending
+-- how many steps are left at most: two for each item without a row, and one where the last row is
+-- pending
 abbrev pub left_of : AgentConf → List LogRow → ℕ
 left_of a log = 2 * (length (steps_of a.scripts) - length log) + (if any_pending log then 1 else 0)
 

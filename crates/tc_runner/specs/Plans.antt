@@ -9,8 +9,8 @@ use Rattle.tc_model.specs.State.{IsName}
 use Rattle.tc_policy.specs.declared.grants.Grant.{Grant}
 
 -- the names of the centres, the grants and the agents are those of the configuration
-pub record IsPlan (centres : List (List ℕ)) (roles : List Grant) (agents : List AgentConf) (c : Configuration)
-    : Type 0 where
+pub record IsPlan (centres : List (List ℕ)) (roles : List Grant) (agents : List AgentConf)
+    (c : Configuration) : Type 0 where
   pub config : IsConfig c
   pub centres_are : centres ≡ centre_names c
   pub roles_are : roles ≡ c.roles
@@ -32,4 +32,5 @@ fresh_core names s = centre_from s.name names s.budget s.tuples s.clauses
 
 -- a core for each centre; none, where there is no agent
 abbrev pub fresh_cores : List AgentConf → List CentreConf → List Centre
-fresh_cores agents centres = if length agents == 0 then [] else map (fresh_core (names_of agents)) centres
+fresh_cores agents centres =
+    if length agents == 0 then [] else map (fresh_core (names_of agents)) centres

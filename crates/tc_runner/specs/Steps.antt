@@ -16,8 +16,8 @@ use Rattle.tc_runner.specs.Cores.{AreCores, histories}
 use Rattle.tc_runner.specs.Results.{HasServed}
 
 -- the run may go on, as far as one agent is concerned: its log follows its scripts
-pub record GoesOn (c : Configuration) (agent : ℕ) (a : AgentConf) (cores : List Centre) (log : List LogRow)
-    : Type 0 where
+pub record GoesOn (c : Configuration) (agent : ℕ) (a : AgentConf) (cores : List Centre)
+    (log : List LogRow) : Type 0 where
   pub stands : slice_get c.agents agent ≡ Some a
   pub are : AreCores c cores
   pub runs : AreHistories TheFirst c (histories c cores)
@@ -57,8 +57,8 @@ Looks None old new false = new ≡ old
 Looks reply old new answered = ⊥
 
 -- less is left after the step; or else nothing has changed, and nothing is left to do now
-abbrev pub Moves : Configuration → ℕ → AgentConf → (old new : List Centre) → (log log' : List LogRow)
-    → Bool → Type 0
+abbrev pub Moves : Configuration → ℕ → AgentConf → (old new : List Centre)
+    → (log log' : List LogRow) → Bool → Type 0
 Moves c agent a old new log log' true = left_of a log' < left_of a log
 Moves c agent a old new log log' false =
     (new ≡ old) × (log' ≡ log) × IsEnded (histories c new) agent a log'

@@ -1,9 +1,9 @@
-//! Whole configurations on one thread: the centres are opened, and each agent takes a step in its turn,
-//! until all have ended or wait.
+//! Whole configurations on one thread: the centres are opened, and each agent takes a step in its
+//! turn, until all have ended or wait.
 //!
-//! A step is an ask of the agent's scripts, or a look whether the ask before has its reply by now. The
-//! logs that it begins with may be those of a run that has come so far in any way. Nothing here knows of
-//! text or of threads.
+//! A step is an ask of the agent's scripts, or a look whether the ask before has its reply by now.
+//! The logs that it begins with may be those of a run that has come so far in any way. Nothing here
+//! knows of text or of threads.
 //!
 //! ```
 //! let run = go_on(alloc, open(alloc, config)?, &NoGate)?;

@@ -14,7 +14,8 @@ use tc_desk::LogRow;
 use tc_lists::NoMemory;
 use tc_term::Name;
 
-/// A configuration whose centres are opened: the plan, a core for each centre, and a log for each agent.
+/// A configuration whose centres are opened: the plan, a core for each centre, and a log for each
+/// agent.
 #[derive(Drop)]
 pub struct Opened {
     pub plan: Plan,

@@ -1,12 +1,14 @@
 //! Plans: what is left of a configuration once its centres are opened.
+use std::alloc::Global;
 use std::marker::Model;
 use std::snapshot::Snapshot;
 use tc_config::{AgentConf, Config};
+use tc_lists::NoMemory;
 use tc_policy::Roles;
 use tc_term::Name;
 
-/// What is left of a configuration whose centres are opened: their names, the grants, and the agents with
-/// their scripts. Contracts see it as the configuration.
+/// What is left of a configuration whose centres are opened: their names, the grants, and the agents
+/// with their scripts. Contracts see it as the configuration.
 #[derive(Drop)]
 pub struct Plan {
     centres: Vec<Name>,
@@ -31,7 +33,7 @@ impl Model for Plan {
 }
 
 impl Plan {
-    ghost use Rattle.std.specs.Prelude.{◌≡◌};
+    ghost use Rattle.std.specs.Prelude.{◌≡◌, IfOk};
     ghost use Rattle.tc_config.specs.Configurations.{IsConfig, centre_names};
     ghost use Rattle.tc_runner.specs.Plans.{IsPlan};
 
@@ -67,6 +69,17 @@ impl Plan {
         ensures config { IsConfig self.now }
     {
         &self.centres
+    }
+
+    /// The same names, copied.
+    pub fn copy_centres(&self, alloc: Global) -> Result<Vec<Name>, NoMemory>
+        ensures { IfOk result (λ names. names.items ≡ centre_names self.now) }
+    {
+        let mut names = Vec::with_capacity(alloc, self.centres.len())?;
+        for name in &self.centres {
+            names.push(name.copy(alloc)?)?;
+        }
+        Ok(names)
     }
 
     /// What each role is permitted.

@@ -29,8 +29,8 @@ pub fn go_on<G: Gate>(alloc: Global, mut run: Opened, gate: &G) -> Result<Opened
 
 /// Goes on with the scripts of all agents until each has ended, or waits.
 ///
-/// The agents take a step in turn, in order, over and over, until none of them moved. The gate is passed
-/// before each ask. Where memory ends the run stops amid a step, and could go on.
+/// The agents take a step in turn, in order, over and over, until none of them moved. The gate is
+/// passed before each ask. Where memory ends the run stops amid a step, and could go on.
 pub fn finish<G: Gate>(
     alloc: Global,
     plan: &Plan,

@@ -16,7 +16,7 @@ use Rattle.tc_model.specs.declared.entries.Entry.{Entry}
 use Rattle.tc_shared.specs.Passes.{IsAtRest}
 use Rattle.tc_turn.specs.Passes.{TurnstileState, PassState}
 use Rattle.tc_site.specs.Columns.{AreClosedFrom, AreColumns, IsClosedAt, IsSeenBy}
-use Rattle.tc_site.specs.Sites.{SiteState, EndedDeskState, AllAgree, AreClosed, AreOfSite, ArePasses, AgreesSeen, HasPasses, IsEndedDesk, IsSite, histories_of, origins_of}
+use Rattle.tc_site.specs.Sites.{SiteState, EndedDeskState, AllAgree, AreClosed, AreOfSite, ArePasses, AgreesSeen, HasPasses, IsEndedDesk, IsSite, PendsBehind, core_histories, histories_of, origins_of}
 use Rattle.tc_lists.proofs.Sets.{slice_get-as_long, slice_get-map_at, slice_get-map_from}
 use Rattle.tc_lists.proofs.Zips.{AllZip-slice_get}
 use Rattle.tc_site.proofs.Taken.{closed-at, closed-origins}
@@ -98,7 +98,7 @@ module _ {W : Type 0} (s : SiteState W) (es : List (EndedDeskState W)) (columns 
   all-have site = subst (λ n. All (HasPasses n) s.centres) (sym columns-count) site.passes
 
   pub all-agree : (cores : List Centre) (logs : List (List LogRow)) → AreClosedFrom columns 0 s.centres cores → logs ≡ map (λ (e : EndedDeskState W). e.log) es
-      → AllAgree s cores logs
+      → AllAgree s.names cores logs
   all-agree cores logs closed are agent log at =
       let e = slice_get-map_from (λ (d : EndedDeskState W). d.log) es agent log (subst (λ ls. slice_get ls agent ≡ Some log) are at) in
       let column = slice_get-as_long es columns agent e.0 (columns-count ∙ sym every.whole) e.1 in
@@ -109,7 +109,18 @@ module _ {W : Type 0} (s : SiteState W) (es : List (EndedDeskState W)) (columns 
       subst (λ l. AgreesSeen s.centres s.names column.0 agent l) log_is
       (subst (λ n. AgreesSeen s.centres s.names column.0 n d.0.log) is.1
       (subst (λ (t : SiteState W). AgreesSeen t.centres t.names column.0 d.0.agent d.0.log) is.0 d.2.agrees)) in
-      agrees-left (origins_of s.centres) s.names columns s.centres cores closed agent column.0 column.1 ((passes-at agent column.0 column.1).0.wide) log agrees
+      subst (λ os. Agrees os s.names (core_histories cores) agent log) (sym (closed-origins columns 0 s.centres cores closed))
+      (agrees-left (origins_of s.centres) s.names columns s.centres cores closed agent column.0 column.1 ((passes-at agent column.0 column.1).0.wide) log agrees)
+
+  -- no row behind one that is pending was served
+  pub all-pend : (logs : List (List LogRow)) → logs ≡ map (λ (e : EndedDeskState W). e.log) es → All PendsBehind logs
+  all-pend logs are =
+      All-from_slice_get PendsBehind logs
+      (λ agent log at.
+      let e = slice_get-map_from (λ (d : EndedDeskState W). d.log) es agent log (subst (λ ls. slice_get ls agent ≡ Some log) are at) in
+      let column = slice_get-as_long es columns agent e.0 (columns-count ∙ sym every.whole) e.1 in
+      let d = AllZip-slice_get (λ (d : EndedDeskState W) (passes : List (PassState Entry Origin)). IsEndedDesk d passes) es columns agent column.0 zip column.1 in
+      subst PendsBehind (ap (λ (f : EndedDeskState W). f.log) (same_Some d.0 e.0 (sym d.1 ∙ e.1)) ∙ e.2) d.2.pends)
 
   pub are-closed : (cores : List Centre) → AreClosedFrom columns 0 s.centres cores → AreClosed s cores
   are-closed cores closed = record {

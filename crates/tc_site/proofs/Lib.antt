@@ -15,3 +15,5 @@ pub mod Pausing
 pub mod There
 pub mod Light
 pub mod Sends
+pub mod Settled
+pub mod Configured

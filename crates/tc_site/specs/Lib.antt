@@ -8,3 +8,4 @@ pub mod Looking
 pub mod Polling
 pub mod Pausing
 pub mod There
+pub mod Settling

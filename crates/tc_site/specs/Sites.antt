@@ -5,6 +5,8 @@ use Rattle.std.specs.Prelude.{length, map, Some, slice_get}
 use Rattle.tc_centre.specs.Centre.{Centre}
 use Rattle.tc_config.specs.declared.configs.AgentConf.{AgentConf}
 use Rattle.tc_desk.specs.Agreeing.{Agrees}
+use Rattle.tc_desk.specs.Logs.{is_served}
+use Rattle.tc_desk.specs.declared.rows.LogResult.TheVariants.{Pending}
 use Rattle.tc_desk.specs.declared.rows.LogRow.{LogRow}
 use Rattle.tc_model.specs.State.{Origin}
 use Rattle.tc_model.specs.declared.entries.Entry.{Entry}
@@ -84,13 +86,20 @@ abbrev pub AgreesSeen : List (TurnstileState Origin) → List (List ℕ)
 AgreesSeen centres names passes agent log =
     Agrees (origins_of centres) names (histories_of passes) agent log
 
--- the agent's passes hold no turn, and its log agrees with what they have seen
+-- no row behind one that is pending was served
+abbrev pub PendsBehind : List LogRow → Type 0
+PendsBehind log = (k j : ℕ) (row other : LogRow) → k < j → slice_get log k ≡ Some row
+    → slice_get log j ≡ Some other → row.result ≡ Pending → is_served other.result ≡ false
+
+-- the agent's passes hold no turn, its log agrees with what they have seen, and no row behind one
+-- that is pending was served
 pub record IsEndedDesk {W : Type 0} (e : EndedDeskState W) (passes : List (PassState Entry Origin))
     : Type 0 where
   pub agent_is : e.agent < length e.site.roles
   pub are : ArePasses e.agent e.site.centres passes
   pub free : All (λ (p : PassState Entry Origin). p.holds ≡ false) passes
   pub agrees : AgreesSeen e.site.centres e.site.names passes e.agent e.log
+  pub pends : PendsBehind e.log
 
 -- the roles of agents, in order
 abbrev pub roles_of : List AgentConf → List ℕ
@@ -123,12 +132,19 @@ pub record AreOfSite {W V : Type 0} (site : V → SiteState W) (agent : V → �
   pub whole : length vs ≡ length s.roles
   pub each : (k : ℕ) (v : V) → slice_get vs k ≡ Some v → (site v ≡ s) × (agent v ≡ k)
 
+-- what the cores began with, and their histories
+abbrev pub core_origins : List Centre → List Origin
+core_origins cores = map (λ (x : Centre). x.origin) cores
+
+abbrev pub core_histories : List Centre → List (List Entry)
+core_histories cores = map (λ (x : Centre). x.history) cores
+
 -- the cores that are left of a site: each begins as its centre did, and its history is at rest
 pub record AreClosed {W : Type 0} (s : SiteState W) (cores : List Centre) : Type 0 where
-  pub origins : map (λ (x : Centre). x.origin) cores ≡ origins_of s.centres
+  pub origins : core_origins cores ≡ origins_of s.centres
   pub rest : All (λ (x : Centre). IsAtRest x.origin x.history) cores
 
--- each agent's log agrees with the histories of the cores
-abbrev pub AllAgree : {W : Type 0} → SiteState W → List Centre → List (List LogRow) → Type 0
-AllAgree s cores logs = (agent : ℕ) (log : List LogRow) → slice_get logs agent ≡ Some log
-    → Agrees (origins_of s.centres) s.names (map (λ (x : Centre). x.history) cores) agent log
+-- each agent's log agrees with the histories of the cores, whose centres have these names
+abbrev pub AllAgree : List (List ℕ) → List Centre → List (List LogRow) → Type 0
+AllAgree names cores logs = (agent : ℕ) (log : List LogRow) → slice_get logs agent ≡ Some log
+    → Agrees (core_origins cores) names (core_histories cores) agent log

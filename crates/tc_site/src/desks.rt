@@ -53,14 +53,7 @@ impl<'a, W: Warden> Model for AgentDesk<'a, W> {
       held = d.held;
     } };
 
-    ghost invariant = { λ d. IsDesk (record {
-      site = d.site.now;
-      agent = d.agent;
-      passes = d.passes.items;
-      log = d.log.items;
-      pending = d.pending;
-      held = d.held;
-    }) };
+    ghost invariant = { λ d. IsDesk (view d) };
 }
 
 impl<'a, W: Warden + Drop> AgentDesk<'a, W> {

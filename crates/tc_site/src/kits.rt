@@ -50,8 +50,7 @@ impl<W: Warden> Model for EndedDesk<W> {
 
     ghost view = { λ e. record { site = e.site.value; agent = e.agent; log = e.log.items } };
 
-    ghost invariant = { λ e. IsEndedDesk
-        (record { site = e.site.value; agent = e.agent; log = e.log.items }) e.passes.items };
+    ghost invariant = { λ e. IsEndedDesk (view e) e.passes.items };
 }
 
 /// What is left of a site: the core of each centre, and the log of each agent, each in order.

@@ -12,7 +12,10 @@
 //! let served = desk.call(rt, alloc, &centre, ask);
 //! let ended = desk.end();
 //! // with all ended desks, in order:
-//! let Closed { cores, logs } = site.close(alloc, all)?;
+//! let mut closed = site.close(alloc, all)?;
+//! // a request may have been answered once its desk had ended:
+//! closed.settle(alloc, &names)?;
+//! let Closed { cores, logs } = closed;
 //! ```
 //!
 //! In reading order:
@@ -28,6 +31,7 @@
 //! | turns, looking, polling | what a call, a look or a wait, and a poll come to at a centre |
 //! | waiting | where a desk has its pending row |
 //! | closing | passes that end, and cores that are taken back |
+//! | settling | pending rows that get their replies, once a site is closed |
 #![tactic(auto)]
 
 mod closing;
@@ -37,6 +41,7 @@ mod judging;
 mod kits;
 mod looking;
 mod polling;
+mod settling;
 mod sharing;
 mod sites;
 mod turns;

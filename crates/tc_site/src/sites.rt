@@ -6,7 +6,7 @@ ghost use Rattle.tc_model.specs.Calls.{calls_of};
 ghost use Rattle.tc_site.specs.Founding.{IsFounded};
 ghost use Rattle.tc_desk.specs.Logs.{rows_of};
 ghost use Rattle.tc_site.specs.Sites.{AreClosed, AreFreshCores, AreOfSite, AllAgree, IsSiteOf};
-ghost use Rattle.tc_site.specs.Sites.{EndedDeskState, KitState};
+ghost use Rattle.tc_site.specs.Sites.{EndedDeskState, KitState, PendsBehind};
 
 use crate::closing::{Left, close_all, take_apart};
 use crate::founding::cores;
@@ -148,7 +148,8 @@ impl<W: Warden + Drop> Site<W> {
         ensures logs { IfOk result (λ closed. rows_of closed.logs.items
             ≡ map (λ (e : EndedDeskState W). e.log) ended.items) }
         ensures agree { IfOk result (λ closed.
-            AllAgree self closed.cores.items (rows_of closed.logs.items)) }
+            AllAgree self.names closed.cores.items (rows_of closed.logs.items)) }
+        ensures pend { IfOk result (λ closed. All PendsBehind (rows_of closed.logs.items)) }
         ensures others { IfOk result (λ closed. (agent : ℕ) → length self.roles ≤ agent
             → All (λ (x : Centre). calls_of agent x.history ≡ []) closed.cores.items) }
     {

@@ -1,3 +1,5 @@
 pub mod Sends
 pub mod Crossings
 pub mod Accepted
+pub mod Desks
+pub mod Outcomes

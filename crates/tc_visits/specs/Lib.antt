@@ -1,3 +1,5 @@
+pub mod Sessions
 pub mod Visits
 pub mod Serving
 pub mod Rooms
+pub mod Service

@@ -1,10 +1,10 @@
 -- Sessions that run, and such as have ended.
-use Rattle.std.specs.Prelude.{◌≡◌, ◌⊎◌, ℕ, All, Bool, List, [], ◌++◌, map, Option}
+use Rattle.std.specs.Prelude.{◌≡◌, ℕ, All, Bool, List, [], ◌++◌, map, Option}
 use Rattle.std.specs.Option.{option_map}
 use Rattle.tc_io.specs.Faults.{CountRises}
 use Rattle.tc_io.specs.Links.{Connection, connection_of}
 use Rattle.tc_policy.specs.declared.grants.Grant.{Grant}
-use Rattle.tc_site.specs.Sites.{SiteState, KitState}
+use Rattle.tc_site.specs.Sites.{SiteState, EndedDeskState, KitState}
 use Rattle.tc_visits.specs.Visits.{VisitState}
 use Rattle.tc_visits.specs.declared.serving.Serving.{Serving}
 use Rattle.tc_visits.specs.declared.serving.Serving.TheVariants.{Running, Ended}
@@ -12,6 +12,13 @@ use Rattle.tc_visits.specs.declared.serving.Serving.TheVariants.{Running, Ended}
 -- the kit of a visit's desk
 abbrev pub kit_of : VisitState → KitState (List Grant)
 kit_of v = record { site = v.site; agent = v.agent }
+
+-- the desk that a visit leaves, and the one of a kit whose agent has made no call
+abbrev pub desk_left : VisitState → EndedDeskState (List Grant)
+desk_left v = record { site = v.site; agent = v.agent; log = v.log }
+
+abbrev pub desk_unused : KitState (List Grant) → EndedDeskState (List Grant)
+desk_unused k = record { site = k.site; agent = k.agent; log = [] }
 
 -- the kits are of this site
 abbrev pub AreKitsOf : SiteState (List Grant) → List (KitState (List Grant)) → Type 0
@@ -35,7 +42,7 @@ module _ {L : Type 0} (left : L → Option (List ℕ)) (read_sure write_sure : L
   connection_in (Ended visit) = visit.connection
 
 -- each kit was served, in order, up to those that are idle: a visit's connection is the next that
--- the door has opened, and none is idle unless a call of the door has failed
+-- the door has opened; where none is idle no call of the door has failed, and else one has
 pub record AreServed
     (kits : List (KitState (List Grant))) (opened opened_after : Option (List Connection))
     (faults faults_after : ℕ) (visits : List VisitState) (idle : List (KitState (List Grant)))
@@ -43,4 +50,5 @@ pub record AreServed
   pub kits_are : map kit_of visits ++ idle ≡ kits
   pub opened_are : opened_after
       ≡ opened_all opened (map (λ (v : VisitState). v.connection) visits)
-  pub idle_fault : (idle ≡ []) ⊎ CountRises faults faults_after
+  pub all : idle ≡ [] → faults_after ≡ faults
+  pub lacking : (idle ≡ [] → ⊥) → CountRises faults faults_after

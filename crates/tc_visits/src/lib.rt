@@ -6,18 +6,18 @@
 //! connections come from, or how logs are written.
 //!
 //! ```
-//! let (site, kits) = Site::new(alloc, &config, roles)?;
-//! let served = serve_all(&rt, alloc, &site, &mut door, kits)?; // a visit for each connection
-//! for visit in served.visits {
-//!     let desk = visit.into_desk(); // to be closed with its site
-//! }
+//! let opened = open(alloc, config)?;
+//! let Service { run, all, enough } = serve(&rt, alloc, opened, &mut door)?;
+//! // run.cores have the histories, and run.logs the rows of each agent
 //! ```
 #![tactic(auto)]
 
 mod served;
+mod service;
 mod serving;
 mod visits;
 
 pub use served::{Served, serve_all};
+pub use service::{Service, serve};
 pub use tc_lists::NoMemory;
 pub use visits::Visit;

@@ -1,5 +1,5 @@
 //! Sessions at a door: one for each kit, as long as connections can be accepted.
-ghost use Rattle.std.specs.Prelude.{◌≡◌, ◌≤◌, ◌⊎◌, ◌++◌, [], length, map};
+ghost use Rattle.std.specs.Prelude.{◌≡◌, ◌≤◌, ◌++◌, [], length, map};
 ghost use Rattle.std.specs.Prelude.{vec_capacity};
 ghost use Rattle.std.specs.Prelude.{IfNone, IfSome, IsNone, IsSome, true};
 ghost use Rattle.tc_io.specs.Faults.{CountRises, Counts};
@@ -103,8 +103,9 @@ where
     ensures opened { D.opened door.new ≡ opened_all (D.opened door.old)
         (map (connection_in D.Conn.Source.left D.Conn.Source.sure D.Conn.Sink.sure)
         sessions.new.items) }
-    ensures all { (idle.new.items ≡ [])
-        ⊎ CountRises (D.door_faults door.old) (D.door_faults door.new) }
+    ensures all { idle.new.items ≡ [] → D.door_faults door.new ≡ D.door_faults door.old }
+    ensures lacking { (idle.new.items ≡ [] → ⊥)
+        → CountRises (D.door_faults door.old) (D.door_faults door.new) }
     ensures lent { D.lent door.new ≡ D.lent door.old }
 {
     let mut goes_on = true;

@@ -42,13 +42,7 @@ impl<L: Link> Model for Visit<L> {
       connection = connection_of L.Source.left L.Source.sure L.Sink.sure v.opened.value;
     } };
 
-    ghost invariant = { λ v. IsVisit ⟦<Roles as Warden>⟧.permits (record {
-      site = v.desk.site;
-      agent = v.desk.agent;
-      log = v.desk.log;
-      end = v.end;
-      connection = connection_of L.Source.left L.Source.sure L.Sink.sure v.opened.value;
-    }) };
+    ghost invariant = { λ v. IsVisit ⟦<Roles as Warden>⟧.permits (view v) };
 }
 
 impl<L: Link> Visit<L> {
@@ -64,7 +58,8 @@ impl<L: Link> Visit<L> {
 impl<L: Link + Drop> Visit<L> {
     /// The agent's desk, which has ended.
     pub fn into_desk(self) -> EndedDesk<Roles>
-        ensures { result ≡ record { site = self.site; agent = self.agent; log = self.log } }
+        ensures desk { result ≡ record { site = self.site; agent = self.agent; log = self.log } }
+        ensures visit { IsVisit ⟦<Roles as Warden>⟧.permits self }
     {
         let Visit {
             desk,

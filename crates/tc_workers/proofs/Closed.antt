@@ -1,9 +1,9 @@
 -- Cores and logs that workers have left are those of a run that may go on.
-use Rattle.std.proofs.Common.{◌≡◌, ◌∙◌, ℕ, ◌<◌, true, List, Some, All, length, map, refl, sym, subst, get_or}
+use Rattle.std.proofs.Common.{◌≡◌, ◌∙◌, ℕ, ◌<◌, true, List, Some, All, length, map, refl, sym, ap, subst, get_or}
 use Rattle.std.specs.List.{slice_get}
 use Rattle.std.proofs.lemmas.Bool.{eq-eqb}
 use Rattle.std.proofs.lemmas.List.{length-map}
-use Rattle.std.proofs.lemmas.Option.{same_Some, slice_get-get_or}
+use Rattle.std.proofs.lemmas.Option.{slice_get-get_or}
 use Rattle.tc_centre.specs.Centre.{Centre}
 use Rattle.tc_config.specs.Configurations.{Configuration, IsConfig, agent_names, centre_names}
 use Rattle.tc_config.specs.Good.{Follows, IsHistory, IsNoLook, Permits, origin_of}
@@ -20,11 +20,12 @@ use Rattle.tc_model.specs.Run.{IsFirstRun, IsLegal}
 use Rattle.tc_model.specs.State.{Origin, State}
 use Rattle.tc_model.specs.declared.entries.Entry.{Entry}
 use Rattle.tc_model.specs.declared.entries.Entry.TheVariants.{Called, Gave, Looked}
-use Rattle.tc_runner.proofs.Cores.{core-at, history-at, histories-map}
+use Rattle.tc_runner.proofs.Cores.{histories-map}
 use Rattle.tc_runner.proofs.Fresh.{histories-whole}
 use Rattle.tc_lists.proofs.Sets.{slice_get-as_long, slice_get_inside}
 use Rattle.tc_runner.specs.Cores.{AreCores, Goes, histories}
 use Rattle.tc_shared.specs.Passes.{IsAtRest}
+use Rattle.tc_site.proofs.Configured.{rest-at}
 use Rattle.tc_sched.specs.Clients.{IsOfScripts}
 use Rattle.tc_workers.proofs.Follow.{Follows-agreed, no-looks}
 
@@ -79,11 +80,8 @@ module _ (c : Configuration) (config : IsConfig c) (some : 0 < length c.agents) 
   history-is : (place : ℕ) (s : CentreConf) (history : List Entry) → slice_get c.centres place ≡ Some s → slice_get (histories c cores) place ≡ Some history
       → IsHistory TheFirst (origin_of c s) history
   history-is place s history known there =
-      let core = core-at c some cores are place s known in
-      let same : core.0.history ≡ history = same_Some core.0.history history (sym (history-at c some cores are place core.0 core.1) ∙ there) in
       let rests : IsAtRest (origin_of c s) history =
-      subst (IsAtRest (origin_of c s)) same
-      (subst (λ o. IsAtRest o core.0.history) core.2 (All-slice_get (λ (x : Centre). IsAtRest x.origin x.history) cores place core.0 rest core.1)) in
+      rest-at c config cores (are some) rest place s history known (ap (λ hs. slice_get hs place) (sym same-histories) ∙ there) in
       record {
         run = rests.run;
         quiescent = rests.quiescent;

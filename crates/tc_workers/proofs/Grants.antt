@@ -1,16 +1,11 @@
--- What grants permit, and agents at desks of whom they are asked.
-use Rattle.std.proofs.Common.{ℕ, ◌+◌, ◌*◌, List, Option}
-use Rattle.tc_model.specs.declared.asks.Primitive.{Primitive}
-use Rattle.tc_policy.specs.Places.{first_number, grant}
+-- Agents at desks of roles.
+use Rattle.std.proofs.Common.{ℕ, ◌+◌, ◌*◌, List}
 use Rattle.tc_policy.specs.declared.grants.Grant.{Grant}
 use Rattle.tc_sched.specs.Clients.{Client}
 use Rattle.tc_sched.specs.Steps.{AllWent, left_in}
 use Rattle.tc_site.specs.Desks.{AgentState, IsDecidedLog, desk_of}
 use Rattle.tc_site.specs.Sites.{SiteState}
-
--- the number of the grant that permits it, as the warden tells it
-abbrev pub permits_by : List Grant → ℕ → ℕ → Primitive → Option ℕ
-permits_by grants role place primitive = first_number (grant role place primitive) grants
+use Rattle.tc_site.proofs.Configured.{permits_by}
 
 -- an agent at its desk
 abbrev pub Member : Type 0

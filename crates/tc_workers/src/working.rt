@@ -10,7 +10,6 @@ use tc_desk::{Gate, NoGate};
 use tc_lists::NoMemory;
 use tc_runner::{Opened, Plan, go_on};
 use tc_site::{Closed, Site};
-use tc_term::Name;
 
 /// Runs the scripts of a configuration's agents, from their first asks to their ends.
 ///
@@ -52,22 +51,11 @@ fn shared<R: Threads + Wait + Sync, G: Gate + Sync>(
     ensures goes { IfOk result MayGoOn }
 {
     let Opened { plan, cores, .. } = opened;
+    let names = plan.copy_centres(alloc)?;
     let (centres, roles, agents, config) = plan.into_parts();
-    let names = copies(alloc, &centres)?;
     let (site, kits) = Site::of_cores(alloc, names, cores, &agents, roles.copy(alloc)?)?;
     let (agents, ended) = drive_all(rt, alloc, &site, kits, agents, &centres, workers, gate)?;
     let Closed { cores, logs } = site.close(alloc, ended)?;
     let plan = Plan::new(centres, roles, agents, config);
     Ok(Opened { plan, cores, logs })
-}
-
-// The same names.
-fn copies(alloc: Global, names: &[Name]) -> Result<Vec<Name>, NoMemory>
-    ensures { IfOk result (λ copies. copies.items ≡ names.now) }
-{
-    let mut copies = Vec::with_capacity(alloc, names.len())?;
-    for name in names {
-        copies.push(name.copy(alloc)?)?;
-    }
-    Ok(copies)
 }

@@ -3,7 +3,7 @@ use std::alloc::Global;
 use std::sync::Wait;
 use std::thread::Threads;
 use tc_desk::Gate;
-use tc_io::{SureSink, SureSource};
+use tc_io::{MemDoor, SureSink, SureSource};
 use tc_lists::{NoMemory, append_number};
 use tucson::tucson;
 
@@ -25,7 +25,8 @@ pub fn run<R: Threads + Wait + Sync, G: Gate + Sync>(
     let words = words(alloc, workers)?;
     let mut source = SureSource::new(configuration.to_vec(alloc)?);
     let mut sink = SureSink::new(alloc);
-    let status = tucson(rt, alloc, &words, &mut source, &mut sink, gate);
+    let mut door = MemDoor::new(alloc, Vec::new(alloc), Vec::new(alloc))?;
+    let status = tucson(rt, alloc, &words, &mut source, &mut sink, gate, &mut door);
     Ok(Ran {
         text: sink.taken().to_vec(alloc)?,
         status: status.number(),

@@ -16,7 +16,7 @@ pub fn print_row<R: Threads + Wait + Sync>(
     into: &mut Vec<u8>,
 ) -> Result<(), NoMemory> {
     let end = end_of(rt, alloc, row, &row.words)?;
-    print_end(row.name, &end, into)?;
+    print_end(row.name, &end, row.shown, into)?;
     print_others(rt, alloc, row, &end, into)
 }
 
@@ -35,7 +35,12 @@ fn print_others<R: Threads + Wait + Sync>(
         if row.part.is_same(end, &other) {
             append_listed(workers, &mut same)?;
         } else {
-            print_end(&name_with(alloc, row.name, workers)?, &other, into)?;
+            print_end(
+                &name_with(alloc, row.name, workers)?,
+                &other,
+                row.shown,
+                into,
+            )?;
         }
     }
     if same.is_empty() {
@@ -46,7 +51,7 @@ fn print_others<R: Threads + Wait + Sync>(
     into.extend_from_slice(b" workers\n\n")
 }
 
-// How the call of a row ends with these words.
+// How the call of a row ends with these words, at a door that opens no connection.
 fn end_of<R: Threads + Wait + Sync>(
     rt: &R,
     alloc: Global,
@@ -55,7 +60,8 @@ fn end_of<R: Threads + Wait + Sync>(
 ) -> Result<End, NoMemory> {
     let mut source = row.source(alloc)?;
     let mut sink = row.sink(alloc)?;
-    let status = tucson(rt, alloc, words, &mut source, &mut sink, &NoGate);
+    let mut door = row.door(alloc)?;
+    let status = tucson(rt, alloc, words, &mut source, &mut sink, &NoGate, &mut door);
     let text = sink.taken().to_vec(alloc)?;
     Ok(End { status, text })
 }

@@ -9,7 +9,7 @@ pub struct End {
     pub text: Vec<u8>,
 }
 
-/// What of an end is the same with other numbers of workers.
+/// What of an end is looked at.
 #[derive(Clone, Copy)]
 pub enum Part {
     Whole,
@@ -51,14 +51,14 @@ fn logs_of(text: &[u8]) -> &[u8] {
     text
 }
 
-/// Appends how the call of this name has ended, the text that it has written, and a line end, since
-/// that text may stop anywhere.
-pub fn print_end(name: &[u8], end: &End, into: &mut Vec<u8>) -> Result<(), NoMemory> {
+/// Appends how the call of this name has ended, so much of the text that it has written, and a line
+/// end, since that text may stop anywhere.
+pub fn print_end(name: &[u8], end: &End, shown: Part, into: &mut Vec<u8>) -> Result<(), NoMemory> {
     into.extend_from_slice(b"%% ")?;
     into.extend_from_slice(name)?;
     into.extend_from_slice(b"\nstatus ")?;
     append_number(u64::from(end.status.number()), into)?;
     into.extend_from_slice(b"\n")?;
-    into.extend_from_slice(&end.text)?;
+    into.extend_from_slice(shown.of(&end.text))?;
     into.extend_from_slice(b"\n")
 }

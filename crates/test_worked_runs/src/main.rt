@@ -12,15 +12,18 @@
 //! | `%repeat N TEXT` | here TEXT stands N times, a line each, with its number for each `#` |
 //! | `%read PIECE N` | a read gives PIECE bytes at most, and the Nth fails |
 //! | `%write PIECE N` | a write takes PIECE bytes at most, and the Nth fails |
+//! | `%link BYTES` | the door's next connection gives these bytes, in which `\n` is an LF |
+//! | `%refuse N` | the door's Nth call fails: the first one listens, and each other accepts |
+//! | `%show logs` | the logs alone are printed, for they don't depend on the order of calls |
 //!
-//! What stands before the first configuration is a comment of the table. Behind the end of a row stands
-//! with which of these numbers of workers it was the same. With one where it wasn't, how it ended is
-//! printed as an end of its own.
+//! What stands before the first configuration is a comment of the table. Behind the end of a row
+//! stands with which of these numbers of workers it was the same. With one where it wasn't, how it
+//! ended is printed as an end of its own.
 //!
-//! What the table shows beyond what is proved: that the definitions of configurations, runs and
-//! texts say what is meant, that calls end where memory is ample, and that a text, or its logs, is the
-//! same with any number of workers where it doesn't depend on the order of calls. What is written was
-//! worked out by hand, and then compared with what the program prints.
+//! What the table shows beyond what is proved: that the definitions of configurations, runs,
+//! services and texts say what is meant, that calls end where memory is ample, and that a text, or
+//! its logs, is the same with any number of workers where it doesn't depend on the order of calls.
+//! What is written was worked out by hand, and then compared with what the program prints.
 #![tactic(auto)]
 
 mod calls;

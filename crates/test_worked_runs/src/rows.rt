@@ -2,8 +2,9 @@
 use crate::ends::Part;
 use anyhow::anyhow;
 use std::alloc::Global;
-use tc_io::{MemSink, MemSource};
+use tc_io::{MemDoor, MemLink, MemSink, MemSource};
 use tc_lists::{NoMemory, append_number, read_number};
+use test_texts::append_bytes;
 
 /// The words of a call before the number of workers.
 const USUAL_WORDS: &[u8] = b" run --workers";
@@ -22,9 +23,14 @@ pub struct Row<'t> {
     /// Numbers of workers with which a part of the end is the same.
     pub others: Vec<Vec<u8>>,
     pub part: Part,
+    /// What of the text is printed.
+    pub shown: Part,
     input: Vec<u8>,
     reads: Calls,
     writes: Calls,
+    // The bytes that each connection gives, and the numbers of the door's calls that fail.
+    links: Vec<Vec<u8>>,
+    refused: Vec<u64>,
 }
 
 /// How many bytes a call moves at most, and the number, from 1, of the one that fails, if one does.
@@ -65,9 +71,12 @@ impl<'t> Row<'t> {
             words: words_with(alloc, b"1")?,
             others: Vec::new(alloc),
             part: Part::Whole,
+            shown: Part::Whole,
             input: Vec::new(alloc),
             reads: SURE,
             writes: SURE,
+            links: Vec::new(alloc),
+            refused: Vec::new(alloc),
         })
     }
 
@@ -84,11 +93,25 @@ impl<'t> Row<'t> {
             self.reads = calls_of(calls)?;
         } else if let Some(calls) = line.strip_prefix(b"%write ") {
             self.writes = calls_of(calls)?;
+        } else if let Some(bytes) = line.strip_prefix(b"%link ") {
+            self.add_link(alloc, bytes)?;
+        } else if let Some(call) = line.strip_prefix(b"%refuse ") {
+            self.refused.push(number_at(call)?.0)?;
+        } else if line == b"%show logs".as_slice() {
+            self.shown = Part::Logs;
         } else if let Some(repeated) = line.strip_prefix(b"%repeat ") {
             repeat(repeated, &mut self.input)?;
         } else {
             append_line(line, &mut self.input)?;
         }
+        Ok(())
+    }
+
+    // Puts a connection that gives these bytes behind the others.
+    fn add_link(&mut self, alloc: Global, text: &[u8]) -> anyhow::Result<()> {
+        let mut bytes = Vec::new(alloc);
+        append_bytes(text, 1, &mut bytes)?;
+        self.links.push(bytes)?;
         Ok(())
     }
 
@@ -104,6 +127,22 @@ impl<'t> Row<'t> {
         let failing = failing(alloc, self.writes)?;
         Ok(MemSink::new(alloc, self.writes.piece as usize, failing))
     }
+
+    /// The door of the connections.
+    pub fn door(&self, alloc: Global) -> Result<MemDoor, NoMemory> {
+        let mut links = Vec::with_capacity(alloc, self.links.len())?;
+        for bytes in &self.links {
+            links.push(link_of(alloc, bytes)?)?;
+        }
+        MemDoor::new(alloc, links, self.refused.clone()?)
+    }
+}
+
+// A connection that gives these bytes, and of which no call fails.
+fn link_of(alloc: Global, bytes: &[u8]) -> Result<MemLink, NoMemory> {
+    let piece = USUAL_PIECE as usize;
+    let source = MemSource::new(bytes.to_vec(alloc)?, piece, Vec::new(alloc));
+    Ok(MemLink::new(source, MemSink::new(alloc, piece, Vec::new(alloc))))
 }
 
 /// The words of a call with so many workers.

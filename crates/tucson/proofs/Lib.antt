@@ -1,6 +1,11 @@
 pub mod Endings
+pub mod Dues
+pub mod Outcomes
+pub mod Stops
+pub mod Returning
 pub mod Words
 pub mod Runs
 pub mod Histories
 pub mod Zipped
 pub mod Told
+pub mod Counted

@@ -1,80 +1,95 @@
 -- What a call reads, with which status it is to end, and what it is to write.
-use Rattle.std.specs.Prelude.{◌≡◌, ℕ, decimal, Bool, true, false, Option, Some, None, List, [], ◌∷◌, codes}
-use Rattle.tc_lists.specs.Texts.{joined}
+use Rattle.std.specs.Prelude.{◌≡◌, ℕ, ◌⊎◌, Bool, true, false}
+use Rattle.std.specs.Prelude.{Option, Some, None, List, []}
+use Rattle.tc_io.specs.Faults.{CountRises}
 use Rattle.tc_io.specs.Sources.{ReadsAll, ReadsPast}
 use Rattle.tc_model.specs.Choices.{TheFirst}
 use Rattle.tc_model.specs.declared.entries.Entry.{Entry}
 use Rattle.tc_desk.specs.Logs.{is_blocked}
-use Rattle.tc_histtext.specs.Text.{run_text}
-use Rattle.tc_histtext.specs.declared.versions.Version.TheVariants.{One}
 use Rattle.tc_desk.specs.declared.rows.LogRow.{LogRow}
-use Rattle.tc_config.specs.Configurations.{Configuration, agent_names, centre_names}
+use Rattle.tc_config.specs.Configurations.{Configuration}
 use Rattle.tc_config.specs.Good.{IsGood}
 use Rattle.tc_config.specs.Texts.{IsRefused, Spells}
 use Rattle.tc_config.specs.declared.faults.ConfigCause.{ConfigCause}
 use Rattle.tc_config.specs.declared.faults.ConfigCause.TheVariants as cause
 use Rattle.tc_config.specs.declared.limits.TheConstants.{MOST_BYTES}
+use Rattle.tc_load.specs.Workload.{load_text}
+use Rattle.tc_visits.specs.Service.{DoorState, IsServiceBy}
 use Rattle.tucson.specs.declared.command.Command.{Command}
-use Rattle.tucson.specs.declared.command.Command.TheVariants.{Run}
+use Rattle.tucson.specs.declared.command.Command.TheVariants.{Run, Load, Serve}
 use Rattle.tucson.specs.declared.status.Status.{Status}
-use Rattle.tucson.specs.declared.status.Status.TheVariants.{Ended, Refused, Blocked, Usage}
+use Rattle.tucson.specs.declared.status.Status.TheVariants.{Ended, Refused, Blocked, NoMemory}
+use Rattle.tucson.specs.declared.status.Status.TheVariants.{Usage, NetFault}
+use Rattle.tucson.specs.Texts.{load_summary, refused_text, usage_text, whole_text}
 
-abbrev pub usage_text : List ℕ
-usage_text = codes "usage: tucson run [--workers N] | verify | load N SEED | serve PORT\n"
-
--- the words of a cause
-abbrev pub config_cause_text : ConfigCause → List ℕ
-config_cause_text cause.Syntax = codes "syntax"
-config_cause_text cause.Size = codes "size"
-config_cause_text cause.Shape = codes "shape"
-config_cause_text cause.Reaction = codes "reaction"
-config_cause_text cause.UnknownCentre = codes "unknown centre"
-config_cause_text cause.UnknownRole = codes "unknown role"
-config_cause_text cause.UnknownAgent = codes "unknown agent"
-config_cause_text cause.Twice = codes "twice"
-config_cause_text cause.NotGround = codes "not ground"
-config_cause_text cause.Count = codes "count"
-config_cause_text cause.Length = codes "length"
-
--- that a configuration is refused: its first faulty clause, and why
-abbrev pub refused_text : ℕ → ConfigCause → List ℕ
-refused_text clause why =
-    joined (
-    codes "configuration refused: clause " ∷ decimal clause ∷ codes ": " ∷
-    config_cause_text why ∷ codes "\n" ∷ [])
-
--- the text is that of such histories and logs, at whose end some agent waits, or none does
-pub record IsTextOf (Are : List (List Entry) → List (List LogRow) → Type 0) (c : Configuration)
-    (waits : Bool) (text : List ℕ) : Type 0 where
+-- the text is one of such histories and logs, at whose end some agent waits, or none does
+pub record IsTextOf (Are : List (List Entry) → List (List LogRow) → Type 0)
+    (text_of : List (List Entry) → List (List LogRow) → List ℕ) (waits : Bool)
+    (text : List ℕ) : Type 0 where
   pub histories : List (List Entry)
   pub logs : List (List LogRow)
   pub are : Are histories logs
   pub end : is_blocked logs ≡ waits
-  pub is : text ≡ run_text One (centre_names c) (agent_names c) histories logs
+  pub is : text ≡ text_of histories logs
 
--- the status and the text of such histories and logs
-abbrev pub IsOutcomeOf : (List (List Entry) → List (List LogRow) → Type 0) → Configuration
-    → Status → List ℕ → Type 0
-IsOutcomeOf Are c Ended text = IsTextOf Are c false text
-IsOutcomeOf Are c Blocked text = IsTextOf Are c true text
-IsOutcomeOf Are c status text = ⊥
+-- the status of a run with such histories and logs, and a text of them
+abbrev pub IsOutcomeOf : (List (List Entry) → List (List LogRow) → Type 0)
+    → (List (List Entry) → List (List LogRow) → List ℕ) → Status → List ℕ → Type 0
+IsOutcomeOf Are text_of Ended text = IsTextOf Are text_of false text
+IsOutcomeOf Are text_of Blocked text = IsTextOf Are text_of true text
+IsOutcomeOf Are text_of status text = ⊥
+
+-- the door has failed before a connection was opened, and nothing is written
+pub record FailsToListen (door after : DoorState) (text : List ℕ) : Type 0 where
+  pub rises : CountRises door.faults after.faults
+  pub same : after.opened ≡ door.opened
+  pub nothing : text ≡ []
+
+-- the status and the text of a service of the configuration's agents: it has ended, with nobody
+-- waiting or somebody; the door has failed, at listening or before each agent had its connection;
+-- or some session has found no memory
+abbrev pub IsOutcomeOfService : DoorState → DoorState → Configuration → Status → List ℕ
+    → Type 0
+IsOutcomeOfService door after c Ended text =
+    IsTextOf (IsServiceBy door after true true c) (whole_text c) false text
+IsOutcomeOfService door after c Blocked text =
+    IsTextOf (IsServiceBy door after true true c) (whole_text c) true text
+IsOutcomeOfService door after c NetFault text =
+    FailsToListen door after text
+    ⊎ ((waits : Bool)
+    × IsTextOf (IsServiceBy door after false true c) (whole_text c) waits text)
+IsOutcomeOfService door after c NoMemory text =
+    (all : Bool) × (waits : Bool)
+    × IsTextOf (IsServiceBy door after all false c) (whole_text c) waits text
+IsOutcomeOfService door after c status text = ⊥
 
 -- the status and the text that are due for a configuration, by the command
-abbrev pub IsOutcome : Command → Configuration → Status → List ℕ → Type 0
-IsOutcome (Run workers) c = IsOutcomeOf (IsGood TheFirst c) c
+abbrev pub IsOutcome : Command → DoorState → DoorState → Configuration → Status → List ℕ
+    → Type 0
+IsOutcome (Run workers) door after c = IsOutcomeOf (IsGood TheFirst c) (whole_text c)
+IsOutcome (Load agents start) door after c =
+    IsOutcomeOf (IsGood TheFirst c) (load_summary agents start c)
+IsOutcome (Serve port) door after c = IsOutcomeOfService door after c
 
--- the status and the text are due for the configuration that the input spells
-pub record IsOutcomeFor (command : Command) (input : List ℕ) (status : Status) (text : List ℕ)
-    : Type 0 where
+-- the status and the text are due for the configuration that is spelt so
+pub record IsOutcomeFor (command : Command) (door after : DoorState) (spelt : List ℕ)
+    (status : Status) (text : List ℕ) : Type 0 where
   pub config : Configuration
-  pub spells : Spells input config
-  pub outcome : IsOutcome command config status text
+  pub spells : Spells spelt config
+  pub outcome : IsOutcome command door after config status text
 
--- what is written of an input that is refused
-pub record IsRefusal (input : List ℕ) (clause : ℕ) (why : ConfigCause) (text : List ℕ)
+-- what is written where the configuration is refused that is spelt so
+pub record IsRefusal (spelt : List ℕ) (clause : ℕ) (why : ConfigCause) (text : List ℕ)
     : Type 0 where
-  pub refused : IsRefused input clause why
+  pub refused : IsRefused spelt clause why
   pub is : text ≡ refused_text clause why
+
+-- the status and the text that are due to a command whose configuration is spelt so
+abbrev pub IsDueForText : Command → DoorState → DoorState → List ℕ → Status → List ℕ
+    → Type 0
+IsDueForText command door after spelt (Refused clause why) text = IsRefusal spelt clause why text
+IsDueForText command door after spelt status text =
+    IsOutcomeFor command door after spelt status text
 
 -- what a call reads
 pub data Input : Type 0 where
@@ -91,17 +106,28 @@ IsInput left rest TooLong = ReadsPast left rest MOST_BYTES
 -- the command reads its input
 abbrev pub ReadsInput : Command → Type 0
 ReadsInput (Run workers) = Unit {0}
+ReadsInput (Load agents start) = ⊥
+ReadsInput (Serve port) = Unit {0}
 
--- the status and the text that are due to a command for the whole input
-abbrev pub IsDueForInput : Command → List ℕ → Status → List ℕ → Type 0
-IsDueForInput (Run workers) input (Refused clause why) text = IsRefusal input clause why text
-IsDueForInput command input status text = IsOutcomeFor command input status text
+-- how the configuration of a command is spelt, by what was read: that of a workload by its own
+-- text, for which nothing is read, and every other by the whole input
+abbrev pub IsSpeltBy : Command → Input → List ℕ → Type 0
+IsSpeltBy (Run workers) (Whole input) spelt = spelt ≡ input
+IsSpeltBy (Load agents start) Unread spelt = spelt ≡ load_text agents start
+IsSpeltBy (Serve port) (Whole input) spelt = spelt ≡ input
+IsSpeltBy command input spelt = ⊥
 
--- a call for this command, or for none, and with this input is to end with this
--- status, and to write this text
-abbrev pub IsDue : Option Command → Input → Status → List ℕ → Type 0
-IsDue None Unread Usage text = text ≡ usage_text
-IsDue (Some command) (Whole input) status text = IsDueForInput command input status text
-IsDue (Some command) TooLong (Refused clause cause.Length) text =
+-- a call for this command, or for none, and with this input is to end with this status, and to
+-- write this text
+abbrev pub IsDue : Option Command → DoorState → DoorState → Input → Status → List ℕ
+    → Type 0
+IsDue None door after Unread Usage text = text ≡ usage_text
+IsDue (Some command) door after Unread status text =
+    (spelt : List ℕ) × IsSpeltBy command Unread spelt
+    × IsDueForText command door after spelt status text
+IsDue (Some command) door after (Whole input) status text =
+    (spelt : List ℕ) × IsSpeltBy command (Whole input) spelt
+    × IsDueForText command door after spelt status text
+IsDue (Some command) door after TooLong (Refused clause cause.Length) text =
     ReadsInput command × (clause ≡ 0) × (text ≡ refused_text 0 cause.Length)
-IsDue command input status text = ⊥
+IsDue command door after input status text = ⊥

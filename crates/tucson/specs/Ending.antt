@@ -5,28 +5,36 @@ use Rattle.tc_io.specs.Sources.{SourceState}
 use Rattle.tc_io.specs.Sinks.{SinkState, AppendsFront, appended}
 use Rattle.tc_config.specs.Configurations.{Configuration}
 use Rattle.tc_config.specs.Texts.{IsRefused, Spells}
+use Rattle.tc_load.specs.Workload.{load_text}
+use Rattle.tc_visits.specs.Service.{DoorState}
 use Rattle.tucson.specs.declared.command.Command.{Command}
-use Rattle.tucson.specs.declared.command.Command.TheVariants.{Run}
+use Rattle.tucson.specs.declared.command.Command.TheVariants.{Run, Load, Serve}
 use Rattle.tucson.specs.declared.status.Status.{Status}
 use Rattle.tucson.specs.declared.status.Status.TheVariants.{Ended, WriteFault, Refused, Blocked}
-use Rattle.tucson.specs.declared.status.Status.TheVariants.{ReadFault, NoMemory, Usage}
+use Rattle.tucson.specs.declared.status.Status.TheVariants.{ReadFault, NoMemory, Usage, NetFault}
 use Rattle.tucson.specs.Answer.{Input, IsInput, IsDue, ReadsInput}
 
--- a call: the command that it asks for, if it asks for one, and the source and
--- the sink as it begins and as it ends
+-- a call: the command that it asks for, if it asks for one, and the source, the sink and the door
+-- as it begins and as it ends
 pub record Call : Type 0 where
   pub command : Option Command
   pub source : SourceState
   pub source_after : SourceState
   pub sink : SinkState
   pub sink_after : SinkState
+  pub door : DoorState
+  pub door_after : DoorState
+
+-- with this input, this status and this text are due to the call
+abbrev pub IsDueTo : Call → Input → Status → List ℕ → Type 0
+IsDueTo call input status text = IsDue call.command call.door call.door_after input status text
 
 -- the input was read, this status is due, and the whole of its text was taken
 pub record EndsAsDue (call : Call) (status : Status) : Type 0 where
   pub input : Input
   pub text : List ℕ
   pub read : IsInput call.source.left call.source_after.left input
-  pub due : IsDue call.command input status text
+  pub due : IsDueTo call input status text
   pub taken : call.sink_after.taken ≡ appended call.sink.taken text
 
 -- the input was read, some status is due, and a beginning of its text was taken
@@ -35,7 +43,7 @@ pub record BreaksOff (call : Call) : Type 0 where
   pub status : Status
   pub text : List ℕ
   pub read : IsInput call.source.left call.source_after.left input
-  pub due : IsDue call.command input status text
+  pub due : IsDueTo call input status text
   pub taken : AppendsFront call.sink.taken call.sink_after.taken text
 
 -- nothing was taken
@@ -71,39 +79,65 @@ IsStopped ReadFault = Unit {0}
 IsStopped NoMemory = Unit {0}
 IsStopped status = ⊥
 
--- how a call is to end: with this status, or as a run does, whose agents have ended or wait
+-- how a call is to end: with this status, as a run does, whose agents have ended or wait, or as a
+-- service does, whose door may fail too
 pub data End : Type 0 where
   With : Status → End
   OfRun : End
+  OfService : End
 
 -- the status is of this end
 abbrev pub IsOfEnd : End → Status → Type 0
 IsOfEnd (With due) status = status ≡ due
 IsOfEnd OfRun status = (status ≡ Ended) ⊎ (status ≡ Blocked)
+IsOfEnd OfService status = (status ≡ Ended) ⊎ (status ≡ Blocked) ⊎ (status ≡ NetFault)
 
 -- the status is of this end, unless the call was stopped
 abbrev pub IsUnlessStopped : End → Status → Type 0
 IsUnlessStopped end status = IsOfEnd end status ⊎ IsStopped status
 
--- how a command is to end with this input; a line for each command and end
+-- how a command ends that has a configuration
+abbrev pub end_of : Command → End
+end_of (Run workers) = OfRun
+end_of (Load agents start) = OfRun
+end_of (Serve port) = OfService
+
+-- how a command is to end whose configuration is spelt so
 abbrev pub IsEndFor : Command → List ℕ → End → Type 0
-IsEndFor (Run workers) input OfRun = (c : Configuration) × Spells input c
-IsEndFor (Run workers) input (With (Refused clause why)) = IsRefused input clause why
-IsEndFor command input end = ⊥
+IsEndFor command spelt (With (Refused clause why)) = IsRefused spelt clause why
+IsEndFor command spelt (With status) = ⊥
+IsEndFor command spelt end = (end ≡ end_of command) × ((c : Configuration) × Spells spelt c)
 
 -- how a call is to end that asks for this command, or for none, and has this input left
 abbrev pub MustEnd : Option Command → Option (List ℕ) → End → Type 0
 MustEnd None left (With Usage) = Unit {0}
-MustEnd (Some command) (Some input) end = IsEndFor command input end
+MustEnd (Some (Run workers)) (Some input) end = IsEndFor (Run workers) input end
+MustEnd (Some (Load agents start)) left end =
+    IsEndFor (Load agents start) (load_text agents start) end
+MustEnd (Some (Serve port)) (Some input) end = IsEndFor (Serve port) input end
 MustEnd command left end = ⊥
 
+-- the door is as it was; only `serve` uses it
+abbrev pub LeavesDoor : Option Command → DoorState → DoorState → Type 0
+LeavesDoor (Some (Serve port)) door after = Unit {0}
+LeavesDoor command door after = after ≡ door
+
 -- what holds of a call that returns this status: it ends as the status says, as command and input
--- decide unless it was stopped, and each fault of reading and of writing is told
+-- decide unless it was stopped, and each fault of reading, of writing and of the door is told
 pub record Returns (call : Call) (status : Status) : Type 0 where
   pub ends : Ends call status
   pub due : (end : End) → MustEnd call.command call.source.left end → IsUnlessStopped end status
   pub reads : Counts (status ≡ ReadFault) call.source.read_faults call.source_after.read_faults
   pub writes : Counts (status ≡ WriteFault) call.sink.write_faults call.sink_after.write_faults
+  pub door : LeavesDoor call.command call.door call.door_after
+  pub nets : (status ≡ NetFault → ⊥)
+      → IsStopped status ⊎ (call.door_after.faults ≡ call.door.faults)
+
+-- a fault of writing or of reading
+abbrev pub IsFault : Status → Type 0
+IsFault WriteFault = Unit {0}
+IsFault ReadFault = Unit {0}
+IsFault status = ⊥
 
 -- a write has failed, and a beginning of the text was taken
 pub record FailsAmid (text : List ℕ) (sink sink_after : SinkState) : Type 0 where

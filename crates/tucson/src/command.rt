@@ -1,8 +1,8 @@
 //! The words of a call.
-ghost use Rattle.std.specs.Prelude.{◌∷◌, [], ℕ, map, IfNone, IfSome};
-ghost use Rattle.tucson.specs.Commands.{IsCommandOf, IsCount};
+ghost use Rattle.std.specs.Prelude.{◌∷◌, [], ◌≤◌, ℕ, codes, map, IfNone, IfSome};
+ghost use Rattle.tucson.specs.Commands.{IsCommandOf, IsNumber};
 
-use crate::limits::{MOST_WORKERS, USUAL_WORKERS};
+use crate::limits::{MOST_AGENTS, MOST_PORT, MOST_START, MOST_WORKERS, USUAL_WORKERS};
 use tc_lists::read_number;
 
 /// What a call is to do.
@@ -10,15 +10,20 @@ use tc_lists::read_number;
 pub enum Command {
     /// To run a configuration: the agents are dealt out to so many workers, from 1 to 64.
     Run { workers: usize },
+    /// To run the workload of so many agents, from 1 to 1,000, from this start of its generator.
+    Load { agents: u32, start: u64 },
+    /// To serve the agents of a configuration over the connections to this port, from 1.
+    Serve { port: u16 },
 }
 
-/// The command that the words ask for: `run`, or `run --workers N`.
+/// The command that the words ask for: `run`, `run --workers N`, `load N SEED` or `serve PORT`.
 pub fn command_of(words: &[Vec<u8>]) -> Option<Command>
     ensures { IsCommandOf (map (λ w. w.items) words.now) result }
 {
     match words {
         [run] => of_one(run),
-        [run, option, count] => of_three(run, option, count),
+        [serve, port] => of_two(serve, port),
+        [name, first, second] => of_three(name, first, second),
         _ => None,
     }
 }
@@ -35,31 +40,67 @@ fn of_one(run: &[u8]) -> Option<Command>
     })
 }
 
-// The command that three words ask for.
-fn of_three(run: &[u8], option: &[u8], count: &[u8]) -> Option<Command>
-    ensures { IsCommandOf (run.now ∷ option.now ∷ count.now ∷ []) result }
+// The command that two words ask for.
+fn of_two(serve: &[u8], port: &[u8]) -> Option<Command>
+    ensures { IsCommandOf (serve.now ∷ port.now ∷ []) result }
 {
-    if run != b"run".as_slice() {
+    if serve != b"serve".as_slice() {
         return None;
     }
+    let port = number_of(port, 1, MOST_PORT)?;
+    Some(Command::Serve { port: port as u16 })
+}
+
+// The command that three words ask for.
+fn of_three(name: &[u8], first: &[u8], second: &[u8]) -> Option<Command>
+    ensures { IsCommandOf (name.now ∷ first.now ∷ second.now ∷ []) result }
+{
+    if name == b"run".as_slice() {
+        return run_of(first, second);
+    }
+    if name == b"load".as_slice() {
+        return load_of(first, second);
+    }
+    None
+}
+
+// The command that two words behind `run` ask for.
+fn run_of(option: &[u8], count: &[u8]) -> Option<Command>
+    ensures { IsCommandOf (codes "run" ∷ option.now ∷ count.now ∷ []) result }
+{
     if option != b"--workers".as_slice() {
         return None;
     }
-    let workers = count_of(count)?;
-    Some(Command::Run { workers })
+    let workers = number_of(count, 1, MOST_WORKERS)?;
+    Some(Command::Run {
+        workers: workers as usize,
+    })
 }
 
-// The number of workers that a word tells.
-fn count_of(word: &[u8]) -> Option<usize>
-    ensures some { IfSome result (IsCount word.now) }
-    ensures none { IfNone result ((workers : ℕ) → IsCount word.now workers → ⊥) }
+// The command that two words behind `load` ask for.
+fn load_of(count: &[u8], seed: &[u8]) -> Option<Command>
+    ensures { IsCommandOf (codes "load" ∷ count.now ∷ seed.now ∷ []) result }
 {
-    let (count, rest) = read_number(word, MOST_WORKERS)?;
-    if count == 0 {
+    let agents = number_of(count, 1, MOST_AGENTS)?;
+    let start = number_of(seed, 0, MOST_START)?;
+    Some(Command::Load {
+        agents: agents as u32,
+        start,
+    })
+}
+
+// The number from this least to this most that a word tells.
+fn number_of(word: &[u8], least: u64, most: u64) -> Option<u64>
+    requires { 9 ≤ most }
+    ensures some { IfSome result (IsNumber word.now least most) }
+    ensures none { IfNone result ((n : ℕ) → IsNumber word.now least most n → ⊥) }
+{
+    let (number, rest) = read_number(word, most)?;
+    if number < least {
         return None;
     }
     if !rest.is_empty() {
         return None;
     }
-    Some(count as usize)
+    Some(number)
 }

@@ -5,3 +5,12 @@ pub const USUAL_WORKERS: usize = 4;
 
 /// The most workers that words may tell.
 pub const MOST_WORKERS: u64 = 64;
+
+/// The most agents of a workload.
+pub const MOST_AGENTS: u64 = 1_000;
+
+/// The greatest start of a workload's generator.
+pub const MOST_START: u64 = 18_446_744_073_709_551_615;
+
+/// The greatest port.
+pub const MOST_PORT: u64 = 65_535;

@@ -20,6 +20,8 @@ pub enum Status {
     NoMemory,
     /// The words aren't those of a command.
     Usage,
+    /// The port can't be listened at, or some agent's connection can't be accepted.
+    NetFault,
 }
 
 impl Status {
@@ -35,6 +37,7 @@ impl Status {
             Status::ReadFault => 5,
             Status::NoMemory => 6,
             Status::Usage => 7,
+            Status::NetFault => 8,
         }
     }
 }

@@ -7,14 +7,15 @@ ghost use Rattle.tc_io.specs.Sinks.{sink_of};
 ghost use Rattle.tc_config.specs.Configurations.{agent_names, centre_names};
 ghost use Rattle.tc_config.specs.Good.{IsGood};
 ghost use Rattle.tc_desk.specs.Logs.{is_blocked, rows_of};
-ghost use Rattle.tc_histtext.specs.Text.{histories_text, logs_text, run_text};
+ghost use Rattle.tc_histtext.specs.Text.{histories_text, logs_text};
 ghost use Rattle.tc_histtext.specs.declared.versions.Version.TheVariants.{One};
 ghost use Rattle.tc_runner.specs.Cores.{AreCores, histories};
-ghost use Rattle.tc_runner.specs.Runs.{IsGoodRun, MayGoOn};
+ghost use Rattle.tc_runner.specs.Runs.{HasCores, IsGoodRun};
 ghost use Rattle.tc_io.specs.Flow.{HandsOn, flow};
 ghost use Rattle.tucson.specs.Answer.{IsOutcomeOf};
-ghost use Rattle.tucson.specs.Ending.{IsStopped, IsUnlessStopped, OfRun, With, WritesDue, Writes};
+ghost use Rattle.tucson.specs.Ending.{IsFault, WritesDue, Writes};
 ghost use Rattle.tucson.specs.Status.{status_of_run};
+ghost use Rattle.tucson.specs.Texts.{whole_text};
 
 use crate::status::Status;
 use std::alloc::Global;
@@ -28,12 +29,11 @@ use tc_writing::{write_end, write_history, write_log, write_version};
 
 /// Writes a text. What stops the writing comes in place of the status.
 pub fn written<K: Sink>(status: Status, text: &[u8], sink: &mut K) -> Status
-    requires { IsStopped status → ⊥ }
+    requires { IsFault status → ⊥ }
     ensures wrote { Writes status text.now (sink_of K.taken K.write_faults K.sure sink.old)
         (sink_of K.taken K.write_faults K.sure sink.new) result }
     ensures writes { Counts (result ≡ Status.WriteFault)
         (K.write_faults sink.old) (K.write_faults sink.new) }
-    ensures unless { IsUnlessStopped (With status) result }
     ensures reads { result ≡ Status.ReadFault → ⊥ }
 {
     match write_all(sink, text) {
@@ -46,32 +46,54 @@ pub fn written<K: Sink>(status: Status, text: &[u8], sink: &mut K) -> Status
 /// Writes the histories and the logs of a run that has come to its end.
 pub fn write_run<K: Sink>(alloc: Global, run: &Opened, sink: &mut K) -> Status
     requires good { IsGoodRun run.now }
-    requires goes { MayGoOn run.now }
-    ensures tells { WritesDue (IsOutcomeOf (IsGood TheFirst run.now.plan) run.now.plan)
+    requires cores { HasCores run.now }
+    ensures tells { WritesDue
+        (IsOutcomeOf (IsGood TheFirst run.now.plan) (whole_text run.now.plan))
         (sink_of K.taken K.write_faults K.sure sink.old)
         (sink_of K.taken K.write_faults K.sure sink.new) result }
     ensures writes { Counts (result ≡ Status.WriteFault)
         (K.write_faults sink.old) (K.write_faults sink.new) }
     ensures reads { result ≡ Status.ReadFault → ⊥ }
-    ensures runs { IsUnlessStopped OfRun result }
 {
     let blocked = is_blocked(&run.logs);
-    let mut kept = Vec::new(alloc);
-    match write_text(alloc, run, blocked, sink, &mut kept) {
-        Ok(()) => ended(blocked),
-        Err(SinkFault::Failed) => Status::WriteFault,
-        Err(SinkFault::NoMemory) => Status::NoMemory,
-    }
+    write_whole(alloc, status_of_run(blocked), run, blocked, sink)
 }
 
-// The status of a run.
-fn ended(blocked: bool) -> Status
+/// The status of a run.
+pub fn status_of_run(blocked: bool) -> Status
     ensures { result ≡ status_of_run blocked }
 {
     if blocked {
         Status::Blocked
     } else {
         Status::Ended
+    }
+}
+
+/// Writes histories and logs. What stops the writing comes in place of the status.
+pub fn write_whole<K: Sink>(
+    alloc: Global,
+    status: Status,
+    run: &Opened,
+    blocked: bool,
+    sink: &mut K,
+) -> Status
+    requires status { IsFault status → ⊥ }
+    requires cores { HasCores run.now }
+    requires blocked { blocked ≡ is_blocked (rows_of run.now.logs.items) }
+    ensures wrote { Writes status (whole_text run.now.plan
+        (histories run.now.plan run.now.cores.items) (rows_of run.now.logs.items))
+        (sink_of K.taken K.write_faults K.sure sink.old)
+        (sink_of K.taken K.write_faults K.sure sink.new) result }
+    ensures writes { Counts (result ≡ Status.WriteFault)
+        (K.write_faults sink.old) (K.write_faults sink.new) }
+    ensures reads { result ≡ Status.ReadFault → ⊥ }
+{
+    let mut kept = Vec::new(alloc);
+    match write_text(alloc, run, blocked, sink, &mut kept) {
+        Ok(()) => status,
+        Err(SinkFault::Failed) => Status::WriteFault,
+        Err(SinkFault::NoMemory) => Status::NoMemory,
     }
 }
 
@@ -84,8 +106,8 @@ fn write_text<K: Sink>(
     kept: &mut Vec<u8>,
 ) -> Result<(), SinkFault>
     requires blocked { blocked ≡ is_blocked (rows_of run.now.logs.items) }
-    requires goes { MayGoOn run.now }
-    ensures hands { HandsOn (run_text One (centre_names run.now.plan) (agent_names run.now.plan)
+    requires cores { HasCores run.now }
+    ensures hands { HandsOn (whole_text run.now.plan
         (histories run.now.plan run.now.cores.items) (rows_of run.now.logs.items))
         (flow K.taken K.write_faults K.sure sink.old kept.old.items)
         (flow K.taken K.write_faults K.sure sink.new kept.new.items) result }
@@ -97,8 +119,8 @@ fn write_text<K: Sink>(
     write_end(blocked, sink, kept)
 }
 
-// Whether some agent's ask is pending.
-fn is_blocked(logs: &[Vec<LogRow>]) -> bool
+/// Whether some agent's ask is pending.
+pub fn is_blocked(logs: &[Vec<LogRow>]) -> bool
     ensures { result ≡ is_blocked (rows_of logs.now) }
 {
     for log in logs {

@@ -1,6 +1,6 @@
-//! The program: the top call over standard input and standard output.
+//! The program: the top call over standard input, standard output and connections over TCP.
 //!
-//! What the process is connected to is trusted.
+//! What the process is connected to is trusted. On standard error the door tells what it does.
 #![tactic(auto)]
 
 use std::env;
@@ -10,13 +10,18 @@ use std::rt::Env;
 use tc_desk::NoGate;
 use tc_io::{StdSink, StdSource};
 use tc_lists::NoMemory;
+use tc_net::{TcpDoor, TellingDoor};
 use tucson::{Status, tucson};
 
 fn main(rt: HostRuntime) -> ExitCode {
     let mut source = StdSource::new(rt.stdin());
     let mut sink = StdSink::new(rt.stdout());
+    let mut door = TellingDoor::new(TcpDoor::new(&rt), rt.stderr());
     let status = match words(&rt) {
-        Ok(words) => tucson(&rt, rt.alloc(), &words, &mut source, &mut sink, &NoGate),
+        Ok(words) => {
+            let alloc = rt.alloc();
+            tucson(&rt, alloc, &words, &mut source, &mut sink, &NoGate, &mut door)
+        }
         Err(_) => Status::NoMemory,
     };
     ExitCode::from(status.number())

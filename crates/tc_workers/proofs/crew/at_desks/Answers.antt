@@ -5,7 +5,7 @@ use Rattle.tc_sched.specs.Clients.{Client}
 use Rattle.tc_site.specs.Desks.{AgentState, IsNewDesk, IsDecidedLog, desk_of}
 use Rattle.tc_site.specs.Sites.{KitState}
 use Rattle.tc_workers.specs.Crews.{IsAtDesk, bare}
-use Rattle.tc_workers.proofs.Grants.{permits_by}
+use Rattle.tc_site.proofs.Configured.{permits_by}
 use Rattle.tc_workers.proofs.Seating.{Seating, next-within, seated, seated-agents, seating-more, within}
 use Rattle.tc_workers.proofs.crew.at_desks.Goals as goal
 

@@ -1,5 +1,5 @@
 use Rattle.tc_workers.proofs.Seating.{Seating}
-use Rattle.tc_workers.proofs.Grants.{permits_by}
+use Rattle.tc_site.proofs.Configured.{permits_by}
 use Rattle.tc_workers.proofs.crew.at_desks.Given as goal
 
 abbrev pub invariant-loop-kit : goal.invariant-loop-kit

@@ -7,7 +7,8 @@ use Rattle.tc_lists.proofs.Results.{IfOk-both}
 use Rattle.tc_sched.specs.Steps.{IsReady, left_in}
 use Rattle.tc_site.specs.Desks.{desk_of}
 use Rattle.tc_workers.specs.Crews.{AreLeft, HasRows, bare, ended_of, given_back}
-use Rattle.tc_workers.proofs.Grants.{Driven, Member, permits_by}
+use Rattle.tc_site.proofs.Configured.{permits_by}
+use Rattle.tc_workers.proofs.Grants.{Driven, Member}
 use Rattle.tc_workers.proofs.Driven.{driven-agents, driven-free, driven-left, driven-whole, ready}
 use Rattle.tc_workers.proofs.Sends.{roles_desk_send}
 use Rattle.tc_workers.proofs.crew.drive_all.Goals as goal

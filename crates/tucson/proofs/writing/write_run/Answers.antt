@@ -1,35 +1,28 @@
-use Rattle.std.proofs.Common.{◌≡◌, ◌∙◌, Err, ap}
+use Rattle.std.proofs.Common.{◌≡◌, ◌∙◌, ap, subst}
 use Rattle.tc_config.specs.Good.{IsGood}
 use Rattle.tc_desk.specs.Logs.{is_blocked, rows_of}
+use Rattle.tc_io.specs.Sinks.{sink_of}
 use Rattle.tc_model.specs.Choices.{TheFirst}
 use Rattle.tc_runner.specs.Cores.{histories}
-use Rattle.tucson.proofs.Told.{told_failed, told_memory, told_whole}
-use Rattle.tc_io.specs.Sinks.{sink_of}
+use Rattle.tucson.specs.Answer.{IsOutcomeOf}
+use Rattle.tucson.specs.Ending.{Writes}
 use Rattle.tucson.specs.Status.{status_of_run}
+use Rattle.tucson.specs.Texts.{whole_text}
+use Rattle.tucson.specs.declared.status.Status.{Status}
+use Rattle.tucson.proofs.Outcomes.{due_written, run_outcome, text_of_these}
 use Rattle.tucson.proofs.writing.write_run.Goals as goal
-
-pub returns-in-Ok-clause-tells : goal.returns-in-Ok-clause-tells
-returns-in-Ok-clause-tells g c =
-    let run = c.args.run.now in
-    let blocked : c.is_blocked-blocked.result ≡ is_blocked (rows_of run.logs.items) =
-    c.is_blocked-blocked.ensures ∙ ap (λ logs. is_blocked (rows_of logs)) c.deref.ensures.value in
-    told_whole (IsGood TheFirst run.plan) run.plan (histories run.plan run.cores.items) (rows_of run.logs.items) c.requires.good
-    (sink_of g.K.Sink.taken g.K.Sink.write_faults g.K.Sink.sure c.args.sink.now)
-    (sink_of g.K.Sink.taken g.K.Sink.write_faults g.K.Sink.sure c.write_text.new.sink) c.new-kept.result.items c.write_text.new.kept.items
-    c.ended.result c.write_text.result (c.ended.ensures ∙ ap status_of_run blocked) c.new-kept.ensures.items c.in-Ok.ensures.empty c.in-Ok.is c.write_text.ensures.hands
-
-pub returns-in-Err-Failed-clause-tells : goal.returns-in-Err-Failed-clause-tells
-returns-in-Err-Failed-clause-tells g c =
-    let run = c.args.run.now in
-    told_failed (IsGood TheFirst run.plan) run.plan (histories run.plan run.cores.items) (rows_of run.logs.items) c.requires.good
-    (sink_of g.K.Sink.taken g.K.Sink.write_faults g.K.Sink.sure c.args.sink.now)
-    (sink_of g.K.Sink.taken g.K.Sink.write_faults g.K.Sink.sure c.write_text.new.sink) c.new-kept.result.items c.write_text.new.kept.items
-    c.write_text.result c.new-kept.ensures.items (c.in-Err-Failed.is ∙ ap Err c.in-Err-Failed.field-0-is) c.write_text.ensures.hands
 
 pub returns-clause-tells : goal.returns-clause-tells
 returns-clause-tells g c =
     let run = c.args.run.now in
-    told_memory (IsGood TheFirst run.plan) run.plan (histories run.plan run.cores.items) (rows_of run.logs.items) c.requires.good
-    (sink_of g.K.Sink.taken g.K.Sink.write_faults g.K.Sink.sure c.args.sink.now)
-    (sink_of g.K.Sink.taken g.K.Sink.write_faults g.K.Sink.sure c.write_text.new.sink) c.new-kept.result.items c.write_text.new.kept.items
-    c.write_text.result c.new-kept.ensures.items (c.in-Err-NoMemory.is ∙ ap Err c.in-Err-NoMemory.field-0-is) c.write_text.ensures.hands
+    let logs = rows_of run.logs.items in
+    let text = whole_text run.plan (histories run.plan run.cores.items) logs in
+    let old = sink_of g.K.Sink.taken g.K.Sink.write_faults g.K.Sink.sure c.args.sink.now in
+    let new = sink_of g.K.Sink.taken g.K.Sink.write_faults g.K.Sink.sure c.write_whole.new.sink in
+    let blocked : c.is_blocked-blocked.result ≡ is_blocked logs =
+    c.is_blocked-blocked.ensures ∙ ap (λ ls. is_blocked (rows_of ls)) c.deref.ensures.value in
+    let status : c.status_of_run.result ≡ status_of_run (is_blocked logs) = c.status_of_run.ensures ∙ ap status_of_run blocked in
+    due_written (IsOutcomeOf (IsGood TheFirst run.plan) (whole_text run.plan)) (status_of_run (is_blocked logs)) text old new c.write_whole.result
+    (run_outcome (IsGood TheFirst run.plan) (whole_text run.plan) (is_blocked logs) text
+    (text_of_these (IsGood TheFirst run.plan) (whole_text run.plan) (histories run.plan run.cores.items) logs c.requires.good))
+    (subst (λ (st : Status). Writes st text old new c.write_whole.result) status c.write_whole.ensures.wrote)

@@ -7,7 +7,7 @@ use Rattle.tc_turn.specs.Passes.{PassState}
 use Rattle.tc_site.specs.Columns.{AreClosedFrom, AreColumns, columns_of}
 use Rattle.tc_desk.specs.Logs.{rows_of}
 use Rattle.tc_site.specs.Sites.{SiteState, HasPasses, IsSite}
-use Rattle.tc_site.proofs.Agreed.{all-agree, all-have, are-closed, are-columns, others-none}
+use Rattle.tc_site.proofs.Agreed.{all-agree, all-have, all-pend, are-closed, are-columns, others-none}
 use Rattle.tc_site.proofs.sites.Site.close.Goals as goal
 
 pub close_all-requires-clause-whole : goal.close_all-requires-clause-whole
@@ -43,6 +43,11 @@ returns-clause-agree g c =
     subst (λ ts. AreClosedFrom columns 0 ts c.in_ok-cores.cores.items) (ap (λ (t : SiteState g.row.W.Denot). t.centres) c.self.view_is) c.in_ok-cores.ensures in
     all-agree s c.args.ended.items columns c.requires.all c.in_ok-columns.ensures.columns c.in_ok-cores.cores.items
     (rows_of c.in_ok-columns.field-0.logs.items) closed c.in_ok-columns.ensures.logs
+
+pub returns-clause-pend : goal.returns-clause-pend
+returns-clause-pend g c =
+    all-pend c.args.self c.args.ended.items (columns_of c.in_ok-columns.field-0.columns.items) c.requires.all c.in_ok-columns.ensures.columns
+    (rows_of c.in_ok-columns.field-0.logs.items) c.in_ok-columns.ensures.logs
 
 pub returns-clause-others : goal.returns-clause-others
 returns-clause-others g c = λ agent past.

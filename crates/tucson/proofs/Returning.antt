@@ -1,0 +1,202 @@
+-- How a call of a command returns, from what it found of its configuration and what it wrote.
+use Rattle.std.proofs.Common.{◌≡◌, ℕ, List, Option, Some, None, false, refl, sym, ap, subst, inl, inr}
+use Rattle.tc_config.specs.Configurations.{Configuration}
+use Rattle.tc_config.specs.Texts.{Spells}
+use Rattle.tc_config.specs.declared.faults.ConfigCause.{ConfigCause}
+use Rattle.tc_config.specs.declared.faults.ConfigCause.TheVariants as cause
+use Rattle.tc_io.specs.Faults.{CountRises, Counts}
+use Rattle.tc_io.specs.Sinks.{SinkState}
+use Rattle.tc_io.specs.Sources.{SourceState}
+use Rattle.tc_load.specs.Workload.{load_text}
+use Rattle.tc_visits.specs.Service.{DoorState}
+use Rattle.tucson.specs.declared.command.Command.{Command}
+use Rattle.tucson.specs.declared.command.Command.TheVariants.{Run, Load, Serve}
+use Rattle.tucson.specs.declared.reading.Stop.{Stop}
+use Rattle.tucson.specs.declared.reading.Stop.TheVariants as stop
+use Rattle.tucson.specs.declared.status.Status.{Status}
+use Rattle.tucson.specs.declared.status.Status.TheVariants.{Ended, WriteFault, Refused, Blocked, ReadFault, NoMemory, Usage, NetFault}
+use Rattle.tucson.specs.Answer.{Input, Unread, Whole, TooLong, IsDue, IsDueForText, IsInput, IsOutcome, IsSpeltBy, ReadsInput}
+use Rattle.tucson.specs.Ending.{Call, Ends, LeavesDoor, Returns, WritesDue, Writes}
+use Rattle.tucson.specs.Reading.{IsRefusedInput, IsStopFor, StopsReading, TellsStop}
+use Rattle.tucson.specs.Texts.{refused_text}
+use Rattle.tucson.proofs.Dues.{ends_as_due}
+use Rattle.tucson.proofs.Endings.{Ends-told, Ends-written}
+use Rattle.tucson.proofs.Outcomes.{Nets}
+
+-- a call of a command, or of none
+abbrev pub called : Option Command → SourceState → SourceState → SinkState → SinkState → DoorState → DoorState → Call
+called command source source_after sink sink_after door door_after = record {
+  command = command;
+  source = source;
+  source_after = source_after;
+  sink = sink;
+  sink_after = sink_after;
+  door = door;
+  door_after = door_after;
+}
+
+pub leaves : (command : Option Command) (door : DoorState) → LeavesDoor command door door
+leaves None door = refl
+leaves (Some (Run workers)) door = refl
+leaves (Some (Load agents start)) door = refl
+leaves (Some (Serve port)) door = tt
+
+-- a refused configuration has no outcome
+no_refusal : (command : Command) (door after : DoorState) (c : Configuration) (clause : ℕ) (why : ConfigCause) (text : List ℕ)
+    → IsOutcome command door after c (Refused clause why) text → ⊥
+no_refusal (Run workers) door after c clause why text is = is
+no_refusal (Load agents start) door after c clause why text is = is
+no_refusal (Serve port) door after c clause why text is = is
+
+-- the outcome of a configuration is due for what spells it
+outcome_due : (command : Command) (door after : DoorState) (spelt : List ℕ) (c : Configuration) → Spells spelt c
+    → (status : Status) (text : List ℕ) → IsOutcome command door after c status text → IsDueForText command door after spelt status text
+outcome_due command door after spelt c spells (Refused clause why) text is = absurd (no_refusal command door after c clause why text is)
+outcome_due command door after spelt c spells Ended text is = record { config = c; spells = spells; outcome = is }
+outcome_due command door after spelt c spells Blocked text is = record { config = c; spells = spells; outcome = is }
+outcome_due command door after spelt c spells WriteFault text is = record { config = c; spells = spells; outcome = is }
+outcome_due command door after spelt c spells ReadFault text is = record { config = c; spells = spells; outcome = is }
+outcome_due command door after spelt c spells NoMemory text is = record { config = c; spells = spells; outcome = is }
+outcome_due command door after spelt c spells Usage text is = record { config = c; spells = spells; outcome = is }
+outcome_due command door after spelt c spells NetFault text is = record { config = c; spells = spells; outcome = is }
+
+never_long : (command : Command) (spelt : List ℕ) → IsSpeltBy command TooLong spelt → ⊥
+never_long (Run workers) spelt by = by
+never_long (Load agents start) spelt by = by
+never_long (Serve port) spelt by = by
+
+text_due : (command : Command) (door after : DoorState) (input : Input) (spelt : List ℕ) → IsSpeltBy command input spelt
+    → (status : Status) (text : List ℕ) → IsDueForText command door after spelt status text → IsDue (Some command) door after input status text
+text_due command door after Unread spelt by status text due = (spelt, by, due)
+text_due command door after (Whole input) spelt by status text due = (spelt, by, due)
+text_due command door after TooLong spelt by status text due = absurd (never_long command spelt by)
+
+whole_spells : (command : Command) (input : List ℕ) → ReadsInput command → IsSpeltBy command (Whole input) input
+whole_spells (Run workers) input reads = refl
+whole_spells (Load agents start) input reads = absurd reads
+whole_spells (Serve port) input reads = refl
+
+-- a refusal is due for the input that is refused
+refusal_due : (command : Command) (door after : DoorState) (input : Input) (clause : ℕ) (why : ConfigCause) → ReadsInput command
+    → IsRefusedInput input clause why → IsDue (Some command) door after input (Refused clause why) (refused_text clause why)
+refusal_due command door after Unread clause why reads refused = absurd refused
+refusal_due command door after (Whole input) clause why reads refused =
+    (input, whole_spells command input reads, record { refused = refused; is = refl })
+refusal_due command door after TooLong clause cause.Length reads refused = (reads, refused.0, ap (λ n. refused_text n cause.Length) refused.0)
+refusal_due command door after TooLong clause cause.Syntax reads refused = absurd (cc)
+refusal_due command door after TooLong clause cause.Size reads refused = absurd (cc)
+refusal_due command door after TooLong clause cause.Shape reads refused = absurd (cc)
+refusal_due command door after TooLong clause cause.Reaction reads refused = absurd (cc)
+refusal_due command door after TooLong clause cause.UnknownCentre reads refused = absurd (cc)
+refusal_due command door after TooLong clause cause.UnknownRole reads refused = absurd (cc)
+refusal_due command door after TooLong clause cause.UnknownAgent reads refused = absurd (cc)
+refusal_due command door after TooLong clause cause.Twice reads refused = absurd (cc)
+refusal_due command door after TooLong clause cause.NotGround reads refused = absurd (cc)
+refusal_due command door after TooLong clause cause.Count reads refused = absurd (cc)
+
+-- why a command has no configuration
+abbrev pub StopsCommand : Command → SourceState → SourceState → Stop → Type 0
+StopsCommand command source after (stop.Refused clause why) =
+    (input : Input) × IsInput source.left after.left input
+    × ((door : DoorState) (door_after : DoorState) → IsDue (Some command) door door_after input (Refused clause why) (refused_text clause why))
+StopsCommand command source after stop.ReadFault =
+    ReadsInput command × (source.sure ≡ false) × CountRises source.read_faults after.read_faults
+StopsCommand command source after stop.NoMemory = Unit {0}
+
+module _ (command : Command) (source source_after : SourceState) (sink sink_after : SinkState) (door door_after : DoorState) where
+  abbrev call : Call
+  call = called (Some command) source source_after sink sink_after door door_after
+
+  returning : (status : Status) → Ends call status → Counts (status ≡ ReadFault) source.read_faults source_after.read_faults
+      → Counts (status ≡ WriteFault) sink.write_faults sink_after.write_faults → LeavesDoor (Some command) door door_after
+      → Nets door door_after status → Returns call status
+  returning status ends reads writes left nets = record {
+    ends = ends;
+    due = ends_as_due call status ends;
+    reads = reads;
+    writes = writes;
+    door = left;
+    nets = nets;
+  }
+
+  -- the command's configuration was found, and what is due for it was written
+  pub returns-told : (input : Input) (spelt : List ℕ) (c : Configuration) (status : Status) → IsInput source.left source_after.left input
+      → IsSpeltBy command input spelt → Spells spelt c → WritesDue (IsOutcome command door door_after c) sink sink_after status
+      → (status ≡ ReadFault → ⊥) → source_after.read_faults ≡ source.read_faults
+      → Counts (status ≡ WriteFault) sink.write_faults sink_after.write_faults → LeavesDoor (Some command) door door_after
+      → Nets door door_after status → Returns call status
+  returns-told input spelt c status read by spells told sure same writes left nets =
+      returning status
+      (Ends-told call (IsOutcome command door door_after c) status input read
+      (λ s text is. text_due command door door_after input spelt by s text (outcome_due command door door_after spelt c spells s text is)) told)
+      (record { failed = λ is. absurd (sure is); unfailed = λ other. same }) writes left nets
+
+module _ (command : Command) (source source_after : SourceState) (sink sink_after : SinkState) (door : DoorState) where
+  abbrev untouched : Call
+  untouched = called (Some command) source source_after sink sink_after door door
+
+  stopped_ends : (why : Stop) (status : Status) → StopsCommand command source source_after why → TellsStop why sink sink_after status
+      → Ends untouched status
+  stopped_ends (stop.Refused clause why) status stops tells =
+      Ends-written untouched (Refused clause why) status stops.0 (refused_text clause why) stops.1 (stops.2 door door) tells
+  stopped_ends stop.ReadFault status stops tells =
+      subst (Ends untouched) (sym tells.0)
+      (record { rises = stops.2; unsure = stops.1; command = command; asks = refl; reads = stops.0; nothing = tells.1 })
+  stopped_ends stop.NoMemory status stops tells = subst (Ends untouched) (sym tells.0) (inl tells.1)
+
+  read_fault : (why : Stop) (status : Status) → why ≡ stop.ReadFault → TellsStop why sink sink_after status → status ≡ ReadFault
+  read_fault (stop.Refused clause why) status is tells = absurd (cc)
+  read_fault stop.ReadFault status is tells = tells.0
+  read_fault stop.NoMemory status is tells = absurd (cc)
+
+  -- the command has no configuration, and what stopped it was told
+  pub returns-stopped : (why : Stop) (status : Status) → StopsCommand command source source_after why
+      → Counts (why ≡ stop.ReadFault) source.read_faults source_after.read_faults → TellsStop why sink sink_after status
+      → (status ≡ ReadFault → why ≡ stop.ReadFault) → Counts (status ≡ WriteFault) sink.write_faults sink_after.write_faults
+      → Returns untouched status
+  returns-stopped why status stops counts tells reads writes =
+      returning command source source_after sink sink_after door door status (stopped_ends why status stops tells)
+      (record {
+        failed = λ is. counts.failed (reads is);
+        unfailed = λ other. counts.unfailed (λ is. other (read_fault why status is tells));
+      }) writes (leaves (Some command) door) (λ other. inr refl)
+
+-- a command that reads was stopped at reading
+pub reading_stops : (command : Command) (source source_after : SourceState) (why : Stop) → ReadsInput command
+    → StopsReading source source_after why → Counts (why ≡ stop.ReadFault) source.read_faults source_after.read_faults
+    → StopsCommand command source source_after why
+reading_stops command source source_after (stop.Refused clause why) reads stops counts =
+    (stops.0, stops.1, λ door door_after. refusal_due command door door_after stops.0 clause why reads stops.2)
+reading_stops command source source_after stop.ReadFault reads stops counts = (reads, stops, counts.failed refl)
+reading_stops command source source_after stop.NoMemory reads stops counts = tt
+
+-- a workload was stopped
+pub loading_stops : (agents start : ℕ) (source : SourceState) (why : Stop) → IsStopFor (load_text agents start) why
+    → StopsCommand (Load agents start) source source why
+loading_stops agents start source (stop.Refused clause why) stops =
+    (Unread, refl, λ door door_after. (load_text agents start, refl, record { refused = stops; is = refl }))
+loading_stops agents start source stop.ReadFault stops = absurd stops
+loading_stops agents start source stop.NoMemory stops = tt
+
+-- a workload reads nothing
+pub loading_counts : (text : List ℕ) (source : SourceState) (why : Stop) → IsStopFor text why
+    → Counts (why ≡ stop.ReadFault) source.read_faults source.read_faults
+loading_counts text source (stop.Refused clause why) stops = record { failed = λ is. absurd (cc); unfailed = λ other. refl }
+loading_counts text source stop.ReadFault stops = absurd stops
+loading_counts text source stop.NoMemory stops = record { failed = λ is. absurd (cc); unfailed = λ other. refl }
+
+-- a call without a command
+pub returns-usage : (source : SourceState) (sink sink_after : SinkState) (door : DoorState) (text : List ℕ) (status : Status)
+    → IsDue None door door Unread Usage text → Writes Usage text sink sink_after status → (status ≡ ReadFault → ⊥)
+    → Counts (status ≡ WriteFault) sink.write_faults sink_after.write_faults → Returns (called None source source sink sink_after door door) status
+returns-usage source sink sink_after door text status due wrote sure writes =
+    let call = called None source source sink sink_after door door in
+    let ends : Ends call status = Ends-written call Usage status Unread text refl due wrote in
+    record {
+      ends = ends;
+      due = ends_as_due call status ends;
+      reads = record { failed = λ is. absurd (sure is); unfailed = λ other. refl };
+      writes = writes;
+      door = refl;
+      nets = λ other. inr refl;
+    }
