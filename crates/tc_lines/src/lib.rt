@@ -23,7 +23,7 @@ mod requests;
 mod spare;
 
 pub use laws::lines_are_unique;
-pub use limits::{MOST_LINE, most_line_is_this};
+pub use limits::{MOST_LINE, MOST_SPARE, most_line_is_this};
 pub use lines::{FillFault, Lines};
 pub use replies::{print_reply, refusal_text};
 pub use requests::{BadLine, LineAsk, read_line_request};

@@ -1,11 +1,13 @@
 //! Room: bytes for which it is there, and room that isn't used.
-ghost use Rattle.std.specs.Prelude.{◌≡◌, ◌+◌, ◌≤◌, ◌++◌, length, vec_len, vec_capacity};
+ghost use Rattle.std.specs.Prelude.{◌≡◌, ◌+◌, ◌<◌, ◌≤◌, ◌++◌, length, vec_len, vec_capacity};
 
 use crate::limits::MOST_SPARE;
 
 /// Gives back the room of a list of bytes, if it is empty and once was long.
 pub fn release_spare(bytes: &mut Vec<u8>)
-    ensures { bytes.new.items ≡ bytes.old.items }
+    ensures items { bytes.new.items ≡ bytes.old.items }
+    ensures spare { vec_len bytes.old ≡ 0 → vec_capacity bytes.new ≤ MOST_SPARE }
+    ensures kept { 0 < vec_len bytes.old → vec_capacity bytes.new ≡ vec_capacity bytes.old }
 {
     if bytes.is_empty() && bytes.capacity() > MOST_SPARE {
         bytes.shrink_to_fit();

@@ -4,7 +4,7 @@ ghost use Rattle.tc_load.specs.Counts.{count_of, counted_in};
 
 use tc_term::{Ground, Term};
 
-/// The number of a tuple `count(V)`, where it is one of a number.
+/// The number `n` of a tuple `count(n)`; `None` of every other tuple.
 pub fn count_of(tuple: &Ground) -> Option<i64>
     ensures { result ≡ count_of tuple.now }
 {
@@ -17,7 +17,7 @@ pub fn count_of(tuple: &Ground) -> Option<i64>
     }
 }
 
-/// The number of the first tuple `count(V)` among these, oldest first.
+/// The number of the first tuple `count(n)` among these, oldest first.
 pub fn counted_in(tuples: &[Ground]) -> Option<i64>
     ensures { result ≡ counted_in tuples.now }
 {

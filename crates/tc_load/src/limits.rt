@@ -1,9 +1,9 @@
 //! The numbers of the workload.
 
-/// The centres; a word names one by its low two bits.
+/// How many centres there are; a word names one by its low two bits.
 pub const CENTRES: u32 = 4;
 
-/// The scripts of an agent, each of which puts one tuple at the centre of a word.
+/// How many scripts an agent has, each of which puts one tuple at the centre of a word.
 pub const SCRIPTS: u32 = 6;
 
 /// The stream of the generator.

@@ -1,5 +1,5 @@
 //! A TCP listener.
-ghost use Rattle.std.specs.Prelude.{None};
+ghost use Rattle.std.specs.Prelude.{◌≡◌, None};
 ghost use Rattle.tc_io.specs.Faults.{CountRises};
 
 use crate::link::TcpLink;
@@ -18,8 +18,10 @@ pub struct TcpDoor<'a, R: Net<Listener = TcpListener, Stream = TcpStream>> {
 }
 
 impl<'a, R: Net<Listener = TcpListener, Stream = TcpStream>> TcpDoor<'a, R> {
-    /// A door that doesn't listen yet.
-    pub fn new(net: &'a R) -> TcpDoor<'a, R> {
+    /// A door that doesn't listen yet; no call has failed yet.
+    pub fn new(net: &'a R) -> TcpDoor<'a, R>
+        ensures { ⟦<TcpDoor<'a, R> as Door>⟧.door_faults result ≡ 0 }
+    {
         TcpDoor {
             net,
             listener: None,

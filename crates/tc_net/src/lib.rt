@@ -1,6 +1,7 @@
 //! Connections over TCP from programs on the same machine.
 //!
-//! Nothing is told of the bytes: what the process is connected to is trusted.
+//! Nothing is told of the bytes: what the process is connected to is trusted. A door can tell a
+//! user where it listens, and each connection.
 //!
 //! ```
 //! let mut door = TcpDoor::new(&rt);

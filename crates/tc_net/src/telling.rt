@@ -1,4 +1,6 @@
 //! A door that tells what it does.
+ghost use Rattle.std.specs.Prelude.{◌≡◌};
+
 use std::io::Write;
 use tc_io::{Door, Failed};
 
@@ -15,7 +17,12 @@ pub struct TellingDoor<D, W> {
 
 impl<D: Door, W: Write> TellingDoor<D, W> {
     /// This door, which tells on this writer.
-    pub fn new(door: D, lines: W) -> TellingDoor<D, W> {
+    pub fn new(door: D, lines: W) -> TellingDoor<D, W>
+        ensures faults { ⟦<TellingDoor<D, W> as Door>⟧.door_faults result
+            ≡ D.door_faults door }
+        ensures opened { ⟦<TellingDoor<D, W> as Door>⟧.opened result ≡ D.opened door }
+        ensures lent { ⟦<TellingDoor<D, W> as Door>⟧.lent result ≡ D.lent door }
+    {
         TellingDoor {
             door,
             lines,

@@ -22,6 +22,9 @@ use tc_desk::Desk;
 use tc_io::Link;
 use tc_lines::{BadLine, FillFault, LineAsk, Lines, MOST_LINE};
 
+/// How many bytes are read at most at a time.
+const MOST_READ: usize = 4_096;
+
 /// Serves the lines of a link at a desk, until one asks for the end or no further one comes.
 ///
 /// Replies are gathered, and written when no whole line is left to answer, before a wait, and where
@@ -55,7 +58,7 @@ pub fn serve_session<R: Wait, D: Desk, L: Link>(
 {
     let mut lines = Lines::new(alloc);
     let mut replies = Vec::new(alloc);
-    let mut buffer = [0; 4096];
+    let mut buffer = [0; MOST_READ];
     for _ in rt.forever() {
         if let Some(end) = step(rt, alloc, desk, link, &mut lines, &mut replies, &mut buffer) {
             return end;

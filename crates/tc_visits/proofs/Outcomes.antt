@@ -62,9 +62,6 @@ module _ (c : Configuration) (config : IsConfig c) (some : 0 < length c.agents) 
   pub cores-named : (told : List (List ℕ)) → told ≡ centre_names c → AreNamed told cores
   cores-named told is = named-cores c config cores (cores-are some) told is
 
-  pub logs-agree : (told : List (List ℕ)) → told ≡ centre_names c → AllAgree s.names cores olds → AllAgree told cores olds
-  logs-agree told is agree = subst (λ ns. AllAgree ns cores olds) (site.names_are ∙ named ∙ sym is) agree
-
   same-histories : histories c cores ≡ core_histories cores
   same-histories = histories-map c some cores cores-are
 

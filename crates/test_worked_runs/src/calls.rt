@@ -51,7 +51,7 @@ fn print_others<R: Threads + Wait + Sync>(
     into.extend_from_slice(b" workers\n\n")
 }
 
-// How the call of a row ends with these words.
+// How the call of a row ends with these words, at a door that opens no connection.
 fn end_of<R: Threads + Wait + Sync>(
     rt: &R,
     alloc: Global,

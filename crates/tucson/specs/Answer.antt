@@ -1,5 +1,6 @@
 -- What a call reads, with which status it is to end, and what it is to write.
-use Rattle.std.specs.Prelude.{◌≡◌, ℕ, ◌⊎◌, Bool, true, false, Option, Some, None, List, []}
+use Rattle.std.specs.Prelude.{◌≡◌, ℕ, ◌⊎◌, Bool, true, false}
+use Rattle.std.specs.Prelude.{Option, Some, None, List, []}
 use Rattle.tc_io.specs.Faults.{CountRises}
 use Rattle.tc_io.specs.Sources.{ReadsAll, ReadsPast}
 use Rattle.tc_model.specs.Choices.{TheFirst}
@@ -23,8 +24,8 @@ use Rattle.tucson.specs.Texts.{load_summary, refused_text, usage_text, whole_tex
 
 -- the text is one of such histories and logs, at whose end some agent waits, or none does
 pub record IsTextOf (Are : List (List Entry) → List (List LogRow) → Type 0)
-    (text_of : List (List Entry) → List (List LogRow) → List ℕ) (waits : Bool) (text : List ℕ)
-    : Type 0 where
+    (text_of : List (List Entry) → List (List LogRow) → List ℕ) (waits : Bool)
+    (text : List ℕ) : Type 0 where
   pub histories : List (List Entry)
   pub logs : List (List LogRow)
   pub are : Are histories logs
@@ -47,21 +48,24 @@ pub record FailsToListen (door after : DoorState) (text : List ℕ) : Type 0 whe
 -- the status and the text of a service of the configuration's agents: it has ended, with nobody
 -- waiting or somebody; the door has failed, at listening or before each agent had its connection;
 -- or some session has found no memory
-abbrev pub IsOutcomeOfService : DoorState → DoorState → Configuration → Status → List ℕ → Type 0
+abbrev pub IsOutcomeOfService : DoorState → DoorState → Configuration → Status → List ℕ
+    → Type 0
 IsOutcomeOfService door after c Ended text =
     IsTextOf (IsServiceBy door after true true c) (whole_text c) false text
 IsOutcomeOfService door after c Blocked text =
     IsTextOf (IsServiceBy door after true true c) (whole_text c) true text
 IsOutcomeOfService door after c NetFault text =
     FailsToListen door after text
-    ⊎ ((waits : Bool) × IsTextOf (IsServiceBy door after false true c) (whole_text c) waits text)
+    ⊎ ((waits : Bool)
+    × IsTextOf (IsServiceBy door after false true c) (whole_text c) waits text)
 IsOutcomeOfService door after c NoMemory text =
     (all : Bool) × (waits : Bool)
     × IsTextOf (IsServiceBy door after all false c) (whole_text c) waits text
 IsOutcomeOfService door after c status text = ⊥
 
 -- the status and the text that are due for a configuration, by the command
-abbrev pub IsOutcome : Command → DoorState → DoorState → Configuration → Status → List ℕ → Type 0
+abbrev pub IsOutcome : Command → DoorState → DoorState → Configuration → Status → List ℕ
+    → Type 0
 IsOutcome (Run workers) door after c = IsOutcomeOf (IsGood TheFirst c) (whole_text c)
 IsOutcome (Load agents start) door after c =
     IsOutcomeOf (IsGood TheFirst c) (load_summary agents start c)
@@ -81,7 +85,8 @@ pub record IsRefusal (spelt : List ℕ) (clause : ℕ) (why : ConfigCause) (text
   pub is : text ≡ refused_text clause why
 
 -- the status and the text that are due to a command whose configuration is spelt so
-abbrev pub IsDueForText : Command → DoorState → DoorState → List ℕ → Status → List ℕ → Type 0
+abbrev pub IsDueForText : Command → DoorState → DoorState → List ℕ → Status → List ℕ
+    → Type 0
 IsDueForText command door after spelt (Refused clause why) text = IsRefusal spelt clause why text
 IsDueForText command door after spelt status text =
     IsOutcomeFor command door after spelt status text
@@ -104,8 +109,8 @@ ReadsInput (Run workers) = Unit {0}
 ReadsInput (Load agents start) = ⊥
 ReadsInput (Serve port) = Unit {0}
 
--- how the configuration of a command is spelt, by what was read: that of a workload by its own text,
--- for which nothing is read, and every other by the whole input
+-- how the configuration of a command is spelt, by what was read: that of a workload by its own
+-- text, for which nothing is read, and every other by the whole input
 abbrev pub IsSpeltBy : Command → Input → List ℕ → Type 0
 IsSpeltBy (Run workers) (Whole input) spelt = spelt ≡ input
 IsSpeltBy (Load agents start) Unread spelt = spelt ≡ load_text agents start
@@ -114,7 +119,8 @@ IsSpeltBy command input spelt = ⊥
 
 -- a call for this command, or for none, and with this input is to end with this status, and to
 -- write this text
-abbrev pub IsDue : Option Command → DoorState → DoorState → Input → Status → List ℕ → Type 0
+abbrev pub IsDue : Option Command → DoorState → DoorState → Input → Status → List ℕ
+    → Type 0
 IsDue None door after Unread Usage text = text ≡ usage_text
 IsDue (Some command) door after Unread status text =
     (spelt : List ℕ) × IsSpeltBy command Unread spelt

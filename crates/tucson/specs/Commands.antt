@@ -1,5 +1,6 @@
 -- Which words ask for which command.
-use Rattle.std.specs.Prelude.{◌≡◌, ◌≤◌, ℕ, decimal, Option, Some, None, List, [], ◌∷◌, codes}
+use Rattle.std.specs.Prelude.{◌≡◌, ◌≤◌, ℕ, decimal, codes}
+use Rattle.std.specs.Prelude.{Option, Some, None, List, [], ◌∷◌}
 use Rattle.tucson.specs.declared.command.Command.{Command}
 use Rattle.tucson.specs.declared.command.Command.TheVariants.{Run, Load, Serve}
 use Rattle.tucson.specs.declared.limits.TheConstants.{MOST_AGENTS, MOST_PORT, MOST_START}
@@ -21,7 +22,8 @@ Asks (run ∷ option ∷ count ∷ []) (Run workers) =
 Asks (load ∷ count ∷ seed ∷ []) (Load agents start) =
     (load ≡ codes "load") × IsNumber count 1 MOST_AGENTS agents
     × IsNumber seed 0 MOST_START start
-Asks (serve ∷ word ∷ []) (Serve port) = (serve ≡ codes "serve") × IsNumber word 1 MOST_PORT port
+Asks (serve ∷ word ∷ []) (Serve port) =
+    (serve ≡ codes "serve") × IsNumber word 1 MOST_PORT port
 Asks words command = ⊥
 
 -- the words ask for this command, or for none

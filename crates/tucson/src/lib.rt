@@ -1,5 +1,5 @@
-//! The top call: a configuration is read, its agents' scripts are run, or its agents are served over
-//! connections, and what came of it is written.
+//! The top call: a configuration is read, its agents' scripts are run, or its agents are served
+//! over connections, and what came of it is written.
 //!
 //! `test_checked_runs` makes its calls by these lines:
 //!

@@ -1,5 +1,6 @@
 //! The workload of a number of agents, run; and the summary of that.
-ghost use Rattle.std.specs.Prelude.{◌≡◌, ◌≤◌, ◌++◌, IfErr, IfOk, Some, drop, length, map};
+ghost use Rattle.std.specs.Prelude.{◌≡◌, ◌≤◌, ◌++◌, IfErr, IfOk, Some};
+ghost use Rattle.std.specs.Prelude.{drop, length, map};
 ghost use Rattle.tc_config.specs.Good.{IsGood};
 ghost use Rattle.tc_config.specs.Texts.{Spells};
 ghost use Rattle.tc_config.specs.declared.configs.CentreConf.{CentreConf};

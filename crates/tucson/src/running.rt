@@ -20,12 +20,12 @@ use crate::writing::write_run;
 use std::alloc::Global;
 use std::sync::Wait;
 use std::thread::Threads;
-use tc_workers::work;
 use tc_config::Config;
 use tc_desk::Gate;
 use tc_io::{Sink, Source};
 use tc_lists::NoMemory;
 use tc_runner::{Opened, go_on, open};
+use tc_workers::work;
 
 /// Reads a configuration, runs the scripts of its agents on so many workers,
 /// and writes what came of it.

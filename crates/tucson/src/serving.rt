@@ -18,14 +18,15 @@ use crate::writing::{is_blocked, status_of_run, write_whole};
 use std::alloc::Global;
 use std::sync::Wait;
 use std::thread::Threads;
-use tc_visits::Service;
 use tc_config::Config;
 use tc_io::{Door, Sink, Source};
 use tc_lists::NoMemory;
 use tc_runner::open;
+use tc_visits::Service;
 
 /// Reads a configuration, listens at a port, serves the agents over the connections that the door
-/// accepts, the first agent over the first, and writes what came of it once all sessions have ended.
+/// accepts, the first agent over the first, and writes what came of it once all sessions have
+/// ended.
 ///
 /// It is a call of the command for that. The agents' scripts aren't run. Where the door fails, the
 /// agents that have a connection are served all the same.

@@ -41,9 +41,9 @@ pub fn tucson<R: Threads + Wait + Sync, S: Source, K: Sink, G: Gate + Sync, D: D
     gate: &G,
     door: &mut D,
 ) -> Status
-    // The words ask for a command or for none, and the call returns as one for that does: it ends as
-    // its status says and as words and input decide, and each fault of reading, of writing and of
-    // the door is told.
+    // The words ask for a command or for none, and the call returns as one for that does: it ends
+    // as its status says and as words and input decide, and each fault of reading, of writing and
+    // of the door is told.
     ensures { (command : Option Command) × IsCommandOf (map (λ w. w.items) words.now) command
         × Returns (record {
           command = command;

@@ -10,7 +10,9 @@ use Rattle.std.proofs.lemmas.List.Elements.{All-take, All-drop}
 use Rattle.tc_sched.proofs.Crowds.{all-less, settles-append}
 use Rattle.tc_lists.proofs.Chunks.{by-chunks}
 use Rattle.tc_sched.proofs.Chunks.{left-part}
+use Rattle.tc_sched.proofs.crowd.round.Given.{Over}
 use Rattle.tc_sched.proofs.crowd.round.Goals as goal
+use Rattle.tc_sched.proofs.crowd.round.Goals.{After-for_each_chunk_mut}
 
 pub for_each_chunk_mut-requires-clause-accepts : goal.for_each_chunk_mut-requires-clause-accepts
 for_each_chunk_mut-requires-clause-accepts g c = λ l h start p chunk.
@@ -22,23 +24,22 @@ for_each_chunk_mut-requires-clause-accepts g c = λ l h start p chunk.
     (All-take (IsReady g.D.Desk.state (T + 1) c.args.names.now) size (drop start cs)
     (All-drop (IsReady g.D.Desk.state (T + 1) c.args.names.now) start cs c.requires.ready)))
 
-pub returns-then-load : goal.returns-then-load
-returns-then-load g c =
+-- the parts have settled, so all have
+settled : (g : Over) (c : After-for_each_chunk_mut g)
+    → Settles g.D.Desk.state g.D.Desk.bond g.D.Desk.sound c.args.actors.now c.for_each_chunk_mut.new.s
+settled g c =
     let Q : List (Client g.row.D.Denot) → List (Client g.row.D.Denot) → Type 0 = Settles g.D.Desk.state g.D.Desk.bond g.D.Desk.sound in
     let cs = c.args.actors.now in let es = c.for_each_chunk_mut.new.s in
     by-chunks Q (record { left = omega arith; went = tt }) (λ xs ys xs' ys' a b. settles-append g.D.Desk.state g.D.Desk.bond g.D.Desk.sound xs ys xs' ys' a b) c.args.size (length cs) cs es c.for_each_chunk_mut.auto.s
     (le-mul_of_pos_right (length cs) c.requires.size)
     (λ n below. let k = c.for_each_chunk_mut.ensures.chunks n below in
-    subst (λ (xs : List (Client g.row.D.Denot)). Q xs (take c.args.size (drop (n * c.args.size) es))) k.argument_is (subst (Q k.argument.now) k.left k.call))
+    subst (λ (xs : List (Client g.row.D.Denot)). Q xs (take c.args.size (drop (n * c.args.size) es))) k.argument_is (subst (Q k.argument.now) {y = take c.args.size (drop (n * c.args.size) es)} k.left k.call))
+
+pub returns-then-load : goal.returns-then-load
+returns-then-load g c = settled g (goal.at.returns-then-load g c).After-for_each_chunk_mut
 
 pub returns : goal.returns
-returns g c =
-    let Q : List (Client g.row.D.Denot) → List (Client g.row.D.Denot) → Type 0 = Settles g.D.Desk.state g.D.Desk.bond g.D.Desk.sound in
-    let cs = c.args.actors.now in let es = c.for_each_chunk_mut.new.s in
-    by-chunks Q (record { left = omega arith; went = tt }) (λ xs ys xs' ys' a b. settles-append g.D.Desk.state g.D.Desk.bond g.D.Desk.sound xs ys xs' ys' a b) c.args.size (length cs) cs es c.for_each_chunk_mut.auto.s
-    (le-mul_of_pos_right (length cs) c.requires.size)
-    (λ n below. let k = c.for_each_chunk_mut.ensures.chunks n below in
-    subst (λ (xs : List (Client g.row.D.Denot)). Q xs (take c.args.size (drop (n * c.args.size) es))) k.argument_is (subst (Q k.argument.now) k.left k.call))
+returns g c = settled g (goal.at.returns g c).After-for_each_chunk_mut
 
 pub for_each_chunk_mut-requires-send-T : goal.for_each_chunk_mut-requires-send-T
 for_each_chunk_mut-requires-send-T g c κs within =
