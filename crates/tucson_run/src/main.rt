@@ -20,7 +20,15 @@ fn main(rt: HostRuntime) -> ExitCode {
     let status = match words(&rt) {
         Ok(words) => {
             let alloc = rt.alloc();
-            tucson(&rt, alloc, &words, &mut source, &mut sink, &NoGate, &mut door)
+            tucson(
+                &rt,
+                alloc,
+                &words,
+                &mut source,
+                &mut sink,
+                &NoGate,
+                &mut door,
+            )
         }
         Err(_) => Status::NoMemory,
     };

@@ -5,7 +5,7 @@ use Rattle.tc_sched.specs.Clients.{Client}
 use Rattle.tc_site.specs.Desks.{AgentState, IsNewDesk, IsDecidedLog, desk_of}
 use Rattle.tc_site.specs.Sites.{KitState}
 use Rattle.tc_workers.specs.Crews.{IsAtDesk}
-use Rattle.tc_workers.proofs.Grants.{permits_by}
+use Rattle.tc_site.proofs.Configured.{permits_by}
 use Rattle.test_site_rows.proofs.Seated.{Seated, seated-more}
 use Rattle.test_site_rows.proofs.driving.at_desks.Goals as goal
 

@@ -1,5 +1,5 @@
 use Rattle.test_site_rows.proofs.Seated.{Seated}
-use Rattle.tc_workers.proofs.Grants.{permits_by}
+use Rattle.tc_site.proofs.Configured.{permits_by}
 use Rattle.test_site_rows.proofs.driving.at_desks.Given as goal
 
 abbrev pub invariant-loop-kit : goal.invariant-loop-kit

@@ -4,7 +4,8 @@ use Rattle.tc_lists.proofs.Parts.{take-append_all}
 use Rattle.tc_sched.specs.Steps.{IsReady, left_in}
 use Rattle.tc_site.specs.Desks.{desk_of}
 use Rattle.tc_workers.proofs.Driven.{ready}
-use Rattle.tc_workers.proofs.Grants.{Driven, Member, permits_by}
+use Rattle.tc_site.proofs.Configured.{permits_by}
+use Rattle.tc_workers.proofs.Grants.{Driven, Member}
 use Rattle.tc_workers.proofs.Sends.{roles_desk_send}
 use Rattle.test_site_rows.proofs.Driven.{ready-again}
 use Rattle.test_site_rows.proofs.driving.driven.Goals as goal
