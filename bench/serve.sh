@@ -26,9 +26,14 @@ free_port() {
   python3 -c 'import socket; s = socket.socket(); s.bind(("127.0.0.1", 0)); print(s.getsockname()[1])'
 }
 
-# configuration WORK AGENTS: one centre for all agents.
+# configuration WORK AGENTS: one centre for all agents, or one for each.
 configuration() {
-  echo 'centre(c). role(r). grant(r,c,out). grant(r,c,in).'
+  echo 'role(r).'
+  if [ "$1" = own ]; then
+    awk -v agents="$2" 'BEGIN { for (k = 0; k < agents; k++) print "c" k }'
+  else
+    echo c
+  fi | sed 's/.*/centre(&). grant(r,&,out). grant(r,&,in)./'
   if [ "$1" = counter ]; then
     echo 'tuple(c,count(0)).'
     echo 'spec(c,reaction(out(inc),(in_r(inc),in_r(count(N)),M is N+1,out_r(count(M))))).'
@@ -111,6 +116,7 @@ load=$(cut -d ' ' -f 1 /proc/loadavg)
 echo "| work | clients | µs a round | Redis | ratio | median and 99th, µs | Redis |${calls:+ calls | Redis |}"
 echo "|---|---|---|---|---|---|---|${calls:+---|---|}"
 for clients in 1 4 16; do row 'put and take' pair "$clients" 1 $((20000 / clients)); done
+for clients in 4 16; do row 'put and take, each at a centre of its own' own "$clients" 1 $((20000 / clients)); done
 for clients in 1 4 16; do row 'a counter with a reaction' counter "$clients" 1 $((20000 / clients)); done
 for clients in 2 8 32; do row 'ping-pong' pingpong "$clients" 1 $((10000 / clients)); done
 for clients in 2 8 32; do
@@ -118,6 +124,7 @@ for clients in 2 8 32; do
 done
 row '16 producers and 16 consumers' queue 32 1 1000
 for clients in 1 4 16; do row 'put and take, pieces of 16' pair "$clients" 16 $((80000 / clients)); done
+for clients in 4 16; do row 'put and take, each at a centre of its own, pieces of 16' own "$clients" 16 $((80000 / clients)); done
 for clients in 1 4 16; do row 'a counter, pieces of 16' counter "$clients" 16 $((80000 / clients)); done
 row '16 producers and 16 consumers, pieces of 16' queue 32 16 3200
 

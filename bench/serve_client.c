@@ -5,6 +5,7 @@
 //
 // SERVER is `tucson` or `redis`, and PID its process. PIECE is how many requests are sent in one piece. WORK is
 //   pair      each client puts a tuple of its own and takes it
+//   own       the same, at a centre of its own: c0 for the first client
 //   counter   each client counts, by a reaction or a script
 //   pingpong  clients by two: one puts a ping and takes a pong, the other takes and puts
 //   waiting   the same, but `in` and `wait` are sent in one piece
@@ -155,19 +156,18 @@ __attribute__((format(printf, 2, 3))) static void add(client *c, const char *for
   if (c->to_send >= ROOM) fail("the piece is too long");
 }
 
-static void add_put(client *c, const char *name, int key) {
+// Adds a call of two words, ours and that of Redis, with the last word of the latter.
+static void add_call(client *c, const char *ours, const char *theirs, char last, const char *name, int key) {
   char list[32];
   int length = snprintf(list, sizeof list, "%s%d", name, key);
-  if (is_redis) add(c, "*3\r\n$5\r\nLPUSH\r\n$%d\r\n%s\r\n$1\r\n1\r\n", length, list);
-  else add(c, "c ? out(%s(%d))\n", name, key);
+  if (is_redis) add(c, "*3\r\n$5\r\n%s\r\n$%d\r\n%s\r\n$1\r\n%c\r\n", theirs, length, list, last);
+  else if (is("own")) add(c, "c%d ? %s(%s(%d))\n", c->number, ours, name, key);
+  else add(c, "c ? %s(%s(%d))\n", ours, name, key);
 }
 
-static void add_take(client *c, const char *name, int key) {
-  char list[32];
-  int length = snprintf(list, sizeof list, "%s%d", name, key);
-  if (is_redis) add(c, "*3\r\n$5\r\nBRPOP\r\n$%d\r\n%s\r\n$1\r\n0\r\n", length, list);
-  else add(c, "c ? in(%s(%d))\n", name, key);
-}
+static void add_put(client *c, const char *name, int key) { add_call(c, "out", "LPUSH", '1', name, key); }
+
+static void add_take(client *c, const char *name, int key) { add_call(c, "in", "BRPOP", '0', name, key); }
 
 static void add_count(client *c) {
   if (is_redis) add(c, "*4\r\n$7\r\nEVALSHA\r\n$40\r\n%s\r\n$1\r\n1\r\n$5\r\ncount\r\n", script);
@@ -272,7 +272,7 @@ static void queue(client *c) {
 }
 
 static void one_piece(client *c) {
-  if (is("pair")) pair(c);
+  if (is("pair") || is("own")) pair(c);
   else if (is("counter")) counter(c);
   else if (is("pingpong") || is("waiting")) pingpong(c);
   else if (is("queue")) queue(c);
@@ -281,7 +281,7 @@ static void one_piece(client *c) {
 
 // How many rounds a piece of a client has.
 static double rounds_a_piece(void) {
-  if (is("pair")) return piece == 1 ? 1 : piece / 2;
+  if (is("pair") || is("own")) return piece == 1 ? 1 : piece / 2;
   if (is("counter")) return piece;
   return is("queue") ? piece * 0.5 : 0.5;
 }
@@ -408,7 +408,7 @@ int main(int argc, char **argv) {
   rounds = atol(argv[7]);
   if (is_redis) prepare_redis();
 
-  long pieces = is("hold") ? 0 : rounds / (piece == 1 ? 1 : is("pair") ? piece / 2 : piece);
+  long pieces = is("hold") ? 0 : rounds / (piece == 1 ? 1 : is("pair") || is("own") ? piece / 2 : piece);
   client **all = calloc(clients, sizeof *all);
   long before = 0;
   for (int k = 0; k < clients; k++) {
