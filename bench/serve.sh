@@ -6,8 +6,8 @@
 #   serve.sh [--calls] [PROGRAM]      PROGRAM: another build of the program; --calls: its system calls a round, too
 #
 # Both servers listen on 127.0.0.1, and serve_client.c makes the calls, in as many threads as there are clients. Each
-# row is measured three times, in turn, and the least processor time counts: that of all threads of the server, in the
-# rounds alone, since each client has made a tenth as many before. The clients' time counts nowhere.
+# row is measured three times, or TURNS times, in turn, and the least processor time counts: that of all threads of the
+# server, in the rounds alone, since each client has made a tenth as many before. The clients' time counts nowhere.
 set -eu
 calls=
 [ "${1-}" != --calls ] || { calls=yes; shift; }
@@ -65,7 +65,7 @@ row() {
   title=$1
   shift
   for name in here there; do : > "$folder/$name"; done
-  for _ in 1 2 3; do
+  for _ in $(seq "${TURNS:-3}"); do
     here "$@" >> "$folder/here"
     there "$@" >> "$folder/there"
   done
