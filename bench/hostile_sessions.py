@@ -188,7 +188,7 @@ def play_again(text):
 
 def held_against(text, sessions):
     """Holds the text against what was sent and what was replied in each session."""
-    assert text.startswith('tucson 1\ncentre c\n') and '\ncentre ' not in text[18:], 'another beginning'
+    assert text.startswith('tucson 2\ncentre c\n') and '\ncentre ' not in text[18:], 'another beginning'
     logs, calls = logs_of(text), play_again(text)
     assert len(logs) >= len(sessions), 'an agent is missing'
     for k, (sent, got) in enumerate(sessions):

@@ -49,7 +49,7 @@ fn a_text_is_written_once_it_is_long(rt: HostRuntime) -> Result<(), Fail> {
     write_end(true, &mut sink, &mut kept)?;
     assert!(rt;
         sink.taken()
-            .starts_with(b"tucson 1\nagent a\n1 a pending\nagent a\n1 aaa")
+            .starts_with(b"tucson 2\nagent a\n1 a pending\nagent a\n1 aaa")
     );
     assert!(rt; sink.taken().ends_with(b"aaa pending\nend blocked\n"));
     Ok(())
@@ -63,6 +63,6 @@ fn a_fault_stops_the_writing(rt: HostRuntime) -> Result<(), Fail> {
     write_version(&mut sink, &mut kept)?;
     let ended = write_end(false, &mut sink, &mut kept);
     assert!(rt; ended == Err(SinkFault::Failed));
-    assert_eq!(rt; sink.taken(), b"tucson 1".as_slice());
+    assert_eq!(rt; sink.taken(), b"tucson 2".as_slice());
     Ok(())
 }

@@ -171,7 +171,7 @@ fn served<R: Threads + Wait + Sync + Abort + Clock>(
     sink.taken().to_vec(alloc)
 }
 
-const SIDE_BY_SIDE: &[u8] = b"tucson 1
+const SIDE_BY_SIDE: &[u8] = b"tucson 2
 centre c
 call a 1 out(p(1)) = done
 centre d
@@ -214,7 +214,7 @@ fn connections_are_served_side_by_side(rt: HostRuntime) -> Result<(), Fail> {
     Ok(())
 }
 
-const BEFORE_A_WAIT: &[u8] = b"tucson 1
+const BEFORE_A_WAIT: &[u8] = b"tucson 2
 centre c
 call a 1 in(x) = pending
 call b 1 out(x) = done

@@ -2,7 +2,7 @@
 ghost use Rattle.std.specs.Prelude.{◌≡◌, ◌<◌, [], All, OnOk, length};
 ghost use Rattle.tc_model.specs.Calls.{id_of};
 ghost use Rattle.tc_histtext.specs.Text.{end_text, entry_text, history_text};
-ghost use Rattle.tc_histtext.specs.declared.versions.Version.TheVariants.{One};
+ghost use Rattle.tc_histtext.specs.declared.versions.Version.TheVariants.{Two};
 ghost use Rattle.tc_histtext.specs.Text.{log_text, row_text, version_text};
 ghost use Rattle.tc_histtext.specs.Headings.{heading_text};
 ghost use Rattle.tc_io.specs.Flow.{HandsOn, flow};
@@ -20,11 +20,11 @@ use tc_term::Name;
 /// Hands on the first line.
 #[tactic(auto, using(tc_io::proofs::Flows::no_memory, tc_io::proofs::Flows::kept_first))]
 pub fn write_version<K: Sink>(sink: &mut K, kept: &mut Vec<u8>) -> Result<(), SinkFault>
-    ensures { HandsOn (version_text One)
+    ensures { HandsOn (version_text Two)
         (flow K.taken K.write_faults K.sure sink.old kept.old.items)
         (flow K.taken K.write_faults K.sure sink.new kept.new.items) result }
 {
-    print_version(Version::One, kept)?;
+    print_version(Version::Two, kept)?;
     spill(sink, kept)
 }
 
@@ -59,14 +59,14 @@ pub fn write_log<K: Sink>(
     sink: &mut K,
     kept: &mut Vec<u8>,
 ) -> Result<(), SinkFault>
-    ensures { HandsOn (log_text One agent.now log.now)
+    ensures { HandsOn (log_text Two agent.now log.now)
         (flow K.taken K.write_faults K.sure sink.old kept.old.items)
         (flow K.taken K.write_faults K.sure sink.new kept.new.items) result }
 {
     print_heading(alloc, Heading::Agent, agent, kept)?;
     spill(sink, kept)?;
     for row in log {
-        print_row(alloc, Version::One, row, kept)?;
+        print_row(alloc, Version::Two, row, kept)?;
         spill(sink, kept)?;
     }
     Ok(())

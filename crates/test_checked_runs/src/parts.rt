@@ -120,7 +120,7 @@ fn cut<'t>(
     let Some((version, lines)) = lines.split_first() else {
         return Err(Fault::Wrong("the text has one line alone"));
     };
-    if *version != b"tucson 1".as_slice() {
+    if *version != b"tucson 2".as_slice() {
         return Err(Fault::Wrong("the text is of another version"));
     }
     let mut sections: Vec<Vec<&'t [u8]>> = Vec::new(alloc);

@@ -6,7 +6,7 @@ use Rattle.tc_model.specs.declared.entries.Entry.{Entry}
 use Rattle.tc_desk.specs.Logs.{is_blocked}
 use Rattle.tc_desk.specs.declared.rows.LogRow.{LogRow}
 use Rattle.tc_histtext.specs.Text.{run_text}
-use Rattle.tc_histtext.specs.declared.versions.Version.TheVariants.{One}
+use Rattle.tc_histtext.specs.declared.versions.Version.TheVariants.{Two}
 use Rattle.tc_config.specs.Configurations.{Configuration, agent_names, centre_names}
 use Rattle.tc_config.specs.Good.{origin_of}
 use Rattle.tc_config.specs.declared.configs.CentreConf.{CentreConf}
@@ -42,7 +42,7 @@ refused_text clause why =
 
 -- the text of a run or of a service: history by history, log by log
 abbrev pub whole_text : Configuration → List (List Entry) → List (List LogRow) → List ℕ
-whole_text c = run_text One (centre_names c) (agent_names c)
+whole_text c = run_text Two (centre_names c) (agent_names c)
 
 -- what a centre has counted at the end of its history
 abbrev pub core_count : Centre → Option ℤ

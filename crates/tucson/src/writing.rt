@@ -8,7 +8,7 @@ ghost use Rattle.tc_config.specs.Configurations.{agent_names, centre_names};
 ghost use Rattle.tc_config.specs.Good.{IsGood};
 ghost use Rattle.tc_desk.specs.Logs.{is_blocked, rows_of};
 ghost use Rattle.tc_histtext.specs.Text.{histories_text, logs_text};
-ghost use Rattle.tc_histtext.specs.declared.versions.Version.TheVariants.{One};
+ghost use Rattle.tc_histtext.specs.declared.versions.Version.TheVariants.{Two};
 ghost use Rattle.tc_runner.specs.Cores.{AreCores, histories};
 ghost use Rattle.tc_runner.specs.Runs.{HasCores, IsGoodRun};
 ghost use Rattle.tc_io.specs.Flow.{HandsOn, flow};
@@ -179,7 +179,7 @@ fn write_logs<K: Sink>(
     kept: &mut Vec<u8>,
 ) -> Result<(), SinkFault>
     requires { length logs.now ≡ length plan.now.agents }
-    ensures { HandsOn (logs_text One (agent_names plan.now) (rows_of logs.now))
+    ensures { HandsOn (logs_text Two (agent_names plan.now) (rows_of logs.now))
         (flow K.taken K.write_faults K.sure sink.old kept.old.items)
         (flow K.taken K.write_faults K.sure sink.new kept.new.items) result }
 {
