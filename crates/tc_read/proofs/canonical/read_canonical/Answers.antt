@@ -1,4 +1,4 @@
-use Rattle.std.proofs.Common.{◌∙◌, ◌-◌, length, refl, sym, ap, arith}
+use Rattle.std.proofs.Common.{◌∙◌, ◌-◌, length, refl, sym, ap}
 use Rattle.tc_term.proofs.Causes.{HasExcess-pattern}
 use Rattle.tc_read.proofs.AtFront.{front-longest, front-none, front-rest, front-stands}
 use Rattle.tc_lists.proofs.Options.{none_from_never}
