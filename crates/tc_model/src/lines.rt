@@ -1,5 +1,5 @@
 //! What agents ask, read from terms.
-ghost use Rattle.std.specs.Prelude.{◌≡◌, ◌<◌, IfNone, IfSome, codes, length};
+ghost use Rattle.std.specs.Prelude.{◌≡◌, ◌<◌, IfNone, IfOk, IfSome, codes, length};
 ghost use Rattle.tc_term.specs.Tree.{Atomic, Compound};
 ghost use Rattle.tc_term.specs.TreeView.{tree_of, trees_of};
 ghost use Rattle.tc_model.specs.Asks.{primitive_name};
@@ -10,6 +10,8 @@ ghost use Rattle.tc_model.specs.declared.lines.Line.{Line};
 
 use crate::asks::{Ask, Primitive, primitive_of};
 use crate::parts::{atom_of, one_of, two_of};
+use std::alloc::Global;
+use tc_lists::NoMemory;
 use tc_term::{Name, Term};
 
 /// What is asked, and the name of the centre where it is asked.
@@ -19,27 +21,30 @@ pub struct Line {
     pub ask: Ask,
 }
 
-/// What is asked where this term is written, if anything is. What stands in it is moved, not
-/// copied.
-pub fn ask_of(t: Term) -> Option<Ask>
-    ensures some { IfSome result (λ ask. tree_of t ≡ ask_term ask) }
-    ensures none { IfNone result ((ask : Ask) → tree_of t ≡ ask_term ask → ⊥) }
+/// What is asked where this term is written, if anything is. What stands in it is moved where no
+/// copy of the term is left.
+pub fn ask_of(alloc: Global, t: Term) -> Result<Option<Ask>, NoMemory>
+    ensures some { IfOk result (λ found. IfSome found (λ ask. tree_of t ≡ ask_term ask)) }
+    ensures none { IfOk result (λ found. IfNone found
+        ((ask : Ask) → tree_of t ≡ ask_term ask → ⊥)) }
 {
     match t {
-        Term::Atom(name) => ask_alone(name),
-        Term::Comp(name, args) => ask_with(name, args.into_vec()),
-        Term::Var(_) | Term::Int(_) => None,
+        Term::Atom(name) => Ok(ask_alone(name)),
+        Term::Comp(name, args) => Ok(ask_with(name, args.into_vec(alloc)?)),
+        Term::Var(_) | Term::Int(_) => Ok(None),
     }
 }
 
-/// The line that is written as this term, if one is. What stands in it is moved, not copied.
-pub fn line_of(t: Term) -> Option<Line>
-    ensures some { IfSome result (λ line. tree_of t ≡ line_term line) }
-    ensures none { IfNone result ((line : Line) → tree_of t ≡ line_term line → ⊥) }
+/// The line that is written as this term, if one is. What stands in it is moved where no copy of the
+/// term is left.
+pub fn line_of(alloc: Global, t: Term) -> Result<Option<Line>, NoMemory>
+    ensures some { IfOk result (λ found. IfSome found (λ line. tree_of t ≡ line_term line)) }
+    ensures none { IfOk result (λ found. IfNone found
+        ((line : Line) → tree_of t ≡ line_term line → ⊥)) }
 {
     match t {
-        Term::Comp(name, args) => line_with(name, args.into_vec()),
-        Term::Atom(_) | Term::Var(_) | Term::Int(_) => None,
+        Term::Comp(name, args) => line_with(alloc, name, args.into_vec(alloc)?),
+        Term::Atom(_) | Term::Var(_) | Term::Int(_) => Ok(None),
     }
 }
 
@@ -91,26 +96,28 @@ fn ask_for(primitive: Primitive, operand: Term) -> Option<Ask>
 }
 
 // The line that the compound of this name with these arguments is, if it is one.
-fn line_with(name: Name, args: Vec<Term>) -> Option<Line>
+fn line_with(alloc: Global, name: Name, args: Vec<Term>) -> Result<Option<Line>, NoMemory>
     requires { 0 < length args.items }
-    ensures { IsLined (Compound name (trees_of args.items)) result }
+    ensures { IfOk result (IsLined (Compound name (trees_of args.items))) }
 {
     if name.bytes() != b"?".as_slice() {
-        return None;
+        return Ok(None);
     }
     match two_of(args) {
-        Some((centre, ask)) => line_at(centre, ask),
-        None => None,
+        Some((centre, ask)) => line_at(alloc, centre, ask),
+        None => Ok(None),
     }
 }
 
 // The line that asks so much at a centre.
-fn line_at(centre: Term, ask: Term) -> Option<Line>
-    ensures { IsLined (of_two (codes "?") (tree_of centre) (tree_of ask)) result }
+fn line_at(alloc: Global, centre: Term, ask: Term) -> Result<Option<Line>, NoMemory>
+    ensures { IfOk result (IsLined (of_two (codes "?") (tree_of centre) (tree_of ask))) }
 {
-    let ask = ask_of(ask)?;
+    let Some(ask) = ask_of(alloc, ask)? else {
+        return Ok(None);
+    };
     match atom_of(centre) {
-        Some(centre) => Some(Line { centre, ask }),
-        None => None,
+        Some(centre) => Ok(Some(Line { centre, ask })),
+        None => Ok(None),
     }
 }

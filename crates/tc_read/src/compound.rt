@@ -74,33 +74,34 @@ fn join(argument: Item, parts: Parts) -> Result<Parts, NoMemory>
 
 /// The compound of this name with these arguments.
 #[inline(always)]
-fn finish(name: Name, parts: Parts) -> Item
-    ensures { kept_item result ≡ finished name (parts_view parts) }
+fn finish(alloc: Global, name: Name, parts: Parts) -> Result<Item, NoMemory>
+    ensures { IfOk result (λ r. kept_item r ≡ finished name (parts_view parts)) }
 {
     match parts {
-        Parts::Wide(place) => Item::Wide(place),
-        Parts::Oversized => Item::Large,
-        Parts::Whole(several) => whole(name, several),
+        Parts::Wide(place) => Ok(Item::Wide(place)),
+        Parts::Oversized => Ok(Item::Large),
+        Parts::Whole(several) => whole(alloc, name, several),
     }
 }
 
 #[inline(always)]
-fn whole(name: Name, several: Several) -> Item
-    ensures { kept_item result ≡ whole name (reverse (map tree_of several.terms.items)) }
+fn whole(alloc: Global, name: Name, several: Several) -> Result<Item, NoMemory>
+    ensures { IfOk result
+        (λ r. kept_item r ≡ whole name (reverse (map tree_of several.terms.items))) }
 {
     let length = name.bytes().len();
     if several.terms.len() == 0 || length > MOST_BYTES_OF_NAMES {
-        return Item::Large;
+        return Ok(Item::Large);
     }
     let mut terms = several.terms;
     terms.reverse();
-    let args = Args::new(terms);
-    item(
+    let args = Args::new(alloc, terms)?;
+    Ok(item(
         Term::Comp(name, args),
         several.nodes + 1,
         several.depth + 1,
         several.name_bytes + length,
-    )
+    ))
 }
 
 /// A compound of two arguments.
@@ -111,7 +112,7 @@ fn pair(alloc: Global, name: &[u8], left: Item, right: Item) -> Result<Item, NoM
 {
     let last = join(right, none(alloc, 2)?)?;
     let both = join(left, last)?;
-    Ok(finish(Name::new(alloc, name)?, both))
+    finish(alloc, Name::new(alloc, name)?, both)
 }
 
 /// An operator between two terms.
@@ -128,7 +129,7 @@ pub fn negated(alloc: Global, of: Item) -> Result<Item, NoMemory>
     ensures { IfOk result (λ r. kept_item r ≡ negated kept (kept_item of)) }
 {
     let parts = join(of, none(alloc, 1)?)?;
-    Ok(finish(Name::new(alloc, b"-")?, parts))
+    finish(alloc, Name::new(alloc, b"-")?, parts)
 }
 
 /// The empty list.
@@ -181,5 +182,6 @@ pub fn compound(
         left -= 1;
         parts = join(stack.pop_item(), parts)?;
     }
-    Ok(finish(name, parts))
+    let item = finish(alloc, name, parts)?;
+    Ok(item)
 }

@@ -44,6 +44,7 @@ fn judge(item: Item, variables: usize, place: usize) -> Result<Pattern, ReadFaul
                 Ok(pattern) => Ok(pattern),
                 Err(NotPattern::TooBig(_)) => Err(ReadFault::TooBig(place)),
                 Err(NotPattern::TooMany(_)) => Err(ReadFault::TooMany(place)),
+                Err(NotPattern::NoMemory(_)) => Err(ReadFault::NoMemory),
             }
         }
     }

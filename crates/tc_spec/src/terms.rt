@@ -114,9 +114,8 @@ fn one(alloc: Global, name: &[u8], s: Term) -> Result<Term, NoMemory>
     ensures { IfOk result (λ t. tree_of t ≡ of_one name.now (tree_of s)) }
 {
     let name = Name::new(alloc, name)?;
-    let mut args = Vec::with_capacity(alloc, 1)?;
-    args.push(s)?;
-    Ok(Term::Comp(name, Args::new(args)))
+    let args = Args::one(alloc, s)?;
+    Ok(Term::Comp(name, args))
 }
 
 // A compound of two arguments.
@@ -124,8 +123,6 @@ fn two(alloc: Global, name: &[u8], s: Term, u: Term) -> Result<Term, NoMemory>
     ensures { IfOk result (λ t. tree_of t ≡ of_two name.now (tree_of s) (tree_of u)) }
 {
     let name = Name::new(alloc, name)?;
-    let mut args = Vec::with_capacity(alloc, 2)?;
-    args.push(s)?;
-    args.push(u)?;
-    Ok(Term::Comp(name, Args::new(args)))
+    let args = Args::two(alloc, s, u)?;
+    Ok(Term::Comp(name, args))
 }

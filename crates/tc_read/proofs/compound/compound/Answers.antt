@@ -39,7 +39,7 @@ returns-clause-compound c =
     let whole : turned done (first ∷ []) ≡ all.0 =
     ap (λ ks. turned (tops c.args.count ks) (first ∷ [])) (sym c.pop_item.ensures.items)
     ∙ all.1 ∙ ap (λ n. turned (tops n (items_of c.loop-left.stack)) all.0) zero in
-    c.finish.ensures
+    c.in_ok-item.ensures
     ∙ ap (finished name) (all.2 ∙ ap parts (sym whole))
     ∙ sym (applied-turned name done [] first)
 
