@@ -1,18 +1,31 @@
 -- Which clauses an event triggers.
 use Rattle.std.specs.Prelude.{◌≡◌, ◌<◌, ◌+◌, ◌↔◌, ℕ, Some, List, []}
 use Rattle.std.specs.Prelude.{◌∷◌}
-use Rattle.std.specs.Prelude.{◌++◌, AllPairs, Contains, map, slice_get}
+use Rattle.std.specs.Prelude.{◌++◌, All, AllPairs, Contains, map, slice_get}
 use Rattle.tc_term.specs.Variables.{raised, var_bound}
 use Rattle.tc_term.specs.Equations.{Solvable}
 use Rattle.tc_model.specs.Events.{Occurrence, event_of}
 use Rattle.tc_model.specs.Reactions.{Rule}
+use Rattle.tc_model.specs.declared.events.Phase.TheVariants.{Pre, Post}
+use Rattle.tc_model.specs.declared.events.Sign.TheVariants as sign
 use Rattle.tc_model.specs.declared.items.Item.{Item}
 use Rattle.tc_model.specs.declared.items.Item.TheVariants.{Fired, Failed}
+use Rattle.tc_model.specs.declared.reactions.GuardTest.{GuardTest}
+use Rattle.tc_model.specs.declared.reactions.GuardTest.TheVariants.{Request, Response}
+use Rattle.tc_model.specs.declared.reactions.GuardTest.TheVariants.{Success, Failure}
 
--- the reaction's operation is the event's, and its head can be made equal to the event's term,
--- their variables kept apart
+-- the test holds of the event: it is a request or a response, it succeeded or failed
+abbrev pub Holds : Occurrence → GuardTest → Type 0
+Holds e Request = e.phase ≡ Pre
+Holds e Response = e.phase ≡ Post
+Holds e Success = e.sign ≡ sign.Success
+Holds e Failure = e.sign ≡ sign.Failure
+
+-- the reaction's operation is the event's, all tests of its guard hold, and its head can be made
+-- equal to the event's term, their variables kept apart
 pub record IsTriggered (r : Rule) (e : Occurrence) : Type 0 where
   pub op : r.op ≡ e.op
+  pub guard : All (Holds e) r.guard
   pub solvable : Solvable (r.vars + var_bound e.term) ((r.head, raised r.vars e.term) ∷ [])
 
 -- the clause of this number; clauses count from 1

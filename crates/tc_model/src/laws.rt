@@ -4,7 +4,7 @@ ghost use Rattle.std.specs.Prelude.{Some, IfSome, ℕ};
 ghost use mathlib.Core.List.{IsPrefix};
 ghost use Rattle.tc_model.specs.declared.limits.TheConstants.{MOST_NAME_BYTES, MOST_BUDGET};
 ghost use Rattle.tc_model.specs.declared.limits.TheConstants.{MOST_TUPLES};
-ghost use Rattle.tc_model.specs.declared.limits.TheConstants.{MOST_CLAUSES, MOST_GOALS};
+ghost use Rattle.tc_model.specs.declared.limits.TheConstants.{MOST_CLAUSES, MOST_GOALS, MOST_TESTS};
 ghost use Rattle.tc_model.specs.declared.limits.TheConstants.{MOST_WEIGHT};
 ghost use Rattle.tc_model.specs.declared.asks.Ask.{Ask};
 ghost use Rattle.tc_model.specs.declared.asks.Primitive.{Primitive};
@@ -39,6 +39,7 @@ pub fn limits_are_these()
     ensures tuples { MOST_TUPLES ≡ 16777216 }
     ensures clauses { MOST_CLAUSES ≡ 1000 }
     ensures goals { MOST_GOALS ≡ 64 }
+    ensures tests { MOST_TESTS ≡ 16 }
     ensures weight { MOST_WEIGHT ≡ 4000000 }
 {}
 

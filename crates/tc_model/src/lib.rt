@@ -13,7 +13,7 @@
 //! | scripts | what agents ask one after another |
 //! | calls | operations and who asks for them; requests, and what they want |
 //! | events | events, their operations with their names, and in whose name reactions run |
-//! | goals, reactions | goals of a body; reactions, and the clauses of a centre |
+//! | goals, reactions | goals of a body; guards, reactions, and the clauses of a centre |
 //! | faults | what is wrong with a text of clauses |
 //! | items, outcomes, entries | what reactions did, what became of a call; entries of a history |
 //! | origins, limits | what a centre begins with, and the limits of all of it |
@@ -65,12 +65,12 @@ pub use laws::{
     weights_add, what_is_written_is_asked_once,
 };
 pub use limits::{
-    MOST_BUDGET, MOST_CLAUSES, MOST_GOALS, MOST_NAME_BYTES, MOST_TUPLES, MOST_WEIGHT,
+    MOST_BUDGET, MOST_CLAUSES, MOST_GOALS, MOST_NAME_BYTES, MOST_TESTS, MOST_TUPLES, MOST_WEIGHT,
 };
 pub use lines::{Line, ask_of, line_of};
 pub use origins::{OriginFault, check_origin};
 pub use outcomes::{Outcome, Reply, bytes_fit};
 pub use parts::{atom_of, one_of, two_of};
-pub use reactions::{Clauses, Reaction};
+pub use reactions::{Clauses, Form, GuardTest, Reaction, test_of};
 pub use scripts::{Script, ScriptItem};
 pub use tc_lists::NoMemory;

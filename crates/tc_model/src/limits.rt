@@ -15,5 +15,8 @@ pub const MOST_CLAUSES: usize = 1_000;
 /// The most goals of a reaction.
 pub const MOST_GOALS: usize = 64;
 
+/// The most tests of a guard.
+pub const MOST_TESTS: usize = 16;
+
 /// The most that a history weighs: each entry 1, and 1 for each of its reactions.
 pub const MOST_WEIGHT: u64 = 4_000_000;

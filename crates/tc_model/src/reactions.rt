@@ -1,6 +1,8 @@
-//! Reactions, and the list of them that programs a centre.
-ghost use Rattle.std.specs.Prelude.{◌≡◌, ◌<◌, ◌++◌, ◌∷◌, [], length, IfOk};
+//! Reactions with their guards, and the list of them that programs a centre.
+ghost use Rattle.std.specs.Prelude.{◌≡◌, ◌<◌, ◌++◌, ◌∷◌, [], length, IfNone, IfOk, IfSome};
 ghost use Rattle.std.specs.Prelude.{OnOk, OnErr};
+ghost use Rattle.tc_model.specs.Reactions.{test_name};
+ghost use Rattle.tc_model.specs.declared.reactions.GuardTest.{GuardTest};
 
 use crate::events::EventOp;
 use crate::goals::Goal;
@@ -10,16 +12,73 @@ use std::marker::Model;
 use tc_lists::NoMemory;
 use tc_term::Term;
 
-/// A reaction: the clause `reaction(Head,Body)`, which runs its goals where an event meets its
-/// head.
+/// A test of a guard: what the event must be for its clause to be triggered.
+#[derive(Clone, Copy, Debug, PartialEq, Eq)]
+pub enum GuardTest {
+    /// `request`: the event is a request.
+    Request,
+    /// `response`: the event is an answer.
+    Response,
+    /// `success`: the operation succeeded.
+    Success,
+    /// `failure`: it found no tuple.
+    Failure,
+}
+
+impl GuardTest {
+    ghost use Rattle.tc_model.specs.Reactions.{test_name};
+
+    /// Its name, as guards write it.
+    pub fn name(&self) -> &'static [u8]
+        ensures { result.now ≡ test_name self.now }
+    {
+        match self {
+            GuardTest::Request => b"request",
+            GuardTest::Response => b"response",
+            GuardTest::Success => b"success",
+            GuardTest::Failure => b"failure",
+        }
+    }
+}
+
+/// The test of this name, if there is one. No memory is taken.
+pub fn test_of(name: &[u8]) -> Option<GuardTest>
+    ensures found { IfSome result (λ t. test_name t ≡ name.now) }
+    ensures none { IfNone result ((t : GuardTest) → test_name t ≡ name.now → ⊥) }
+{
+    if name == GuardTest::Request.name() {
+        Some(GuardTest::Request)
+    } else if name == GuardTest::Response.name() {
+        Some(GuardTest::Response)
+    } else if name == GuardTest::Success.name() {
+        Some(GuardTest::Success)
+    } else if name == GuardTest::Failure.name() {
+        Some(GuardTest::Failure)
+    } else {
+        None
+    }
+}
+
+/// How many arguments the clause of a reaction has: without a guard two, and with one three, in
+/// which goals that work on tuples have other names.
+#[derive(Clone, Copy, Debug, PartialEq, Eq)]
+pub enum Form {
+    Two,
+    Three,
+}
+
+/// A reaction: the clause `reaction(Head,Body)` or `reaction(Head,Guard,Body)`, which runs its goals
+/// where an event meets its head and all tests of its guard hold.
 ///
-/// Its variables are numbered by first appearance in the clause. It has 1 to 64 goals, and the text
-/// of its clause can be read back.
+/// Its variables are numbered by first appearance in the clause. It has 1 to 64 goals and, where its
+/// clause has three arguments, up to 16 tests; the text of its clause can be read back.
 #[derive(Drop)]
 pub struct Reaction {
     vars: u32,
+    form: Form,
     op: EventOp,
     head: Term,
+    guard: Vec<GuardTest>,
     goals: Vec<Goal>,
 }
 
@@ -43,17 +102,38 @@ impl Reaction {
     ghost use Rattle.tc_term.specs.TreeView.{tree_of};
     ghost use Rattle.tc_model.specs.Reactions.{IsRule};
 
-    /// The reaction to an operation's events whose term meets the head.
-    pub fn new(vars: u32, op: EventOp, head: Term, goals: Vec<Goal>) -> Reaction
-        requires { IsRule
-            (record { vars = vars; op = op; head = tree_of head; goals = goals.items }) }
-        ensures { result
-            ≡ record { vars = vars; op = op; head = tree_of head; goals = goals.items } }
+    /// The reaction to an operation's events whose term meets the head, and of which the tests hold.
+    pub fn new(
+        vars: u32,
+        form: Form,
+        op: EventOp,
+        head: Term,
+        guard: Vec<GuardTest>,
+        goals: Vec<Goal>,
+    ) -> Reaction
+        requires { IsRule (record {
+          vars = vars;
+          form = form;
+          op = op;
+          head = tree_of head;
+          guard = guard.items;
+          goals = goals.items;
+        }) }
+        ensures { result ≡ record {
+          vars = vars;
+          form = form;
+          op = op;
+          head = tree_of head;
+          guard = guard.items;
+          goals = goals.items;
+        } }
     {
         Reaction {
             vars,
+            form,
             op,
             head,
+            guard,
             goals,
         }
     }
@@ -64,6 +144,14 @@ impl Reaction {
         ensures rule { IsRule self.now }
     {
         self.vars
+    }
+
+    /// How many arguments its clause has.
+    pub fn form(&self) -> Form
+        ensures form { result ≡ self.now.form }
+        ensures rule { IsRule self.now }
+    {
+        self.form
     }
 
     /// The operation whose events trigger the reaction.
@@ -82,6 +170,14 @@ impl Reaction {
         &self.head
     }
 
+    /// The tests of its guard, in order; a clause of two arguments has none.
+    pub fn guard(&self) -> &[GuardTest]
+        ensures guard { result.now ≡ self.now.guard }
+        ensures rule { IsRule self.now }
+    {
+        &self.guard
+    }
+
     /// The goals, in order.
     pub fn goals(&self) -> &[Goal]
         ensures goals { result.now ≡ self.now.goals }
@@ -96,11 +192,22 @@ impl Reaction {
     {
         Ok(Reaction {
             vars: self.vars,
+            form: self.form,
             op: self.op,
             head: self.head.copy(alloc)?,
+            guard: copy_tests(alloc, &self.guard)?,
             goals: copy_goals(alloc, &self.goals)?,
         })
     }
+}
+
+// Each test, in order.
+fn copy_tests(alloc: Global, tests: &[GuardTest]) -> Result<Vec<GuardTest>, NoMemory>
+    ensures { IfOk result (λ copies. copies.items ≡ tests.now) }
+{
+    let mut copies = Vec::new(alloc);
+    copies.extend_from_slice(tests)?;
+    Ok(copies)
 }
 
 // Each goal, in order.

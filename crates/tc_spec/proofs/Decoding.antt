@@ -8,16 +8,19 @@ use Rattle.tc_term.specs.declared.comparison.Cmp.TheVariants as cmp
 use Rattle.tc_term.specs.declared.terms.Term.{Term}
 use Rattle.tc_term.proofs.TreeTerms.{term_of, term_of-tree_of}
 use Rattle.tc_model.specs.Events.{op_name}
-use Rattle.tc_model.specs.Reactions.{Rule, goal_term, of_one}
+use Rattle.tc_model.specs.Reactions.{Rule, goal_op_name, goal_term, of_one}
 use Rattle.tc_model.specs.declared.events.EventOp.{EventOp}
 use Rattle.tc_model.specs.declared.events.EventOp.TheVariants as op
 use Rattle.tc_model.specs.declared.goals.Goal.{Goal}
-use Rattle.tc_spec.proofs.Exact.{one_head, same_clause, same_goals}
+use Rattle.tc_model.specs.declared.reactions.Form.{Form}
+use Rattle.tc_model.specs.declared.reactions.Form.TheVariants.{Two, Three}
+use Rattle.tc_model.specs.declared.reactions.GuardTest.{GuardTest}
+use Rattle.tc_spec.proofs.Exact.{one_way, same_clause, same_goals}
 use Rattle.tc_spec.specs.Written.{IsWrittenAs}
 use Rattle.tc_spec.specs.declared.faults.ReactionFault.{ReactionFault}
 use Rattle.tc_model.specs.declared.goals.Goal.TheVariants.{OutR, InR, RdR, NoR, Pre, Post, Success, Failure, True, Agent, Centre, Operation, Tuple, Equal, Differ, Is, Compare}
 
--- the goal of a name, of a name and one term, of a name and two
+-- the goal of a name, of a name and one term, of a name and two, in a clause of a form
 abbrev atom_goal : List ℕ → Goal
 atom_goal name =
     if bytes_eq name (codes "pre") then Pre
@@ -25,12 +28,12 @@ atom_goal name =
     else (if bytes_eq name (codes "success") then Success
     else (if bytes_eq name (codes "failure") then Failure else True)))
 
-abbrev one_goal : List ℕ → Term → Goal
-one_goal name t =
-    if bytes_eq name (codes "out_r") then OutR t
-    else (if bytes_eq name (codes "in_r") then InR t
-    else (if bytes_eq name (codes "rd_r") then RdR t
-    else (if bytes_eq name (codes "no_r") then NoR t
+abbrev one_goal : Form → List ℕ → Term → Goal
+one_goal f name t =
+    if bytes_eq name (goal_op_name f op.OutR) then OutR t
+    else (if bytes_eq name (goal_op_name f op.InR) then InR t
+    else (if bytes_eq name (goal_op_name f op.RdR) then RdR t
+    else (if bytes_eq name (goal_op_name f op.NoR) then NoR t
     else (if bytes_eq name (codes "current_agent") then Agent t
     else (if bytes_eq name (codes "current_tc") then Centre t
     else (if bytes_eq name (codes "current_op") then Operation t else Tuple t))))))
@@ -46,46 +49,55 @@ two_goal name s t =
     else (if bytes_eq name (codes ">") then Compare cmp.Gt s t
     else (if bytes_eq name (codes "=<") then Compare cmp.Le s t else Compare cmp.Ge s t)))))))
 
-abbrev goal_of : Tree → Goal
-goal_of (Atomic name) = atom_goal name
-goal_of (Compound name (Last t)) = one_goal name (term_of t)
-goal_of (Compound name (More s (Last t))) = two_goal name (term_of s) (term_of t)
-goal_of _ = True
+abbrev goal_of : Form → Tree → Goal
+goal_of f (Atomic name) = atom_goal name
+goal_of f (Compound name (Last t)) = one_goal f name (term_of t)
+goal_of f (Compound name (More s (Last t))) = two_goal name (term_of s) (term_of t)
+goal_of f _ = True
 
 two_terms : (f : Term → Term → Goal) (s t : Term) → f (term_of (tree_of s)) (term_of (tree_of t)) ≡ f s t
 two_terms f s t = ap (λ x. f x (term_of (tree_of t))) (term_of-tree_of s) ∙ ap (f s) (term_of-tree_of t)
 
-goal_of-term : (g : Goal) → goal_of (goal_term g) ≡ g
-goal_of-term (OutR t) = ap OutR (term_of-tree_of t)
-goal_of-term (InR t) = ap InR (term_of-tree_of t)
-goal_of-term (RdR t) = ap RdR (term_of-tree_of t)
-goal_of-term (NoR t) = ap NoR (term_of-tree_of t)
-goal_of-term Pre = refl
-goal_of-term Post = refl
-goal_of-term Success = refl
-goal_of-term Failure = refl
-goal_of-term True = refl
-goal_of-term (Agent t) = ap Agent (term_of-tree_of t)
-goal_of-term (Centre t) = ap Centre (term_of-tree_of t)
-goal_of-term (Operation t) = ap Operation (term_of-tree_of t)
-goal_of-term (Tuple t) = ap Tuple (term_of-tree_of t)
-goal_of-term (Equal s t) = two_terms Equal s t
-goal_of-term (Differ s t) = two_terms Differ s t
-goal_of-term (Is s t) = two_terms Is s t
-goal_of-term (Compare cmp.Eq s t) = two_terms (Compare cmp.Eq) s t
-goal_of-term (Compare cmp.Ne s t) = two_terms (Compare cmp.Ne) s t
-goal_of-term (Compare cmp.Lt s t) = two_terms (Compare cmp.Lt) s t
-goal_of-term (Compare cmp.Gt s t) = two_terms (Compare cmp.Gt) s t
-goal_of-term (Compare cmp.Le s t) = two_terms (Compare cmp.Le) s t
-goal_of-term (Compare cmp.Ge s t) = two_terms (Compare cmp.Ge) s t
+goal_of-term : (f : Form) (g : Goal) → goal_of f (goal_term f g) ≡ g
+goal_of-term Two (OutR t) = ap OutR (term_of-tree_of t)
+goal_of-term Two (InR t) = ap InR (term_of-tree_of t)
+goal_of-term Two (RdR t) = ap RdR (term_of-tree_of t)
+goal_of-term Two (NoR t) = ap NoR (term_of-tree_of t)
+goal_of-term Two (Agent t) = ap Agent (term_of-tree_of t)
+goal_of-term Two (Centre t) = ap Centre (term_of-tree_of t)
+goal_of-term Two (Operation t) = ap Operation (term_of-tree_of t)
+goal_of-term Two (Tuple t) = ap Tuple (term_of-tree_of t)
+goal_of-term Three (OutR t) = ap OutR (term_of-tree_of t)
+goal_of-term Three (InR t) = ap InR (term_of-tree_of t)
+goal_of-term Three (RdR t) = ap RdR (term_of-tree_of t)
+goal_of-term Three (NoR t) = ap NoR (term_of-tree_of t)
+goal_of-term Three (Agent t) = ap Agent (term_of-tree_of t)
+goal_of-term Three (Centre t) = ap Centre (term_of-tree_of t)
+goal_of-term Three (Operation t) = ap Operation (term_of-tree_of t)
+goal_of-term Three (Tuple t) = ap Tuple (term_of-tree_of t)
+goal_of-term f Pre = refl
+goal_of-term f Post = refl
+goal_of-term f Success = refl
+goal_of-term f Failure = refl
+goal_of-term f True = refl
+goal_of-term f (Equal s t) = two_terms Equal s t
+goal_of-term f (Differ s t) = two_terms Differ s t
+goal_of-term f (Is s t) = two_terms Is s t
+goal_of-term f (Compare cmp.Eq s t) = two_terms (Compare cmp.Eq) s t
+goal_of-term f (Compare cmp.Ne s t) = two_terms (Compare cmp.Ne) s t
+goal_of-term f (Compare cmp.Lt s t) = two_terms (Compare cmp.Lt) s t
+goal_of-term f (Compare cmp.Gt s t) = two_terms (Compare cmp.Gt) s t
+goal_of-term f (Compare cmp.Le s t) = two_terms (Compare cmp.Le) s t
+goal_of-term f (Compare cmp.Ge s t) = two_terms (Compare cmp.Ge) s t
 
 -- goals that are written the same are the same
-goals_of-terms : (gs : List Goal) → map goal_of (map goal_term gs) ≡ gs
-goals_of-terms [] = refl
-goals_of-terms (g ∷ gs) = ap (λ f. f ∷ map goal_of (map goal_term gs)) (goal_of-term g) ∙ ap (λ fs. g ∷ fs) (goals_of-terms gs)
+goals_of-terms : (f : Form) (gs : List Goal) → map (goal_of f) (map (goal_term f) gs) ≡ gs
+goals_of-terms f [] = refl
+goals_of-terms f (g ∷ gs) =
+    ap (λ h. h ∷ map (goal_of f) (map (goal_term f) gs)) (goal_of-term f g) ∙ ap (λ hs. g ∷ hs) (goals_of-terms f gs)
 
-pub goal_terms-injective : (gs fs : List Goal) → map goal_term gs ≡ map goal_term fs → gs ≡ fs
-goal_terms-injective gs fs same = sym (goals_of-terms gs) ∙ ap (map goal_of) same ∙ goals_of-terms fs
+pub goal_terms-injective : (f : Form) (gs hs : List Goal) → map (goal_term f) gs ≡ map (goal_term f) hs → gs ≡ hs
+goal_terms-injective f gs hs same = sym (goals_of-terms f gs) ∙ ap (map (goal_of f)) same ∙ goals_of-terms f hs
 
 -- the operation of a name
 abbrev op_of : List ℕ → EventOp
@@ -120,24 +132,25 @@ one_op o p a b same = cc
 one_argument : (o p : List ℕ) (a b : Tree) → of_one o a ≡ of_one p b → a ≡ b
 one_argument o p a b same = cc
 
-abbrev rule : ℕ → EventOp → Tree → List Goal → Rule
-rule vars op head goals = record { vars = vars; op = op; head = head; goals = goals }
+abbrev rule : ℕ → Form → EventOp → Tree → List GuardTest → List Goal → Rule
+rule vars form op head guard goals = record { vars = vars; form = form; op = op; head = head; guard = guard; goals = goals }
 
-rule_parts : (r q : Rule) → r.vars ≡ q.vars → r.op ≡ q.op → r.head ≡ q.head → r.goals ≡ q.goals → r ≡ q
-rule_parts r q vars op head goals =
-    ap (λ n. rule n r.op r.head r.goals) vars ∙ ap (λ o. rule q.vars o r.head r.goals) op
-    ∙ ap₂ (rule q.vars q.op) head goals
+rule_parts : (r q : Rule) → r.vars ≡ q.vars → r.form ≡ q.form → r.op ≡ q.op → r.head ≡ q.head → r.guard ≡ q.guard
+    → r.goals ≡ q.goals → r ≡ q
+rule_parts r q vars form op head guard goals =
+    ap (λ n. rule n r.form r.op r.head r.guard r.goals) vars ∙ ap (λ f. rule q.vars f r.op r.head r.guard r.goals) form
+    ∙ ap (λ o. rule q.vars q.form o r.head r.guard r.goals) op ∙ ap (λ h. rule q.vars q.form q.op h r.guard r.goals) head
+    ∙ ap₂ (rule q.vars q.form q.op q.head) guard goals
 
 pub one_rule : (t : Tree) (r q : Rule) → IsWrittenAs t r → IsWrittenAs t q → r ≡ q
 one_rule t r q w v =
-    let heads : of_one (op_name r.op) r.head ≡ of_one (op_name q.op) q.head =
-    one_head (of_one (op_name r.op) r.head) w.spells.body (of_one (op_name q.op) q.head) v.spells.body
-    (sym w.spells.parts ∙ v.spells.parts) in
+    let same = one_way t r q w.spells v.spells in
     rule_parts r q
-    (w.rule.vars ∙ ap (λ u. length (variables u)) (same_clause t r q w.spells v.spells) ∙ sym v.rule.vars)
-    (op_name-injective r.op q.op (one_op (op_name r.op) (op_name q.op) r.head q.head heads))
-    (one_argument (op_name r.op) (op_name q.op) r.head q.head heads)
-    (goal_terms-injective r.goals q.goals (same_goals t r q w.spells v.spells))
+    (w.rule.vars ∙ ap (λ u. length (variables u)) (same_clause t r q w.spells v.spells) ∙ sym v.rule.vars) same.form
+    (op_name-injective r.op q.op (one_op (op_name r.op) (op_name q.op) r.head q.head same.head))
+    (one_argument (op_name r.op) (op_name q.op) r.head q.head same.head) same.guard
+    (goal_terms-injective r.form r.goals q.goals
+    (same_goals t r q w.spells v.spells ∙ ap (λ (f : Form). map (goal_term f) q.goals) (sym same.form)))
 
 pub same_by : (t : Tree) (x : Result Rule ReactionFault) → IfOk x (IsWrittenAs t)
     → (r : Rule) → IsWrittenAs t r → IfOk x (λ q. q ≡ r)

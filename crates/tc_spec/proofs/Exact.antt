@@ -5,63 +5,69 @@ use Rattle.std.proofs.lemmas.List.Elements.{All-nil, All-cons}
 use Rattle.tc_term.specs.Tree.{Tree}
 use Rattle.tc_term.specs.Readable.{IsReadable}
 use Rattle.tc_model.specs.Events.{op_name}
-use Rattle.tc_model.specs.Reactions.{Rule, of_one, of_two, goal_term, clause_term}
-use Rattle.tc_model.specs.declared.events.EventOp.{EventOp}
+use Rattle.tc_model.specs.Reactions.{Rule, of_one, guard_term, goal_term, body_term, clause_term}
 use Rattle.tc_model.specs.declared.faults.SpecCause.{SpecCause}
 use Rattle.tc_model.specs.declared.faults.SpecCause.TheVariants as cause
 use Rattle.tc_model.specs.declared.goals.Goal.{Goal}
+use Rattle.tc_model.specs.declared.reactions.Form.{Form}
 use Rattle.tc_spec.proofs.Nesting.{body-nested}
+use Rattle.tc_spec.proofs.Shapes.{AreSame, one_shape, same_parts}
 use Rattle.tc_spec.specs.Answers.{IsReactionFault, IsThisCause, IsReactionWant}
-use Rattle.tc_spec.specs.Written.{IsGoalTerm, IsCausedBy, IsWrittenAs, SpellsRule, leaves, nested, clause_of_parts}
+use Rattle.tc_spec.specs.Written.{IsGoalTerm, IsCausedBy, IsWrittenAs, SpellsRule, leaves, nested}
 use Rattle.tc_spec.specs.declared.faults.ReactionFault.{ReactionFault}
 use Rattle.tc_spec.specs.declared.faults.ReactionFault.TheVariants as fault
 
--- a reaction has one head and one body
-pub one_head : (h b g d : Tree) → of_two (codes "reaction") h b ≡ of_two (codes "reaction") g d → h ≡ g
-one_head h b g d same = cc
+-- what is spelt is shaped as a clause, in one way
+abbrev pub AreOneShape : Tree → Rule → Rule → (b d : Tree) → Type 0
+AreOneShape t r q b d =
+    AreSame r.form q.form (of_one (op_name r.op) r.head) (of_one (op_name q.op) q.head) r.guard q.guard b d
 
-one_body : (h b g d : Tree) → of_two (codes "reaction") h b ≡ of_two (codes "reaction") g d → b ≡ d
-one_body h b g d same = cc
+pub one_way : (t : Tree) (r q : Rule) (s : SpellsRule t r) (p : SpellsRule t q) → AreOneShape t r q s.body p.body
+one_way t r q s p =
+    one_shape t r.form q.form (of_one (op_name r.op) r.head) (of_one (op_name q.op) q.head) r.guard q.guard s.body p.body s.parts p.parts
 
--- what is spelt has the parts of a clause, and goals for leaves
-shape_parts : (t a b : Tree) (o : EventOp) → t ≡ clause_of_parts o a b → IsCausedBy t cause.Shape → ⊥
-shape_parts t a b o parts none = none (of_one (op_name o) a) b parts
+pub shape_spells : (t : Tree) (r : Rule) → SpellsRule t r → IsCausedBy t cause.Shape → ⊥
+shape_spells t r s none = none r.form (of_one (op_name r.op) r.head) r.guard s.body s.parts
 
-head_parts : (t a b : Tree) (o : EventOp) → t ≡ clause_of_parts o a b → IsCausedBy t cause.Head → ⊥
-head_parts t a b o parts why =
-    why.3 o a (one_head why.0 why.1 (of_one (op_name o) a) b (sym why.2 ∙ parts))
+pub head_spells : (t : Tree) (r : Rule) → SpellsRule t r → IsCausedBy t cause.Head → ⊥
+head_spells t r s why =
+    why.none r.op r.head
+    (one_shape t why.form r.form why.head (of_one (op_name r.op) r.head) why.guard r.guard why.body s.body why.shaped s.parts).head
 
-goal_terms : (gs : List Goal) → All IsGoalTerm (map goal_term gs)
-goal_terms [] = All-nil IsGoalTerm
-goal_terms (g ∷ gs) = All-cons IsGoalTerm (goal_term g) (map goal_term gs) (g, refl) (goal_terms gs)
+goal_terms : (f : Form) (gs : List Goal) → All (IsGoalTerm f) (map (goal_term f) gs)
+goal_terms f [] = All-nil (IsGoalTerm f)
+goal_terms f (g ∷ gs) = All-cons (IsGoalTerm f) (goal_term f g) (map (goal_term f) gs) (g, refl) (goal_terms f gs)
 
 pub goal_spells : (t : Tree) (r : Rule) → SpellsRule t r → IsCausedBy t cause.Goal → ⊥
 goal_spells t r s why =
-    let body : s.body ≡ why.2 =
-    one_body (of_one (op_name r.op) r.head) s.body (of_one (op_name why.0) why.1) why.2 (sym s.parts ∙ why.3) in
-    why.4 (subst (All IsGoalTerm) (sym s.goals ∙ ap leaves body) (goal_terms r.goals))
+    let same =
+    one_shape t r.form why.form (of_one (op_name r.op) r.head) (of_one (op_name why.op) why.term) r.guard why.guard s.body why.body
+    s.parts why.shaped in
+    why.bad
+    (subst (λ (f : Form). All (IsGoalTerm f) (leaves why.body)) same.form
+    (subst (All (IsGoalTerm r.form)) (sym s.goals ∙ ap leaves same.body) (goal_terms r.form r.goals)))
 
 -- two rules that it spells have the same clause
-pub same_goals : (t : Tree) (r q : Rule) → SpellsRule t r → SpellsRule t q → map goal_term r.goals ≡ map goal_term q.goals
-same_goals t r q s p =
-    let body : s.body ≡ p.body =
-    one_body (of_one (op_name r.op) r.head) s.body (of_one (op_name q.op) q.head) p.body (sym s.parts ∙ p.parts) in
-    sym s.goals ∙ ap leaves body ∙ p.goals
+pub same_goals : (t : Tree) (r q : Rule) → SpellsRule t r → SpellsRule t q
+    → map (goal_term r.form) r.goals ≡ map (goal_term q.form) q.goals
+same_goals t r q s p = sym s.goals ∙ ap leaves (one_way t r q s p).body ∙ p.goals
 
 same_length : (t : Tree) (r q : Rule) → SpellsRule t r → SpellsRule t q → length r.goals ≡ length q.goals
-same_length t r q s p = omega (arith, ap length (same_goals t r q s p), length-map r.goals goal_term, length-map q.goals goal_term)
+same_length t r q s p =
+    omega (arith, ap length (same_goals t r q s p), length-map r.goals (goal_term r.form), length-map q.goals (goal_term q.form))
 
 pub same_clause : (t : Tree) (r q : Rule) → SpellsRule t r → SpellsRule t q → clause_term r ≡ clause_term q
 same_clause t r q s p =
-    ap₂ (of_two (codes "reaction"))
-    (one_head (of_one (op_name r.op) r.head) s.body (of_one (op_name q.op) q.head) p.body (sym s.parts ∙ p.parts))
-    (body-nested r.goals ∙ ap nested (same_goals t r q s p) ∙ sym (body-nested q.goals))
+    let same = one_way t r q s p in
+    same_parts r.form q.form (of_one (op_name r.op) r.head) (of_one (op_name q.op) q.head) (guard_term r.guard) (guard_term q.guard)
+    (body_term r.form r.goals) (body_term q.form q.goals) same.form same.head (ap guard_term same.guard)
+    (body-nested r.form r.goals ∙ ap nested (same_goals t r q s p) ∙ sym (body-nested q.form q.goals))
 
 -- no term is written as a rule and has a cause
 pub excluded : (t : Tree) (r : Rule) (why : SpecCause) → IsWrittenAs t r → IsCausedBy t why → ⊥
 excluded t r cause.Syntax w h = h
-excluded t r cause.Shape w h = shape_parts t r.head w.spells.body r.op w.spells.parts h
-excluded t r cause.Head w h = head_parts t r.head w.spells.body r.op w.spells.parts h
+excluded t r cause.Shape w h = shape_spells t r w.spells h
+excluded t r cause.Head w h = head_spells t r w.spells h
 excluded t r cause.Goal w h = goal_spells t r w.spells h
 excluded t r cause.Count w h = absurd (omega (arith, h.2, w.rule.most, same_length t r h.0 w.spells h.1))
 excluded t r cause.Size w h = h.3 (subst IsReadable (same_clause t r h.0 w.spells h.1) w.rule.clause)
@@ -71,19 +77,15 @@ count_size : (t : Tree) → IsCausedBy t cause.Count → IsCausedBy t cause.Size
 count_size t h k = absurd (omega (arith, h.2, k.2, same_length t h.0 k.0 h.1 k.1))
 
 shape_head : (t : Tree) → IsCausedBy t cause.Shape → IsCausedBy t cause.Head → ⊥
-shape_head t h k = h k.0 k.1 k.2
+shape_head t h k = h k.form k.head k.guard k.body k.shaped
 
 shape_goal : (t : Tree) → IsCausedBy t cause.Shape → IsCausedBy t cause.Goal → ⊥
-shape_goal t h k = shape_parts t k.1 k.2 k.0 k.3 h
+shape_goal t h k = h k.form (of_one (op_name k.op) k.term) k.guard k.body k.shaped
 
 head_goal : (t : Tree) → IsCausedBy t cause.Head → IsCausedBy t cause.Goal → ⊥
-head_goal t h k = head_parts t k.1 k.2 k.0 k.3 h
-
-pub shape_spells : (t : Tree) (r : Rule) → SpellsRule t r → IsCausedBy t cause.Shape → ⊥
-shape_spells t r s h = shape_parts t r.head s.body r.op s.parts h
-
-pub head_spells : (t : Tree) (r : Rule) → SpellsRule t r → IsCausedBy t cause.Head → ⊥
-head_spells t r s h = head_parts t r.head s.body r.op s.parts h
+head_goal t h k =
+    h.none k.op k.term
+    (one_shape t h.form k.form h.head (of_one (op_name k.op) k.term) h.guard k.guard h.body k.body h.shaped k.shaped).head
 
 pub same_cause : (t : Tree) (c d : SpecCause) → IsCausedBy t c → IsCausedBy t d → c ≡ d
 same_cause t cause.Syntax d h k = absurd h

@@ -4,6 +4,8 @@ pub mod Tables
 pub mod Failing
 pub mod Pairs
 pub mod Commas
+pub mod Shapes
+pub mod Tests
 pub mod Opened
 pub mod Spelling
 pub mod Answered

@@ -1,5 +1,5 @@
 -- No term is neither written as a rule nor has a cause, and no text is neither spelt nor faulty.
-use Rattle.std.proofs.Common.{◌≡◌, ◌<◌, ◌≤◌, ℕ, List, [], ◌∷◌, ◌++◌, All, length, map, inl, inr, refl, sym, ap, ap₂, ◌∙◌, ⊎_elim, codes, arith}
+use Rattle.std.proofs.Common.{◌≡◌, ◌<◌, ◌≤◌, ℕ, List, [], ◌∷◌, ◌++◌, All, length, map, inl, inr, refl, sym, ap, ap₂, subst, ◌∙◌, ⊎_elim, codes, arith}
 use Rattle.std.proofs.lemmas.Bool.{cases_lt}
 use Rattle.std.proofs.lemmas.List.{length-map}
 use Rattle.std.proofs.lemmas.List.Elements.{All-head, All-tail}
@@ -8,39 +8,52 @@ use Rattle.tc_term.specs.Tree.{Tree}
 use Rattle.tc_term.specs.Variables.{variables}
 use Rattle.tc_read.specs.Clauses.{HasNoGap}
 use Rattle.tc_read.proofs.NoGap.{some_end}
-use Rattle.tc_model.specs.Reactions.{Rule, clause_term, goal_term, of_two}
+use Rattle.tc_model.specs.Events.{op_name}
+use Rattle.tc_model.specs.Reactions.{Rule, clause_term, goal_term, of_one}
 use Rattle.tc_model.specs.declared.events.EventOp.{EventOp}
 use Rattle.tc_model.specs.declared.faults.BadSpec.{BadSpec}
 use Rattle.tc_model.specs.declared.faults.SpecCause.{SpecCause}
 use Rattle.tc_model.specs.declared.faults.SpecCause.TheVariants as cause
 use Rattle.tc_model.specs.declared.goals.Goal.{Goal}
+use Rattle.tc_model.specs.declared.reactions.Form.{Form}
+use Rattle.tc_model.specs.declared.reactions.GuardTest.{GuardTest}
 use Rattle.tc_model.specs.declared.limits.TheConstants.{MOST_CLAUSES, MOST_GOALS}
 use Rattle.tc_spec.proofs.Commas.{leaves-some}
+use Rattle.tc_spec.proofs.Shapes.{few_tests}
 use Rattle.tc_spec.specs.Texts.{HasBadSpec, IsClauseRefused, IsSpelt, rules_language}
-use Rattle.tc_spec.specs.Written.{IsCausedBy, IsGoalTerm, IsWrittenAs, SpellsRule, clause_of_parts, leaves}
+use Rattle.tc_spec.specs.Written.{IsCausedBy, IsGoalTerm, IsShaped, IsWrittenAs, SpellsRule, leaves}
 
 -- the goals that terms of goals are written for
-goals_of : (ts : List Tree) → All IsGoalTerm ts → (gs : List Goal) × (ts ≡ map goal_term gs)
-goals_of [] all = ([], refl)
-goals_of (t ∷ ts) all =
-    let first = All-head IsGoalTerm t ts all in
-    let rest = goals_of ts (All-tail IsGoalTerm t ts all) in
+goals_of : (f : Form) (ts : List Tree) → All (IsGoalTerm f) ts → (gs : List Goal) × (ts ≡ map (goal_term f) gs)
+goals_of f [] all = ([], refl)
+goals_of f (t ∷ ts) all =
+    let first = All-head (IsGoalTerm f) t ts all in
+    let rest = goals_of f ts (All-tail (IsGoalTerm f) t ts all) in
     (first.0 ∷ rest.0, ap₂ (λ u us. u ∷ us) (sym first.1) rest.1)
 
--- a rule of this head and these goals, with the variables of its clause
-abbrev bare : EventOp → Tree → List Goal → Rule
-bare o a gs = record { vars = 0; op = o; head = a; goals = gs }
+-- a rule of this form, head, guard and goals, with the variables of its clause
+abbrev bare : Form → EventOp → Tree → List GuardTest → List Goal → Rule
+bare f o a guard gs = record { vars = 0; form = f; op = o; head = a; guard = guard; goals = gs }
 
-abbrev whole : EventOp → Tree → List Goal → Rule
-whole o a gs = record { vars = length (variables (clause_term (bare o a gs))); op = o; head = a; goals = gs }
+abbrev whole : Form → EventOp → Tree → List GuardTest → List Goal → Rule
+whole f o a guard gs = record {
+  vars = length (variables (clause_term (bare f o a guard gs)));
+  form = f;
+  op = o;
+  head = a;
+  guard = guard;
+  goals = gs;
+}
 
 -- a clause that spells a rule
-spelt_gap : (t : Tree) (o : EventOp) (a b : Tree) (gs : List Goal) → t ≡ clause_of_parts o a b → leaves b ≡ map goal_term gs
+spelt_gap : (t : Tree) (f : Form) (o : EventOp) (a : Tree) (guard : List GuardTest) (b : Tree) (gs : List Goal)
+    → IsShaped t f (of_one (op_name o) a) guard b → leaves b ≡ map (goal_term f) gs
     → ((r : Rule) → IsWrittenAs t r → ⊥) → ((why : SpecCause) → IsCausedBy t why → ⊥) → ⊥
-spelt_gap t o a b gs parts goals unwritten uncaused =
-    let r : Rule = whole o a gs in
+spelt_gap t f o a guard b gs parts goals unwritten uncaused =
+    let r : Rule = whole f o a guard gs in
     let spells : SpellsRule t r = record { body = b; parts = parts; goals = goals } in
-    let some : 1 ≤ length gs = omega (arith, leaves-some b, ap length goals, length-map gs goal_term) in
+    let some : 1 ≤ length gs = omega (arith, leaves-some b, ap length goals, length-map gs (goal_term f)) in
+    let tests = few_tests t f (of_one (op_name o) a) guard b parts in
     ⊎_elim
     (λ (many : MOST_GOALS < length gs). uncaused cause.Count (r, spells, many))
     (λ (few : length gs ≤ MOST_GOALS).
@@ -49,29 +62,36 @@ spelt_gap t o a b gs parts goals unwritten uncaused =
       spells,
       few,
       λ (readable : IsReadable (clause_term r)).
-          unwritten r (record { spells = spells; rule = record { some = some; most = few; clause = readable; vars = refl } }),
+          unwritten r (record {
+            spells = spells;
+            rule = record { some = some; most = few; guard = tests; clause = readable; vars = refl };
+          }),
     ))
     (cases_lt MOST_GOALS (length gs))
 
 pub term_gap : (t : Tree) → ((r : Rule) → IsWrittenAs t r → ⊥) → ((why : SpecCause) → IsCausedBy t why → ⊥) → ⊥
 term_gap t unwritten uncaused =
-    uncaused cause.Shape (λ h b two.
-    uncaused cause.Head (
-      h,
-      b,
-      two,
-      λ o a head.
-          let parts : t ≡ clause_of_parts o a b = two ∙ ap (λ u. of_two (codes "reaction") u b) head in
-          uncaused cause.Goal (
-            o,
-            a,
-            b,
-            parts,
-            λ all.
-                let goals = goals_of (leaves b) all in
-                spelt_gap t o a b goals.0 parts goals.1 unwritten uncaused,
-          ),
-    ))
+    uncaused cause.Shape (λ f h guard b shaped.
+    uncaused cause.Head (record {
+      form = f;
+      head = h;
+      guard = guard;
+      body = b;
+      shaped = shaped;
+      none = λ o a head.
+          let parts : IsShaped t f (of_one (op_name o) a) guard b = subst (λ u. IsShaped t f u guard b) head shaped in
+          uncaused cause.Goal (record {
+            form = f;
+            op = o;
+            term = a;
+            guard = guard;
+            body = b;
+            shaped = parts;
+            bad = λ all.
+                let goals = goals_of f (leaves b) all in
+                spelt_gap t f o a guard b goals.0 parts goals.1 unwritten uncaused;
+          });
+    }))
 
 -- a clause behind so many others, where its term has a cause
 cause_gap : (count : ℕ) (t : Tree) (why : SpecCause) → IsCausedBy t why → ((c : SpecCause) → IsClauseRefused count t c → ⊥) → ⊥

@@ -2,16 +2,20 @@
 use Rattle.std.proofs.Common.{◌≡◌, ◌<◌, ◌≤◌, ◌+◌, ◌++◌, ⊎_elim, ℕ, Bool, IsTrue, if◌then◌else◌, List, [], ◌∷◌, Option, Some, length, length-append, map, get_or, sym, ap, subst, ◌∙◌, arith}
 use Rattle.std.proofs.lemmas.Bool.{cases_lt}
 use Rattle.std.proofs.lemmas.List.{get_or-map, get_or_append_left, get_or_push, length-map}
-use Rattle.std.specs.declared.vec.Vec.{Vec}
 use Rattle.tc_term.specs.Tree.{Tree, Atomic}
 use Rattle.tc_model.specs.Events.{Occurrence}
 use Rattle.tc_model.specs.Reactions.{Rule}
 use Rattle.tc_model.specs.declared.events.EventOp.{EventOp}
 use Rattle.tc_model.specs.declared.events.EventOp.TheVariants as op
+use Rattle.tc_model.specs.declared.events.Phase.{Phase}
+use Rattle.tc_model.specs.declared.events.Sign.{Sign}
+use Rattle.tc_model.specs.declared.reactions.Form.TheVariants as form
 use Rattle.tc_spec.proofs.Apart.{part-triggered}
 use Rattle.tc_spec.proofs.Sifting.{HasClause, IsKept, all_numbers, clause_at, rule_kept}
 use Rattle.tc_spec.specs.Codes.{is_in, part_in, rule_part}
-use Rattle.tc_spec.specs.Indexed.{AreEnough, AreInPart, AreParts}
+use Rattle.tc_spec.proofs.Tests.{allows-held}
+use Rattle.tc_spec.specs.Indexed.{AreEnough, AreInPart, AreInPartAt, AreParts, IsPart}
+use Rattle.tc_spec.specs.declared.parts.Part.{Part}
 
 -- the rule is in this part of so many
 abbrev pub InPart : ℕ → ℕ → Rule → Type 0
@@ -19,7 +23,7 @@ InPart count part r = IsTrue (is_in (rule_part count r) part)
 
 -- some rule
 abbrev some_rule : Rule
-some_rule = record { vars = 0; op = op.Out; head = Atomic []; goals = [] }
+some_rule = record { vars = 0; form = form.Two; op = op.Out; head = Atomic []; guard = []; goals = [] }
 
 pub place_kept : (count part : ℕ) (clauses : List Rule) (places : List (Option ℕ)) (found new : List ℕ) (i : ℕ) (place d : Option ℕ)
     (keep : Bool) → places ≡ map (rule_part count) clauses → i < length places → place ≡ get_or places i d
@@ -44,51 +48,54 @@ all_places count part clauses places numbers i are all h =
     (all ∙ ap length are ∙ length-map clauses (rule_part count)) h)
 
 -- the first parts of so many are made
-pub record ArePartsTo {X : Type 0} (clauses : List Rule) (count : ℕ) (parts : List (Vec ℕ X)) (done : ℕ) : Type 0 where
+pub record ArePartsTo (clauses : List Rule) (count : ℕ) (parts : List Part) (done : ℕ) : Type 0 where
   pub made : length parts ≡ done
-  pub each : (part : ℕ) (d : Vec ℕ X) → part < done → AreInPart count part clauses (get_or parts part d).items
+  pub each : (part : ℕ) (d : Part) → part < done → IsPart count part clauses (get_or parts part d)
 
-module _ {X : Type 0} (clauses : List Rule) (count : ℕ) where
-  pub parts_none : (parts : List (Vec ℕ X)) → parts ≡ [] → ArePartsTo clauses count parts 0
+module _ (clauses : List Rule) (count : ℕ) where
+  pub parts_none : (parts : List Part) → parts ≡ [] → ArePartsTo clauses count parts 0
   parts_none parts none = record {
     made = ap length none;
     each = λ part d before. absurd (omega (arith, before));
   }
 
-  pub parts_more : (old new : List (Vec ℕ X)) (numbers : Vec ℕ X) (done : ℕ) → ArePartsTo clauses count old done
-      → AreInPart count done clauses numbers.items → new ≡ old ++ numbers ∷ [] → ArePartsTo clauses count new (done + 1)
-  parts_more old new numbers done h these is = subst (λ parts. ArePartsTo clauses count parts (done + 1)) (sym is) (record {
-    made = omega (arith, h.made, length-append old (numbers ∷ []));
+  pub parts_more : (old new : List Part) (p : Part) (done : ℕ) → ArePartsTo clauses count old done
+      → IsPart count done clauses p → new ≡ old ++ p ∷ [] → ArePartsTo clauses count new (done + 1)
+  parts_more old new p done h this is = subst (λ parts. ArePartsTo clauses count parts (done + 1)) (sym is) (record {
+    made = omega (arith, h.made, length-append old (p ∷ []));
     each = λ part d before.
         ⊎_elim
         (λ (less : part < done).
-        subst (λ (v : Vec ℕ X). AreInPart count part clauses v.items)
-        (sym (get_or_append_left old (numbers ∷ []) d part (omega (arith, less, h.made)))) (h.each part d less))
+        subst (λ (v : Part). IsPart count part clauses v)
+        (sym (get_or_append_left old (p ∷ []) d part (omega (arith, less, h.made)))) (h.each part d less))
         (λ (most : done ≤ part).
         let last : part ≡ done = omega (arith, most, before) in
-        subst (λ (v : Vec ℕ X). AreInPart count part clauses v.items)
-        (sym (get_or_push old numbers d part (h.made ∙ sym last)))
-        (subst (λ k. AreInPart count k clauses numbers.items) (sym last) these))
+        subst (λ (v : Part). IsPart count part clauses v)
+        (sym (get_or_push old p d part (h.made ∙ sym last)))
+        (subst (λ k. IsPart count k clauses p) (sym last) this))
         (cases_lt part done);
   })
 
-  pub parts_all : (parts : List (Vec ℕ X)) (done : ℕ) → ArePartsTo clauses count parts done → done ≡ count → 0 < count
+  pub parts_all : (parts : List Part) (done : ℕ) → ArePartsTo clauses count parts done → done ≡ count → 0 < count
       → AreParts clauses parts
   parts_all parts done h all some =
       let same : count ≡ length parts = sym all ∙ sym h.made in
       record {
         some = subst (λ n. 0 < n) same some;
         each = λ part d inside.
-            subst (λ n. AreInPart n part clauses (get_or parts part d).items) same (h.each part d (omega (arith, inside, h.made)));
+            subst (λ n. IsPart n part clauses (get_or parts part d)) same (h.each part d (omega (arith, inside, h.made)));
       }
 
--- the part of an event is enough for it
-pub part_enough : (count part : ℕ) (clauses : List Rule) (e : Occurrence) (numbers : List ℕ) → AreInPart count part clauses numbers
-    → part_in count e.op e.term ≡ Some part → AreEnough clauses e numbers
-part_enough count part clauses e numbers those there = record {
+-- the numbers that an event finds in its part are enough for it
+pub part_enough : (count part : ℕ) (phase : Phase) (sign : Sign) (clauses : List Rule) (e : Occurrence) (numbers : List ℕ)
+    → AreInPartAt count part phase sign clauses numbers → part_in count e.op e.term ≡ Some part → phase ≡ e.phase → sign ≡ e.sign
+    → AreEnough clauses e numbers
+part_enough count part phase sign clauses e numbers those there ep es = record {
   rising = those.rising;
   only = those.only;
-  all = λ n r clause triggered. (those.exact n r clause).1 (part-triggered count part r e triggered there);
+  all = λ n r clause triggered.
+      (those.exact n r clause).1
+      (part-triggered count part r e triggered there, allows-held phase sign r.guard e ep es triggered.guard);
 }
 
 pub part_found : (count n part : ℕ) (o : EventOp) (e : Occurrence) (t : Tree) → n ≡ count → o ≡ e.op → t ≡ e.term

@@ -10,53 +10,61 @@ use Rattle.tc_term.specs.Text.{canonical}
 use Rattle.tc_term.specs.Tree.{Tree}
 use Rattle.tc_term.specs.Tokens.{Lexeme, SpellsToken, Word, Variable, Number, Quoted, Symbol, Punctuation, Open, Close, OpenList, CloseList, Comma, Bar}
 use Rattle.tc_term.specs.declared.comparison.Cmp.TheVariants as cmp
-use Rattle.tc_model.specs.Reactions.{AreClauses, IsRule, Rule, body_term, clause_term, clauses_text, goal_term}
+use Rattle.tc_model.specs.Events.{op_name}
+use Rattle.tc_model.specs.Reactions.{AreClauses, IsRule, Rule, body_term, clause_of_form, clause_term, clauses_text, goal_term, guard_term, of_one}
 use Rattle.tc_model.specs.declared.limits.TheConstants.{MOST_CLAUSES}
+use Rattle.tc_model.specs.declared.reactions.Form.{Form}
+use Rattle.tc_model.specs.declared.reactions.Form.TheVariants.{Two, Three}
 use Rattle.tc_model.specs.declared.goals.Goal.{Goal}
 use Rattle.tc_model.specs.declared.goals.Goal.TheVariants.{OutR, InR, RdR, NoR, Pre, Post, Success, Failure, True, Agent, Centre, Operation, Tuple, Equal, Differ, Is, Compare}
 use Rattle.tc_read.specs.Clauses.{AnswersAt, LeadsTo}
 use Rattle.tc_read.proofs.Blanks.{no_piece, no_piece_empty}
 use Rattle.tc_read.proofs.ReadBack.{clause-read-back}
+use Rattle.tc_spec.proofs.Shapes.{shaped}
 use Rattle.tc_spec.specs.TextAnswers.{IsClauseAt}
 use Rattle.tc_spec.specs.Texts.{IsNextRule, IsSpelt, rules_language}
 use Rattle.tc_spec.specs.Written.{IsWrittenAs, leaves}
 
 -- the leaves of a body are its goals
-leaves-goal : (g : Goal) → leaves (goal_term g) ≡ goal_term g ∷ []
-leaves-goal (OutR t) = refl
-leaves-goal (InR t) = refl
-leaves-goal (RdR t) = refl
-leaves-goal (NoR t) = refl
-leaves-goal Pre = refl
-leaves-goal Post = refl
-leaves-goal Success = refl
-leaves-goal Failure = refl
-leaves-goal True = refl
-leaves-goal (Agent t) = refl
-leaves-goal (Centre t) = refl
-leaves-goal (Operation t) = refl
-leaves-goal (Tuple t) = refl
-leaves-goal (Equal s t) = refl
-leaves-goal (Differ s t) = refl
-leaves-goal (Is s t) = refl
-leaves-goal (Compare cmp.Eq s t) = refl
-leaves-goal (Compare cmp.Ne s t) = refl
-leaves-goal (Compare cmp.Lt s t) = refl
-leaves-goal (Compare cmp.Gt s t) = refl
-leaves-goal (Compare cmp.Le s t) = refl
-leaves-goal (Compare cmp.Ge s t) = refl
+leaves-goal : (f : Form) (g : Goal) → leaves (goal_term f g) ≡ goal_term f g ∷ []
+leaves-goal f (OutR t) = refl
+leaves-goal f (InR t) = refl
+leaves-goal f (RdR t) = refl
+leaves-goal f (NoR t) = refl
+leaves-goal f Pre = refl
+leaves-goal f Post = refl
+leaves-goal f Success = refl
+leaves-goal f Failure = refl
+leaves-goal f True = refl
+leaves-goal f (Agent t) = refl
+leaves-goal f (Centre t) = refl
+leaves-goal f (Operation t) = refl
+leaves-goal f (Tuple t) = refl
+leaves-goal f (Equal s t) = refl
+leaves-goal f (Differ s t) = refl
+leaves-goal f (Is s t) = refl
+leaves-goal f (Compare cmp.Eq s t) = refl
+leaves-goal f (Compare cmp.Ne s t) = refl
+leaves-goal f (Compare cmp.Lt s t) = refl
+leaves-goal f (Compare cmp.Gt s t) = refl
+leaves-goal f (Compare cmp.Le s t) = refl
+leaves-goal f (Compare cmp.Ge s t) = refl
 
-leaves-body : (gs : List Goal) → 1 ≤ length gs → leaves (body_term gs) ≡ map goal_term gs
-leaves-body [] some = absurd (omega (arith, some))
-leaves-body (g ∷ []) some = leaves-goal g
-leaves-body (g ∷ h ∷ gs) some =
-    ap (λ ts. ts ++ leaves (body_term (h ∷ gs))) (leaves-goal g)
-    ∙ ap (λ ts. goal_term g ∷ ts) (leaves-body (h ∷ gs) (omega arith))
+leaves-body : (f : Form) (gs : List Goal) → 1 ≤ length gs → leaves (body_term f gs) ≡ map (goal_term f) gs
+leaves-body f [] some = absurd (omega (arith, some))
+leaves-body f (g ∷ []) some = leaves-goal f g
+leaves-body f (g ∷ h ∷ gs) some =
+    ap (λ ts. ts ++ leaves (body_term f (h ∷ gs))) (leaves-goal f g)
+    ∙ ap (λ ts. goal_term f g ∷ ts) (leaves-body f (h ∷ gs) (omega arith))
 
 -- a rule's clause is written as the rule
 written : (r : Rule) → IsRule r → IsWrittenAs (clause_term r) r
 written r rule = record {
-  spells = record { body = body_term r.goals; parts = refl; goals = leaves-body r.goals rule.some };
+  spells = record {
+    body = body_term r.form r.goals;
+    parts = shaped r.form (of_one (op_name r.op) r.head) r.guard (body_term r.form r.goals) rule.guard;
+    goals = leaves-body r.form r.goals rule.some;
+  };
   rule = rule;
 }
 
@@ -146,9 +154,15 @@ abbrev place_behind : ℕ → Rule → ℕ
 place_behind from r = from + length (canonical (clause_term r)) + 1
 
 -- it begins with the letter r
-begins : (r : Rule) (more : List ℕ) → clause_on r more ≡ 114 ∷ drop 1 (clause_on r more)
+begins_by : (f : Form) (h g b : Tree) (more : List ℕ)
+    → canonical (clause_of_form f h g b) ++ more ≡ 114 ∷ drop 1 (canonical (clause_of_form f h g b) ++ more)
 unfolding text.text_in
-begins r more = refl
+begins_by Two h g b more = refl
+begins_by Three h g b more = refl
+
+begins : (r : Rule) (more : List ℕ) → clause_on r more ≡ 114 ∷ drop 1 (clause_on r more)
+begins r more =
+    begins_by r.form (of_one (op_name r.op) r.head) (guard_term r.guard) (body_term r.form r.goals) (46 ∷ 10 ∷ more)
 
 text_on : (rs : List Rule) (r : Rule) → clauses_text (r ∷ rs) ≡ clause_on r (clauses_text rs)
 text_on rs r = append_assoc (canonical (clause_term r)) (codes ".\n") (clauses_text rs)

@@ -10,7 +10,7 @@ use Rattle.tc_model.specs.Events.{Occurrence}
 use Rattle.tc_model.specs.Reactions.{Rule}
 use Rattle.tc_model.specs.Triggers.{IsClause, IsTriggered, AreTriggered}
 use Rattle.tc_model.specs.declared.events.EventOp.{EventOp}
-use Rattle.tc_spec.specs.Numbers.{AreThose}
+use Rattle.tc_spec.specs.Numbers.{AreNumbers, AreThose}
 use Rattle.tc_spec.specs.Indexed.{AreEnough, AreOf, HasOp}
 
 -- of the first so many numbers, as f counts them off, those with the property are kept, in order
@@ -122,11 +122,18 @@ all_triggered clauses e numbers found of h = record {
   only = λ n inside. let from = h.from n inside in (from.3.0, from.3.1);
 }
 
+-- numbers that are enough, or those of some property, are numbers of clauses
+pub numbers_enough : (clauses : List Rule) (e : Occurrence) (numbers : List ℕ) → AreEnough clauses e numbers → AreNumbers clauses numbers
+numbers_enough clauses e numbers enough = record { rising = enough.rising; only = enough.only }
+
+pub numbers_those : (P : Rule → Type 0) (clauses : List Rule) (numbers : List ℕ) → AreThose P clauses numbers → AreNumbers clauses numbers
+numbers_those P clauses numbers those = record { rising = those.rising; only = those.only }
+
 -- the clause of the number at a place
-pub clause_of_number : (clauses : List Rule) (e : Occurrence) (numbers : List ℕ) (i d : ℕ) → AreEnough clauses e numbers
+pub clause_of_number : (clauses : List Rule) (numbers : List ℕ) (i d : ℕ) → AreNumbers clauses numbers
     → i < length numbers → (r : Rule) × IsClause clauses (get_or numbers i d) r
-clause_of_number clauses e numbers i d enough inside =
-    enough.only (get_or numbers i d) (Contains-get_or numbers i d inside)
+clause_of_number clauses numbers i d are inside =
+    are.only (get_or numbers i d) (Contains-get_or numbers i d inside)
 
 -- the clause that stands where its number says
 pub clause_read : (clauses : List Rule) (n : ℕ) (q r : Rule) → IsClause clauses n q → r ≡ get_or clauses (n - 1) r → IsClause clauses n r
@@ -156,27 +163,46 @@ op_kept o clauses found new i r keep inside is h same kept =
     rule_kept (λ q. q.op ≡ o) clauses found new i r keep
     (record { place = i; at = refl; stands = slice_get_read clauses (length clauses) i r refl inside is }) h same kept
 
--- a number is kept where the event triggers its clause
-pub number_kept : (e : Occurrence) (clauses : List Rule) (numbers found new : List ℕ) (i : ℕ) (r : Rule) (triggers : Bool)
-    → AreEnough clauses e numbers → i < length numbers → r ≡ get_or clauses (get_or numbers i 0 - 1) r
-    → IsKept (λ k. get_or numbers k 0) (HasClause clauses (λ q. IsTriggered q e)) i found
-    → (IsTrue triggers → IsTriggered r e) → (triggers ≡ false → IsTriggered r e → ⊥)
-    → new ≡ (if triggers then found ++ get_or numbers i 0 ∷ [] else found)
-    → IsKept (λ k. get_or numbers k 0) (HasClause clauses (λ q. IsTriggered q e)) (i + 1) new
-number_kept e clauses numbers found new i r triggers enough inside is h holds fails kept =
-    let there = clause_of_number clauses e numbers i 0 enough inside in
+-- a number is kept where its clause has the property
+pub number_kept : (Q : Rule → Type 0) (clauses : List Rule) (numbers found new : List ℕ) (i : ℕ) (r : Rule) (keep : Bool)
+    → AreNumbers clauses numbers → i < length numbers → r ≡ get_or clauses (get_or numbers i 0 - 1) r
+    → IsKept (λ k. get_or numbers k 0) (HasClause clauses Q) i found
+    → (IsTrue keep → Q r) → (keep ≡ false → Q r → ⊥)
+    → new ≡ (if keep then found ++ get_or numbers i 0 ∷ [] else found)
+    → IsKept (λ k. get_or numbers k 0) (HasClause clauses Q) (i + 1) new
+number_kept Q clauses numbers found new i r keep are inside is h holds fails kept =
+    let there = clause_of_number clauses numbers i 0 are inside in
     let clause = clause_read clauses (get_or numbers i 0) there.0 r there.1 is in
-    kept_if (λ k. get_or numbers k 0) (HasClause clauses (λ q. IsTriggered q e)) i found new triggers h
-    (λ k lt. enough.rising k i 0 lt inside)
+    kept_if (λ k. get_or numbers k 0) (HasClause clauses Q) i found new keep h
+    (λ k lt. are.rising k i 0 lt inside)
     (λ y. (r, clause, holds y))
-    (λ n has. fails n (subst (λ (q : Rule). IsTriggered q e) (one_clause clauses (get_or numbers i 0) has.0 r has.1 clause) has.2))
+    (λ n has. fails n (subst Q (one_clause clauses (get_or numbers i 0) has.0 r has.1 clause) has.2))
     kept
 
+-- of the numbers of those with one property those with another are the numbers of those with both
+pub all_with_both : (P Q : Rule → Type 0) (clauses : List Rule) (numbers found : List ℕ) → AreThose P clauses numbers
+    → IsKept (λ k. get_or numbers k 0) (HasClause clauses Q) (length numbers) found → AreThose (λ r. P r × Q r) clauses found
+all_with_both P Q clauses numbers found those h = record {
+  rising = h.rising;
+  exact = λ n r clause. (
+    λ inside.
+        let from = h.from n inside in
+        let there : Contains numbers n = subst (Contains numbers) from.2 (Contains-get_or numbers from.0 0 from.1) in
+        ((those.exact n r clause).0 there, subst Q (one_clause clauses n from.3.0 r from.3.1 clause) from.3.2),
+    λ has.
+        let inside = (those.exact n r clause).1 has.0 in
+        let number : get_or numbers inside.0 0 ≡ n = get_or_default numbers inside.0 0 n inside.1 ∙ inside.2 in
+        subst (Contains found) number
+        (h.all inside.0 inside.1 (subst (HasClause clauses Q) (sym number) (r, clause, has.1))),
+  );
+  only = λ n inside. let from = h.from n inside in (from.3.0, from.3.1);
+}
+
 -- the number is at least 1, and its place is inside
-pub number_inside : (e : Occurrence) (clauses : List Rule) (numbers : List ℕ) (i : ℕ) → AreEnough clauses e numbers → i < length numbers
+pub number_inside : (clauses : List Rule) (numbers : List ℕ) (i : ℕ) → AreNumbers clauses numbers → i < length numbers
     → (1 ≤ get_or numbers i 0) × (get_or numbers i 0 - 1 < length clauses)
-number_inside e clauses numbers i enough inside =
-    let there = clause_of_number clauses e numbers i 0 enough inside in
+number_inside clauses numbers i are inside =
+    let there = clause_of_number clauses numbers i 0 are inside in
     let within = slice_get_within clauses there.1.place there.0 there.1.stands in
     (omega (arith, there.1.at), omega (arith, there.1.at, within))
 

@@ -1,14 +1,20 @@
--- Clauses with their numbers by operation, and in parts by the codes of their heads.
+-- Clauses with their numbers by operation, and in parts by the codes of their heads and by what their
+-- guards allow.
 use Rattle.std.specs.Prelude.{◌≡◌, ◌<◌, ℕ, IsTrue, List, AllPairs, Contains, length}
-use Rattle.std.specs.declared.vec.Vec.{Vec}
 use Rattle.std.proofs.Common.{get_or}
 use Rattle.tc_model.specs.Events.{Occurrence}
 use Rattle.tc_model.specs.Reactions.{Rule}
 use Rattle.tc_model.specs.Triggers.{IsClause, IsTriggered}
 use Rattle.tc_model.specs.declared.events.EventOp.{EventOp}
 use Rattle.tc_model.specs.declared.events.EventOp.TheVariants as op
+use Rattle.tc_model.specs.declared.events.Phase.{Phase}
+use Rattle.tc_model.specs.declared.events.Phase.TheVariants.{Pre, Post}
+use Rattle.tc_model.specs.declared.events.Sign.{Sign}
+use Rattle.tc_model.specs.declared.events.Sign.TheVariants.{Neither, Success, Failure}
 use Rattle.tc_spec.specs.Codes.{is_in, rule_part}
+use Rattle.tc_spec.specs.Guards.{Allows}
 use Rattle.tc_spec.specs.Numbers.{AreThose}
+use Rattle.tc_spec.specs.declared.parts.Part.{Part}
 use Rattle.tc_spec.specs.declared.spec.Index.{Index}
 
 -- some clause is of the operation
@@ -27,11 +33,24 @@ abbrev pub AreInPart : ℕ → ℕ → List Rule → List ℕ → Type 0
 AreInPart count part clauses numbers =
     AreThose (λ r. IsTrue (is_in (rule_part count r) part)) clauses numbers
 
+-- the numbers of the clauses in this part whose guards hold of an event of this phase and sign
+abbrev pub AreInPartAt : ℕ → ℕ → Phase → Sign → List Rule → List ℕ → Type 0
+AreInPartAt count part phase sign clauses numbers =
+    AreThose (λ r. IsTrue (is_in (rule_part count r) part) × Allows phase sign r.guard)
+    clauses numbers
+
+-- the lists of a part have the numbers of its clauses that requests, that successes and that
+-- failures may trigger
+pub record IsPart (count part : ℕ) (clauses : List Rule) (p : Part) : Type 0 where
+  pub requests : AreInPartAt count part Pre Neither clauses p.requests.items
+  pub successes : AreInPartAt count part Post Success clauses p.successes.items
+  pub failures : AreInPartAt count part Post Failure clauses p.failures.items
+
 -- there is a part, and each has the numbers of its clauses
-pub record AreParts {X : Type 0} (clauses : List Rule) (parts : List (Vec ℕ X)) : Type 0 where
+pub record AreParts (clauses : List Rule) (parts : List Part) : Type 0 where
   pub some : 0 < length parts
-  pub each : (part : ℕ) (d : Vec ℕ X) → part < length parts
-      → AreInPart (length parts) part clauses (get_or parts part d).items
+  pub each : (part : ℕ) (d : Part) → part < length parts
+      → IsPart (length parts) part clauses (get_or parts part d)
 
 -- numbers of clauses, rising, with those of all the clauses that the event triggers among them
 pub record AreEnough (clauses : List Rule) (e : Occurrence) (numbers : List ℕ) : Type 0 where

@@ -1,3 +1,4 @@
+pub mod Guards
 pub mod Numbers
 pub mod Codes
 pub mod Indexed

@@ -7,19 +7,19 @@ ghost use Rattle.tc_spec.specs.Written.{IsGoalTerm};
 use crate::goals::goal_of;
 use std::alloc::Global;
 use tc_lists::NoMemory;
-use tc_model::Goal;
+use tc_model::{Form, Goal};
 use tc_term::Term;
 
-/// The goals whose terms these are, if each is a goal's.
-pub fn goals_of(alloc: Global, terms: &[Term]) -> Result<Option<Vec<Goal>>, NoMemory>
+/// The goals whose terms these are in a clause of this form, if each is a goal's.
+pub fn goals_of(alloc: Global, form: Form, terms: &[Term]) -> Result<Option<Vec<Goal>>, NoMemory>
     ensures goals { IfOk result (λ found. IfSome found
-        (λ goals. map goal_term goals.items ≡ map tree_of terms.now)) }
+        (λ goals. map (goal_term form) goals.items ≡ map tree_of terms.now)) }
     ensures none { IfOk result (λ found. IfNone found
-        (All IsGoalTerm (map tree_of terms.now) → ⊥)) }
+        (All (IsGoalTerm form) (map tree_of terms.now) → ⊥)) }
 {
     let mut goals = Vec::new(alloc);
     for i in 0..terms.len() {
-        let found = goal_of(alloc, &terms[i])?;
+        let found = goal_of(alloc, form, &terms[i])?;
         let Some(goal) = found else {
             return Ok(None);
         };

@@ -2,23 +2,23 @@
 ghost use Rattle.std.specs.Prelude.{◌≡◌, ◌≢◌, IfNone, IfOk, IfSome};
 ghost use Rattle.tc_term.specs.TreeView.{tree_of};
 ghost use Rattle.tc_term.specs.Tree.{Atomic};
-ghost use Rattle.tc_model.specs.Reactions.{goal_term, of_one, of_two};
+ghost use Rattle.tc_model.specs.Reactions.{goal_op_name, goal_term, of_one, of_two};
 ghost use Rattle.tc_spec.specs.Goals.{IsGoalOf, one_name, two_name};
 
 use std::alloc::Global;
 use tc_lists::NoMemory;
-use tc_model::Goal;
+use tc_model::{EventOp, Form, Goal};
 use tc_term::{Cmp, Term};
 
-/// The goal whose term this is, if there is one.
-pub fn goal_of(alloc: Global, t: &Term) -> Result<Option<Goal>, NoMemory>
-    ensures { IfOk result (λ found. IsGoalOf (tree_of t.now) found) }
+/// The goal whose term this is in a clause of this form, if there is one.
+pub fn goal_of(alloc: Global, form: Form, t: &Term) -> Result<Option<Goal>, NoMemory>
+    ensures { IfOk result (λ found. IsGoalOf form (tree_of t.now) found) }
 {
     match t {
-        Term::Atom(name) => Ok(goal_of_none(name.bytes())),
+        Term::Atom(name) => Ok(goal_of_none(form, name.bytes())),
         Term::Comp(name, args) => match args.items() {
-            [x] => goal_of_one(alloc, name.bytes(), x),
-            [x, y] => goal_of_two(alloc, name.bytes(), x, y),
+            [x] => goal_of_one(alloc, form, name.bytes(), x),
+            [x, y] => goal_of_two(alloc, form, name.bytes(), x, y),
             _ => Ok(None),
         },
         _ => Ok(None),
@@ -26,8 +26,8 @@ pub fn goal_of(alloc: Global, t: &Term) -> Result<Option<Goal>, NoMemory>
 }
 
 // The goal of this name without an argument.
-fn goal_of_none(name: &[u8]) -> Option<Goal>
-    ensures { IsGoalOf (Atomic name.now) result }
+fn goal_of_none(form: Form, name: &[u8]) -> Option<Goal>
+    ensures { IsGoalOf form (Atomic name.now) result }
 {
     if name == b"pre".as_slice() {
         Some(Goal::Pre)
@@ -45,21 +45,27 @@ fn goal_of_none(name: &[u8]) -> Option<Goal>
 }
 
 // The goal of this name with one argument.
-fn goal_of_one(alloc: Global, name: &[u8], x: &Term) -> Result<Option<Goal>, NoMemory>
-    ensures { IfOk result (λ found. IsGoalOf (of_one name.now (tree_of x.now)) found) }
+fn goal_of_one(alloc: Global, form: Form, name: &[u8], x: &Term) -> Result<Option<Goal>, NoMemory>
+    ensures { IfOk result (λ found. IsGoalOf form (of_one name.now (tree_of x.now)) found) }
 {
-    let kind = one_of(name);
+    let kind = one_of(form, name);
     let Some(kind) = kind else {
         return Ok(None);
     };
     let x = x.copy(alloc)?;
-    Ok(Some(with_one(kind, x)))
+    Ok(Some(with_one(form, kind, x)))
 }
 
 // The goal of this name with two arguments.
-fn goal_of_two(alloc: Global, name: &[u8], x: &Term, y: &Term) -> Result<Option<Goal>, NoMemory>
+fn goal_of_two(
+    alloc: Global,
+    form: Form,
+    name: &[u8],
+    x: &Term,
+    y: &Term,
+) -> Result<Option<Goal>, NoMemory>
     ensures { IfOk result
-        (λ found. IsGoalOf (of_two name.now (tree_of x.now) (tree_of y.now)) found) }
+        (λ found. IsGoalOf form (of_two name.now (tree_of x.now) (tree_of y.now)) found) }
 {
     let kind = two_of(name);
     let Some(kind) = kind else {
@@ -67,7 +73,7 @@ fn goal_of_two(alloc: Global, name: &[u8], x: &Term, y: &Term) -> Result<Option<
     };
     let x = x.copy(alloc)?;
     let y = y.copy(alloc)?;
-    Ok(Some(with_two(kind, x, y)))
+    Ok(Some(with_two(form, kind, x, y)))
 }
 
 /// A goal of one argument.
@@ -93,17 +99,17 @@ pub enum Two {
 }
 
 // The goal of one argument with this name.
-fn one_of(name: &[u8]) -> Option<One>
-    ensures some { IfSome result (λ kind. one_name kind ≡ name.now) }
-    ensures none { IfNone result ((kind : One) → one_name kind ≢ name.now) }
+fn one_of(form: Form, name: &[u8]) -> Option<One>
+    ensures some { IfSome result (λ kind. one_name form kind ≡ name.now) }
+    ensures none { IfNone result ((kind : One) → one_name form kind ≢ name.now) }
 {
-    if name == b"out_r".as_slice() {
+    if name == goal_op_name(form, EventOp::OutR) {
         Some(One::OutR)
-    } else if name == b"in_r".as_slice() {
+    } else if name == goal_op_name(form, EventOp::InR) {
         Some(One::InR)
-    } else if name == b"rd_r".as_slice() {
+    } else if name == goal_op_name(form, EventOp::RdR) {
         Some(One::RdR)
-    } else if name == b"no_r".as_slice() {
+    } else if name == goal_op_name(form, EventOp::NoR) {
         Some(One::NoR)
     } else if name == b"current_agent".as_slice() {
         Some(One::Agent)
@@ -115,6 +121,22 @@ fn one_of(name: &[u8]) -> Option<One>
         Some(One::Tuple)
     } else {
         None
+    }
+}
+
+/// The name of a goal that works on tuples, in a clause of this form.
+pub fn goal_op_name(form: Form, op: EventOp) -> &'static [u8]
+    ensures { result.now ≡ goal_op_name form op }
+{
+    match form {
+        Form::Two => op.name(),
+        Form::Three => match op {
+            EventOp::OutR => b"out",
+            EventOp::InR => b"in",
+            EventOp::RdR => b"rd",
+            EventOp::NoR => b"no",
+            EventOp::Out | EventOp::In | EventOp::Rd | EventOp::Inp | EventOp::Rdp => op.name(),
+        },
     }
 }
 
@@ -147,8 +169,8 @@ fn two_of(name: &[u8]) -> Option<Two>
 }
 
 // The goal of this kind and this argument.
-fn with_one(kind: One, x: Term) -> Goal
-    ensures { goal_term result ≡ of_one (one_name kind) (tree_of x) }
+fn with_one(form: Form, kind: One, x: Term) -> Goal
+    ensures { goal_term form result ≡ of_one (one_name form kind) (tree_of x) }
 {
     match kind {
         One::OutR => Goal::OutR(x),
@@ -163,8 +185,8 @@ fn with_one(kind: One, x: Term) -> Goal
 }
 
 // The goal of this kind and these arguments.
-fn with_two(kind: Two, x: Term, y: Term) -> Goal
-    ensures { goal_term result ≡ of_two (two_name kind) (tree_of x) (tree_of y) }
+fn with_two(form: Form, kind: Two, x: Term, y: Term) -> Goal
+    ensures { goal_term form result ≡ of_two (two_name kind) (tree_of x) (tree_of y) }
 {
     match kind {
         Two::Equal => Goal::Equal(x, y),

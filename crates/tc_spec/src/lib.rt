@@ -1,7 +1,7 @@
 //! Specifications: terms as reactions, clauses as text, and which clauses an event triggers.
 //!
-//! An event triggers a clause of its operation whose head can be made equal to the event's term,
-//! their variables kept apart. Nothing here knows of tuples, or of what a body does.
+//! An event triggers a clause of its operation whose guard holds of it, and whose head can be made
+//! equal to the event's term, their variables kept apart. Nothing here knows of tuples, or of what a body does.
 //!
 //! ```
 //! let mut clauses = Clauses::new(alloc);
@@ -19,11 +19,12 @@
 //! |---|---|
 //! | `reading` | `reaction_of`: from a term to a reaction |
 //! | `heads`, `arguments` | its head: the operation and the term |
+//! | `guards` | its guard: the tests, and whether they hold |
 //! | `bodies`, `leaves`, `goals` | its body: the leaves under commas as goals |
 //! | `terms`, `brackets` | the clause that it is written as, and whether its text is read back |
 //! | `texts`, `printing` | `read_spec` and `print_spec`: clauses from a text and as one |
 //! | `spec` | `Spec`: clauses with an index |
-//! | `codes`, `parts` | the index by codes of heads |
+//! | `codes`, `parts` | the index by codes of heads and by guards |
 //! | `triggers` | which clauses an event triggers |
 //! | `faults`, `laws` | why a term or a text is refused; laws for callers to cite |
 #![tactic(auto)]
@@ -34,6 +35,7 @@ mod brackets;
 mod codes;
 mod faults;
 mod goals;
+mod guards;
 mod heads;
 mod laws;
 mod leaves;

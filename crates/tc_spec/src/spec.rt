@@ -1,9 +1,9 @@
-//! Clauses with an index by operation and by the code of the head.
+//! Clauses with an index by operation, by the code of the head and by what the guard allows.
 ghost use Rattle.std.specs.Prelude.{◌≡◌, ◌<◌, ◌↔◌, IsTrue, IfOk, List, length};
 ghost use Rattle.tc_model.specs.Reactions.{Rule};
 ghost use Rattle.tc_spec.specs.Indexed.{AreEnough, AreOf, IsIndex};
 
-use crate::parts::{part_for, parts_of};
+use crate::parts::{Part, part_for, parts_of};
 use crate::triggers::{numbers_of, triggered_of};
 use std::alloc::Global;
 use std::marker::Model;
@@ -23,10 +23,10 @@ pub struct Index {
     in_r: Vec<u32>,
     rd_r: Vec<u32>,
     no_r: Vec<u32>,
-    parts: Vec<Vec<u32>>,
+    parts: Vec<Part>,
 }
 
-/// The clauses of a centre, with an index by operation and by the code of the head.
+/// The clauses of a centre, with an index by operation, by the code of the head and by the guard.
 #[derive(Drop)]
 pub struct Spec {
     clauses: Clauses,
@@ -92,9 +92,10 @@ impl Spec {
     /// The numbers of the clauses that the event triggers, rising. Clauses count from 1.
     ///
     /// The store is scratch: it may hold anything before, and nothing is said of it afterwards.
-    /// Only clauses whose heads have the operation, the name and the number of arguments of the
-    /// event, or a variable, are tried, each in the time of its head and the event's term; few
-    /// others are looked at.
+    /// Only clauses whose guards hold and whose heads have the operation, the name and the number of
+    /// arguments of the event, or a variable, are tried, each in the time of its head and the
+    /// event's term; few others are looked at. A guard that doesn't hold costs nothing, but where
+    /// the event's term is a variable, its test.
     pub fn triggered(
         &self,
         alloc: Global,
@@ -135,8 +136,11 @@ fn numbers_for<'i>(index: &'i Index, e: &Event) -> &'i [u32]
 {
     let op = e.op();
     let term = e.term();
-    match part_for(op, term.term(), index.parts.len()) {
+    let Some(part) = part_for(op, term.term(), index.parts.len()) else {
+        return numbers_in(index, op);
+    };
+    match index.parts[part].numbers_at(e.phase(), e.sign()) {
+        Some(numbers) => numbers,
         None => numbers_in(index, op),
-        Some(part) => &index.parts[part],
     }
 }

@@ -8,11 +8,13 @@ ghost use Rattle.tc_term.specs.Tree.{Tree};
 ghost use Rattle.tc_term.specs.TreeView.{tree_of};
 ghost use Rattle.tc_model.specs.Triggers.{AreTriggered, IsTriggered};
 ghost use Rattle.tc_model.specs.declared.limits.TheConstants.{MOST_CLAUSES};
+ghost use Rattle.tc_spec.specs.Guards.{Allows, Forbids};
 ghost use Rattle.tc_spec.specs.Indexed.{AreEnough, AreOf};
 
+use crate::guards::allows;
 use std::alloc::Global;
 use tc_lists::NoMemory;
-use tc_model::{Event, EventOp, Reaction};
+use tc_model::{Event, EventOp, Phase, Reaction, Sign};
 use tc_term::Term;
 use tc_unify::Store;
 
@@ -56,6 +58,14 @@ fn has_op(r: &Reaction, o: EventOp) -> bool
     r.op() == o
 }
 
+/// Whether a reaction's guard holds of the events of this phase and sign.
+pub fn has_guard_for(r: &Reaction, phase: Phase, sign: Sign) -> bool
+    ensures yes { IsTrue result → Allows phase sign r.now.guard }
+    ensures no { result ≡ false → Forbids phase sign r.now.guard }
+{
+    allows(r.guard(), phase, sign)
+}
+
 /// Appends a number, if it is to be kept.
 pub fn keep_if(numbers: &mut Vec<u32>, keep: bool, number: u32) -> Result<(), NoMemory>
     ensures { OnOk result (numbers.new.items
@@ -73,6 +83,9 @@ fn is_triggered(store: &mut Store, r: &Reaction, e: &Event) -> Result<bool, NoMe
     ensures no { IfOk result (λ y. y ≡ false → IsTriggered r.now e.now → ⊥) }
 {
     if !has_op(r, e.op()) {
+        return Ok(false);
+    }
+    if !has_guard_for(r, e.phase(), e.sign()) {
         return Ok(false);
     }
     let head = r.head();

@@ -41,6 +41,20 @@ impl Event {
         })
     }
 
+    // Whether a test of a guard holds.
+    fn passes(&self, test: &Term) -> bool {
+        match test {
+            Term::Atom(name) => match name.bytes() {
+                b"request" => self.moment == Moment::Asked,
+                b"response" => self.moment != Moment::Asked,
+                b"success" => self.moment == Moment::Done,
+                b"failure" => self.moment == Moment::Missed,
+                _ => false,
+            },
+            _ => false,
+        }
+    }
+
     // Whether a goal that asks for a kind of events is met.
     fn is(&self, kind: &[u8]) -> bool {
         match kind {
@@ -113,6 +127,7 @@ impl Body {
     ) -> Result<Option<Body>, NoMemory> {
         let mut values = Values::none(alloc);
         if clause.event.bytes() != event.operation
+            || !clause.tests.iter().all(|test| event.passes(test))
             || !equate(alloc, &clause.head, &event.term, &mut values)?
         {
             return Ok(None);
@@ -170,10 +185,10 @@ impl Body {
         scene: Scene<'_>,
     ) -> Result<bool, NoMemory> {
         match name {
-            b"out_r" => self.put(alloc, term),
-            b"in_r" => self.find(alloc, term, Deed::Took),
-            b"rd_r" => self.find(alloc, term, Deed::Read),
-            b"no_r" => Ok(oldest(alloc, &self.tuples, term)?.is_none()),
+            b"out_r" | b"out" => self.put(alloc, term),
+            b"in_r" | b"in" => self.find(alloc, term, Deed::Took),
+            b"rd_r" | b"rd" => self.find(alloc, term, Deed::Read),
+            b"no_r" | b"no" => Ok(oldest(alloc, &self.tuples, term)?.is_none()),
             b"current_tuple" => equate(alloc, term, &event.term, &mut self.values),
             b"current_agent" => self.meet_name(alloc, term, scene.agent.bytes()),
             b"current_tc" => self.meet_name(alloc, term, scene.centre.bytes()),

@@ -19,31 +19,33 @@ const EVENTS: [&[u8]; 9] = [
 // The goals without an argument, with one and with two.
 const PLAIN: [&[u8]; 5] = [b"pre", b"post", b"success", b"failure", b"true"];
 
-const OF_ONE: [&[u8]; 8] = [
-    b"out_r",
-    b"in_r",
-    b"rd_r",
-    b"no_r",
-    b"current_agent",
-    b"current_tc",
-    b"current_op",
-    b"current_tuple",
-];
+const OF_ONE: [&[u8]; 4] = [b"current_agent", b"current_tc", b"current_op", b"current_tuple"];
+
+// The goals on tuples, without a guard and with one.
+const UNGUARDED: [&[u8]; 4] = [b"out_r", b"in_r", b"rd_r", b"no_r"];
+
+const GUARDED: [&[u8]; 4] = [b"out", b"in", b"rd", b"no"];
+
+// The tests of a guard.
+const TESTS: [&[u8]; 4] = [b"request", b"response", b"success", b"failure"];
 
 const OF_TWO: [&[u8]; 9] = [
     b"=", b"\\=", b"is", b"=:=", b"=\\=", b"<", b">", b"=<", b">=",
 ];
 
-// How many goals a clause has at most, and how many clauses there are.
+// How many goals a clause has at most, how many tests a guard, and how many clauses there are.
 const MOST_GOALS: usize = 64;
+
+const MOST_TESTS: usize = 16;
 
 const MOST_CLAUSES: usize = 1000;
 
-/// A reaction: the event's operation and term, the goals, and its text.
+/// A reaction: the event's operation and term, the tests of its guard, the goals, and its text.
 #[derive(Drop)]
 pub struct Clause {
     pub event: Name,
     pub head: Term,
+    pub tests: Vec<Term>,
     pub goals: Vec<Term>,
     text: Vec<u8>,
 }
@@ -99,15 +101,32 @@ fn next_clause(alloc: Global, text: &[u8], from: usize) -> Result<Next, Fault> {
 
 /// The clause that a term is, or why it is none.
 pub fn clause_of(alloc: Global, term: &Term) -> Result<Result<Clause, &'static [u8]>, NoMemory> {
-    let Some((head, body)) = as_two(b"reaction", term) else {
+    if let Some((head, body)) = as_two(b"reaction", term) {
+        return clause_with(alloc, head, None, body);
+    }
+    let Some((head, guard, body)) = as_three(b"reaction", term) else {
         return Ok(Err(b"shape"));
     };
+    match tests_of(alloc, guard)? {
+        Some(tests) => clause_with(alloc, head, Some(tests), body),
+        None => Ok(Err(b"shape")),
+    }
+}
+
+// The clause of a head and a body, and of a guard, where it has three arguments.
+fn clause_with(
+    alloc: Global,
+    head: &Term,
+    guard: Option<Vec<Term>>,
+    body: &Term,
+) -> Result<Result<Clause, &'static [u8]>, NoMemory> {
     let Some((event, head)) = as_event(head) else {
         return Ok(Err(b"head"));
     };
+    let on_tuples = if guard.is_some() { GUARDED } else { UNGUARDED };
     let mut goals = Vec::new(alloc);
     append_goals(alloc, body, &mut goals)?;
-    if !goals.iter().all(is_goal) {
+    if !goals.iter().all(|goal| is_goal(goal, &on_tuples)) {
         return Ok(Err(b"goal"));
     }
     if goals.len() > MOST_GOALS {
@@ -116,9 +135,39 @@ pub fn clause_of(alloc: Global, term: &Term) -> Result<Result<Clause, &'static [
     Ok(Ok(Clause {
         event: event.copy(alloc)?,
         head: head.copy(alloc)?,
-        text: text_of(alloc, event, head, &goals)?,
+        text: text_of(alloc, event, head, guard.as_ref(), &goals)?,
+        tests: guard.unwrap_or(Vec::new(alloc)),
         goals,
     }))
+}
+
+// The tests of a guard: none of `true`, else the leaves under commas.
+fn tests_of(alloc: Global, guard: &Term) -> Result<Option<Vec<Term>>, NoMemory> {
+    let mut tests = Vec::new(alloc);
+    if is_atom(guard, b"true") {
+        return Ok(Some(tests));
+    }
+    append_goals(alloc, guard, &mut tests)?;
+    if tests.len() > MOST_TESTS {
+        return Ok(None);
+    }
+    Ok(if tests.iter().all(is_test) { Some(tests) } else { None })
+}
+
+// Whether a term is this atom.
+fn is_atom(term: &Term, name: &[u8]) -> bool {
+    match term {
+        Term::Atom(other) => other.bytes() == name,
+        _ => false,
+    }
+}
+
+// Whether a term is a test.
+fn is_test(term: &Term) -> bool {
+    match term {
+        Term::Atom(name) => TESTS.contains(&name.bytes()),
+        _ => false,
+    }
 }
 
 // The arguments of a compound of this name that has two.
@@ -129,6 +178,17 @@ fn as_two<'t>(name: &[u8], term: &'t Term) -> Option<(&'t Term, &'t Term)>
     match term {
         Term::Comp(other, args) if other.bytes() == name => match args.items() {
             [left, right] => Some((left, right)),
+            _ => None,
+        },
+        _ => None,
+    }
+}
+
+// The arguments of a compound of this name that has three.
+fn as_three<'t>(name: &[u8], term: &'t Term) -> Option<(&'t Term, &'t Term, &'t Term)> {
+    match term {
+        Term::Comp(other, args) if other.bytes() == name => match args.items() {
+            [first, second, third] => Some((first, second, third)),
             _ => None,
         },
         _ => None,
@@ -157,12 +217,12 @@ fn append_goals(alloc: Global, body: &Term, into: &mut Vec<Term>) -> Result<(), 
     }
 }
 
-// Whether a term is a goal.
-fn is_goal(term: &Term) -> bool {
+// Whether a term is a goal, where these are the goals on tuples.
+fn is_goal(term: &Term, on_tuples: &[&[u8]]) -> bool {
     match term {
         Term::Atom(name) => PLAIN.contains(&name.bytes()),
         Term::Comp(name, args) => match args.items() {
-            [_] => OF_ONE.contains(&name.bytes()),
+            [_] => on_tuples.contains(&name.bytes()) || OF_ONE.contains(&name.bytes()),
             [_, _] => OF_TWO.contains(&name.bytes()),
             _ => false,
         },
@@ -171,18 +231,37 @@ fn is_goal(term: &Term) -> bool {
 }
 
 // The text of a clause.
-fn text_of(alloc: Global, event: &Name, head: &Term, goals: &[Term]) -> Result<Vec<u8>, NoMemory> {
+fn text_of(
+    alloc: Global,
+    event: &Name,
+    head: &Term,
+    guard: Option<&Vec<Term>>,
+    goals: &[Term],
+) -> Result<Vec<u8>, NoMemory> {
     let mut args = Vec::new(alloc);
     append(&mut args, head.copy(alloc)?)?;
     let event = compound(event.copy(alloc)?, args);
-    let body = body_of(alloc, goals)?;
+    let mut parts = Vec::new(alloc);
+    append(&mut parts, event)?;
+    if let Some(tests) = guard {
+        append(&mut parts, guard_of(alloc, tests)?)?;
+    }
+    append(&mut parts, body_of(alloc, goals)?)?;
     let mut text = Vec::new(alloc);
-    append_term(alloc, &of_two(alloc, b"reaction", event, body)?, &mut text)?;
+    append_term(alloc, &compound(Name::new(alloc, b"reaction")?, parts), &mut text)?;
     text.extend_from_slice(b".\n")?;
     Ok(text)
 }
 
-// The goals with commas between, from the right.
+// The guard of these tests.
+fn guard_of(alloc: Global, tests: &[Term]) -> Result<Term, NoMemory> {
+    if tests.is_empty() {
+        return Ok(Term::Atom(Name::new(alloc, b"true")?));
+    }
+    body_of(alloc, tests)
+}
+
+// The goals or tests with commas between, from the right.
 fn body_of(alloc: Global, goals: &[Term]) -> Result<Term, NoMemory> {
     let Some((last, others)) = goals.split_last() else {
         return Ok(Term::Int(0));

@@ -5,4 +5,4 @@ use Rattle.tc_spec.proofs.terms.terms_of.Given as goal
 
 -- the terms so far are those of the goals so far
 abbrev pub invariant-loop-goal : goal.invariant-loop-goal
-invariant-loop-goal l = map tree_of l.terms.items ≡ map goal_term (take l.goal-index l.goals)
+invariant-loop-goal l = map tree_of l.terms.items ≡ map (goal_term l.form) (take l.goal-index l.goals)

@@ -7,12 +7,18 @@ use Rattle.tc_model.proofs.Rules.{rule_head, rule_vars}
 use Rattle.tc_unify.specs.Met.{met}
 use Rattle.tc_unify.proofs.MetTerms.{met-same}
 use Rattle.tc_spec.proofs.Apart.{never_met}
+use Rattle.tc_spec.proofs.Tests.{held-allows, not_held}
 use Rattle.tc_spec.proofs.triggers.is_triggered.Goals as goal
 
 pub returns-then-not-could_meet-clause-no : goal.returns-then-not-could_meet-clause-no
 returns-then-not-could_meet-clause-no c fails triggered =
     never_met c.args.r.now c.args.e.now (tree_of c.head-head.result.now) (tree_of c.term.result.now) c.head-head.ensures.head
     (c.term.ensures.term ∙ c.term-term.ensures.term) (c.could_meet.ensures c.if-not-could_meet.true) triggered
+
+pub returns-then-not-has_guard_for-clause-no : goal.returns-then-not-has_guard_for-clause-no
+returns-then-not-has_guard_for-clause-no c fails triggered =
+    not_held c.phase.result c.sign.result c.args.r.now.guard c.args.e.now c.phase.ensures c.sign.ensures
+    (c.has_guard_for.ensures.no c.if-not-has_guard_for.true) triggered.guard
 
 pub meet-requires-clause-bound : goal.meet-requires-clause-bound
 meet-requires-clause-bound c =
@@ -38,6 +44,9 @@ equation c =
 pub returns-clause-yes : goal.returns-clause-yes
 returns-clause-yes c y = record {
   op = c.has_op.ensures.0 c.if-not-has_op.false ∙ c.op.ensures;
+  guard =
+      held-allows c.phase.result c.sign.result c.args.r.now.guard c.args.e.now c.phase.ensures c.sign.ensures
+      (c.has_guard_for.ensures.yes c.if-not-has_guard_for.false);
   solvable =
       subst (λ (s : Equations). Solvable s.vars s.pairs) (c.in_ok-met.ensures.met y ∙ equation c)
       c.in_ok-met.ensures.solvable;
