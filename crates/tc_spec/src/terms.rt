@@ -173,5 +173,6 @@ fn three(alloc: Global, name: &[u8], s: Term, t: Term, u: Term) -> Result<Term, 
     args.push(s)?;
     args.push(t)?;
     args.push(u)?;
-    Ok(Term::Comp(name, Args::new(args)))
+    let args = Args::new(alloc, args)?;
+    Ok(Term::Comp(name, args))
 }
