@@ -14,7 +14,7 @@ X = Var("X")
 
 class AtAServer(unittest.IsolatedAsyncioTestCase):
     async def asyncSetUp(self):
-        asyncio.get_running_loop().slow_callback_duration = 60  # Tests of a loaded machine are slow.
+        asyncio.get_running_loop().slow_callback_duration = 60  # So long it says nothing of it.
 
     async def serve(self, agents, more=""):
         server = Server(agents, more)
@@ -28,7 +28,8 @@ class AtAServer(unittest.IsolatedAsyncioTestCase):
         return session
 
     async def test_each_call_has_a_reply_of_its_own(self):
-        server = await self.serve(1, "spec(c,reaction(out(a),out_r(a))). spec(c,reaction(out_r(a),out_r(a))).")
+        loop = "spec(c,reaction(out(a),out_r(a))). spec(c,reaction(out_r(a),out_r(a)))."
+        server = await self.serve(1, loop)
         session = await self.connect(server)
         self.assertEqual(await session.out("c", term("p", 1)), Done())
         self.assertEqual(await session.rd("c", term("p", X)), Found(term("p", 1), {"X": 1}))

@@ -66,8 +66,10 @@ class Replies(unittest.TestCase):
             self.assertEqual(read_reply(line), reply)
 
     def test_a_line_that_is_no_reply_is_told(self):
-        for line in ("", "Done", "done ", "tuple", "tuple ", "tuple a b", "spec", "spec a", "spec 'a",
-                     "spec [1]", "over", "over all", "error", "error ", "+OK", "HTTP/1.1 400"):
+        for line in (
+            "", "Done", "done ", "tuple", "tuple ", "tuple a b", "spec", "spec a", "spec 'a",
+            "spec [1]", "over", "over all", "error", "error ", "+OK", "HTTP/1.1 400",
+        ):
             with self.assertRaises(BadReply, msg=line):
                 read_reply(line)
 
@@ -118,6 +120,8 @@ class Exchanging(unittest.TestCase):
     def test_a_request_is_one_line(self):
         with self.assertRaises(BadTerm):
             request.Request("poll\nquit")
+        with self.assertRaises(BadTerm):
+            request.Request("poll\ud800")
         self.assertEqual(request.out("two words", "a\nb").line, r"'two words' ? out('a\nb')")
         self.assertEqual(request.get_spec("c").line, "c ? get_spec")
         self.assertEqual(request.set_spec("c", "it's").line, r"c ? set_spec('it\'s')")

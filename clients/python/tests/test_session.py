@@ -9,6 +9,7 @@ from tests import drawn
 from tests.server import Server
 from tucson import ANY, Atom, Var, cell, request, term, text_of
 from tucson.errors import BadTerm, ConnectionEnded, OverBudget, Refused
+from tucson.exchange import pieces
 from tucson.replies import Bye, Done, Found, NoTuple, Pending, Spec
 
 X, Y = Var("X"), Var("Y")
@@ -17,9 +18,10 @@ MOST_NAME = 65_535 - len("?cout")
 """The names of a line come to 65,535 bytes at most, those that stand round a tuple too."""
 
 NAMES = [
-    "two words", "it's", '"', "back\\slash", "\\n", "\\", "line\nend", "a\ttab", "\n", "\t", "Zürich",
-    "日本", "\x7f", "\x85\u2028", Atom.from_bytes(b"\xff\x80\xfe"), "", "[]", ".", "'", "''", "Capital",
-    "_", "is", "mod", ",", "|", "-", "-1", "1", "?", "poll", "% no comment", "/* none */", " ",
+    "two words", "it's", '"', "back\\slash", "\\n", "\\", "line\nend", "a\ttab", "\n", "\t",
+    "Zürich", "日本", "\x7f", "\x85\u2028", Atom.from_bytes(b"\xff\x80\xfe"), "", "[]", ".", "'",
+    "''", "Capital", "_", "is", "mod", ",", "|", "-", "-1", "1", "?", "poll", "% no comment",
+    "/* none */", " ",
 ]
 
 
@@ -67,7 +69,8 @@ class Calls(AtAServer):
         self.assertIsInstance(told, Spec)
         self.assertEqual(
             told.text,
-            "reaction(out(p(_0)),','(is(_1,'+'(_0,1)),out_r('it\\'s'(_1)))).\nreaction(rd(q),true).\n",
+            "reaction(out(p(_0)),','(is(_1,'+'(_0,1)),out_r('it\\'s'(_1)))).\n"
+            "reaction(rd(q),true).\n",
         )
         self.assertEqual(self.session.set_spec("c", told.text), Done())
         self.assertEqual(self.session.get_spec("c"), told)
@@ -126,11 +129,17 @@ class Calls(AtAServer):
     def test_sixteen_requests_in_one_piece(self):
         asked = [request.out("c", term("p", number)) for number in range(8)]
         asked += [request.inp("c", term("p", X)) for _ in range(7)] + [request.get_spec("nowhere")]
+        self.assertEqual(list(pieces(asked)), [asked])
         replies = self.session.gather(asked)
         self.assertEqual(replies[:8], [Done()] * 8)
         self.assertEqual([reply.bindings["X"] for reply in replies[8:15]], list(range(7)))
         self.assertEqual(replies[15], Refused("unknown centre"))
         self.assertEqual(self.session.gather([]), [])
+
+    def test_a_piece_that_cannot_be_written_is_not_sent(self):
+        with self.assertRaises(BadTerm):
+            self.session.gather(request.out("c", value) for value in (1, 1.5))
+        self.assertEqual(self.session.inp("c", X), NoTuple())
 
     def test_a_piece_may_have_any_size(self):
         tuple_ = term("p", "x" * 10_000)
@@ -165,7 +174,7 @@ class Budget(AtAServer):
 class Terms(AtAServer):
     def round_trip(self, session, values):
         """Puts each and takes it by a variable, in as few pieces as there may be."""
-        asked = [r for value in values for r in (request.out("c", value), request.inp("c", X))]
+        asked = [r for value in values for r in (request.out("c", value), request.in_("c", X))]
         replies = session.gather(asked)
         for value, put, taken in zip(values, replies[::2], replies[1::2]):
             self.assertEqual(put, Done(), text_of(value))
@@ -177,7 +186,8 @@ class Terms(AtAServer):
         self.round_trip(session, [Atom(name) for name in NAMES])
         self.round_trip(session, [term(name, 1, [name], cell(name, 2)) for name in NAMES])
         self.round_trip(session, [0, -1, 1, 2**63 - 1, -(2**63), [-(2**63)], term("-", -1)])
-        self.round_trip(session, [[], [[]], [[], [1, [2, [3]]]], cell(1, cell(2, 3)), list(range(500))])
+        self.round_trip(session, [[], [[]], [[], [1, [2, [3]]]], list(range(500))])
+        self.round_trip(session, [cell(1, cell(2, 3)), term(".", 1, 2), term("[]", [], 1)])
         draw = random.Random(3)
         self.round_trip(session, [drawn.value(draw) for _ in range(1000)])
         self.assertEqual(session.quit(), Bye())

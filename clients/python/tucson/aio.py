@@ -160,8 +160,9 @@ class Session:
 
         More than 16 KB are sent in several. Replies that say no are handed back, not raised.
         """
+        cut = list(pieces(requests))
         async with self._turn:
-            return await self._gather(requests)
+            return await self._gather(cut)
 
     async def _ask(self, asked: Request) -> Reply:
         return (await self.gather([asked]))[0]
@@ -169,15 +170,15 @@ class Session:
     async def _finish(self, asked: Request, wait: bool) -> Union[Found, Pending]:
         """Asks, and waits in the same turn, so that no other task's call comes between."""
         async with self._turn:
-            replies = await self._gather([asked])
+            replies = await self._gather([[asked]])
             if wait and isinstance(replies[0], Pending):
-                replies = await self._gather([request.WAIT])
+                replies = await self._gather([[request.WAIT]])
         return expect(replies[0], Found, Pending)
 
-    async def _gather(self, requests: Iterable[Request]) -> List[Reply]:
+    async def _gather(self, cut: List[List[Request]]) -> List[Reply]:
         replies: List[Reply] = []
         try:
-            for piece in pieces(requests):
+            for piece in cut:
                 await self._send(self._exchange.sends(piece))
                 for _ in piece:
                     replies.append(await self._next_reply())

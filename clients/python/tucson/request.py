@@ -5,11 +5,14 @@
 
 from __future__ import annotations
 
+import re
 from dataclasses import dataclass
 from typing import Optional
 
 from .errors import BadTerm
 from .terms import Term, quote, text_of
+
+_NO_LINE = re.compile("[\n\ud800-\udc7f\udd00-\udfff]")
 
 
 @dataclass(frozen=True)
@@ -24,8 +27,8 @@ class Request:
     looks: bool = False
 
     def __post_init__(self) -> None:
-        if "\n" in self.line:
-            raise BadTerm("a request is one line")
+        if _NO_LINE.search(self.line):
+            raise BadTerm("a line holds no line's end, and no surrogate that stands for no byte")
 
 
 POLL = Request("poll", looks=True)

@@ -149,9 +149,10 @@ class Session:
 
         More than 16 KB are sent in several. Replies that say no are handed back, not raised.
         """
+        cut = list(pieces(requests))
         replies: List[Reply] = []
         try:
-            for piece in pieces(requests):
+            for piece in cut:
                 self._send(self._exchange.sends(piece))
                 for _ in piece:
                     replies.append(self._next_reply())
