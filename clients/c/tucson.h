@@ -8,8 +8,9 @@
  * "'two words'". A tc_writer makes such text of names and numbers. docs/SERVER.md says what the
  * server does, docs/FORMATS.md how terms are written.
  *
- * A call returns TC_OK, or an error below 0; behind an error of a call that sends or reads, close
- * the session. Whether the server has refused the call is no error: the reply's kind says so.
+ * A call returns TC_OK, or an error below 0. Behind TC_BAD_TEXT nothing was sent; behind another
+ * error of a call that sends or reads, close the session. That the server has refused the call is
+ * no error: the reply's kind says so.
  */
 #ifndef TUCSON_H
 #define TUCSON_H
