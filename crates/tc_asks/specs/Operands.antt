@@ -2,7 +2,7 @@
 use Rattle.std.specs.Prelude.{◌≡◌, false, IsTrue, List, ℕ}
 use Rattle.tc_term.specs.Tree.{Tree, Atomic, Fits, is_ground}
 use Rattle.tc_term.specs.TreeView.{tree_of}
-use Rattle.tc_term.specs.Variables.{IsTemplate}
+use Rattle.tc_term.specs.Variables.{IsTemplate, renumbered}
 use Rattle.tc_model.specs.declared.asks.Ask.{Ask}
 use Rattle.tc_model.specs.declared.asks.Ask.TheVariants.{Out, In, Rd, Inp, Rdp, SetSpec, GetSpec}
 use Rattle.tc_desk.specs.Operands.{Operand, Faulty, IsBadText, OpOf}
@@ -19,22 +19,26 @@ pub record IsAtom (t : Tree) : Type 0 where
   pub atom : t ≡ Atomic text
   pub fits : Fits t
 
--- the ask has an atom that is to be the text of clauses
-abbrev pub HasText : Ask → Type 0
-HasText (Out t) = ⊥
-HasText (In t) = ⊥
-HasText (Rd t) = ⊥
-HasText (Inp t) = ⊥
-HasText (Rdp t) = ⊥
-HasText (SetSpec t) = IsAtom (tree_of t)
-HasText GetSpec = ⊥
+-- the term is a template whose variables aren't numbered by first appearance yet
+abbrev pub IsUnnumbered : Tree → Type 0
+IsUnnumbered t = IsTemplate t × (renumbered t ≡ t → ⊥)
 
--- the fault is that of the ask's operand; or memory has run out, while a text was read
+-- the ask has an atom that is to be the text of clauses, or a template of which a copy is made
+abbrev pub TakesMemory : Ask → Type 0
+TakesMemory (Out t) = ⊥
+TakesMemory (In t) = IsUnnumbered (tree_of t)
+TakesMemory (Rd t) = IsUnnumbered (tree_of t)
+TakesMemory (Inp t) = IsUnnumbered (tree_of t)
+TakesMemory (Rdp t) = IsUnnumbered (tree_of t)
+TakesMemory (SetSpec t) = IsAtom (tree_of t)
+TakesMemory GetSpec = ⊥
+
+-- the fault is that of the ask's operand; or memory has run out, while a text was read or a template numbered
 abbrev pub IsFaultOf : Ask → OperandFault → Type 0
 IsFaultOf ask TooBig = OpOf ask operand.TooBig
 IsFaultOf ask NotGround = OpOf ask operand.NotGround
 IsFaultOf ask (BadSpec bad) = OpOf ask (Faulty bad)
-IsFaultOf ask NoMemory = HasText ask
+IsFaultOf ask NoMemory = TakesMemory ask
 
 -- the fault says this of the operand, or memory has run out
 abbrev pub IsOperandFault : Operand → OperandFault → Type 0
@@ -57,12 +61,12 @@ IsTupleFault t NotGround = Fits t × (is_ground t ≡ false)
 IsTupleFault t (BadSpec bad) = ⊥
 IsTupleFault t NoMemory = ⊥
 
--- why the term is no template
+-- why the term is no template, or not made one
 abbrev pub IsTemplateFault : Tree → OperandFault → Type 0
 IsTemplateFault t TooBig = IsTemplate t → ⊥
 IsTemplateFault t NotGround = ⊥
 IsTemplateFault t (BadSpec bad) = ⊥
-IsTemplateFault t NoMemory = ⊥
+IsTemplateFault t NoMemory = IsUnnumbered t
 
 -- why the term is no text of clauses
 abbrev pub IsTextFault : Tree → OperandFault → Type 0

@@ -46,5 +46,6 @@ fn filled_args(alloc: Global, store: &Store, args: &Args) -> Result<Args, NoMemo
     for arg in args.items() {
         terms.push(filled(alloc, store, arg)?)?;
     }
-    Ok(Args::new(terms))
+    let args = Args::new(alloc, terms)?;
+    Ok(args)
 }

@@ -22,7 +22,7 @@ const NO_ATOM: BadSpec = BadSpec {
 };
 
 /// What is wrong with an operand: the first of these that holds. Memory is taken for the clauses of
-/// a text alone.
+/// a text, and for a template whose variables aren't numbered by first appearance yet.
 #[derive(Clone, Copy, Debug, PartialEq, Eq, Error)]
 pub enum OperandFault {
     /// It is beyond the limits of a tuple, a template or a text.
@@ -109,6 +109,7 @@ fn template_of(t: Term) -> Result<Pattern, OperandFault>
         Ok(template) => Ok(template),
         Err(NotPattern::TooBig(_)) => Err(OperandFault::TooBig),
         Err(NotPattern::TooMany(_)) => Err(OperandFault::TooBig),
+        Err(NotPattern::NoMemory(_)) => Err(OperandFault::NoMemory),
     }
 }
 

@@ -164,6 +164,7 @@ fn reaction_from(alloc: Global, t: Term) -> Result<Reaction, ClauseFault>
         Ok(template) => template,
         Err(NotPattern::TooBig(_)) => unreachable!(),
         Err(NotPattern::TooMany(_)) => unreachable!(),
+        Err(NotPattern::NoMemory(_)) => return Err(ClauseFault::NoMemory),
     };
     match reaction_of(alloc, &template) {
         Ok(reaction) => Ok(reaction),

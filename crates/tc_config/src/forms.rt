@@ -32,7 +32,8 @@ pub enum Form {
     Script(Name, Seq<Line>),
 }
 
-/// The form of the clause that the term is, if it is one. What stands in it is moved, not copied.
+/// The form of the clause that the term is, if it is one. What stands in it is moved where no copy
+/// of the term is left.
 ///
 /// Takes time in the number of items of a script.
 pub fn form_of(alloc: Global, t: Term) -> Result<Option<Form>, NoMemory>
@@ -42,7 +43,7 @@ pub fn form_of(alloc: Global, t: Term) -> Result<Option<Form>, NoMemory>
         return Ok(None);
     };
     match word_of(name.bytes()) {
-        Some(word) => form_with(alloc, word, args.into_vec()),
+        Some(word) => form_with(alloc, word, args.into_vec(alloc)?),
         None => Ok(None),
     }
 }

@@ -31,11 +31,13 @@ pub fn lines_of(alloc: Global, list: Term) -> Result<Option<Vec<Line>>, NoMemory
     let mut lines = Vec::new(alloc);
     let mut rest = list;
     loop {
-        match cells_of(rest) {
+        let cells = cells_of(alloc, rest)?;
+        match cells {
             Cells::End => return Ok(Some(lines)),
             Cells::Neither => return Ok(None),
             Cells::Cell(head, tail) => {
-                let Some(line) = line_of(head) else {
+                let found = line_of(alloc, head)?;
+                let Some(line) = found else {
                     return Ok(None);
                 };
                 lines.push(line)?;
@@ -46,13 +48,13 @@ pub fn lines_of(alloc: Global, list: Term) -> Result<Option<Vec<Line>>, NoMemory
 }
 
 // The first cell of a list, or its end.
-fn cells_of(t: Term) -> Cells
-    ensures { AreCells (tree_of t) result }
+fn cells_of(alloc: Global, t: Term) -> Result<Cells, NoMemory>
+    ensures { IfOk result (AreCells (tree_of t)) }
 {
     match t {
-        Term::Atom(name) => end_of(name),
-        Term::Comp(name, args) => cell_of(name, args.into_vec()),
-        Term::Var(_) | Term::Int(_) => Cells::Neither,
+        Term::Atom(name) => Ok(end_of(name)),
+        Term::Comp(name, args) => Ok(cell_of(name, args.into_vec(alloc)?)),
+        Term::Var(_) | Term::Int(_) => Ok(Cells::Neither),
     }
 }
 

@@ -52,7 +52,7 @@ filled_args-returns t c values exact =
     let items = c.items-arg-items.result.now in
     let f : ℕ → Tree = λ n. value_or_variable n (get_or values n None) in
     let whole = take_all c.loop-arg.arg-index items (omega (arith, c.loop-arg-test.false)) in
-    c.new.ensures
+    c.in_ok-args.ensures
     ∙ trees_of-replaced f items c.loop-arg.terms.items
     (c.loop-arg.invariant.replaced values exact ∙ ap (map (λ t. with_values values (tree_of t))) whole)
     ∙ ap (all_with_values values) c.items-arg-items.ensures.trees
