@@ -1,8 +1,8 @@
 -- A term is shaped as a clause in one way at most.
-use Rattle.std.proofs.Common.{◌≡◌, ◌≤◌, ℕ, List, [], ◌∷◌, Bool, true, false, if◌then◌else◌, length, map, refl, ap, sym, subst, ◌∙◌, codes, arith}
+use Rattle.std.proofs.Common.{◌≡◌, ◌≤◌, ℕ, List, [], ◌∷◌, true, false, if◌then◌else◌, length, map, refl, ap, sym, subst, ◌∙◌, codes, arith}
 use Rattle.std.specs.Str.{bytes_eq}
 use Rattle.tc_term.specs.Tree.{Tree, Atomic}
-use Rattle.tc_model.specs.Reactions.{IsGuard, of_two, of_three, test_name, test_term, guard_term, clause_of_form}
+use Rattle.tc_model.specs.Reactions.{IsGuard, of_two, of_three, test_term, guard_term, clause_of_form}
 use Rattle.tc_model.specs.declared.reactions.Form.{Form}
 use Rattle.tc_model.specs.declared.reactions.Form.TheVariants.{Two, Three}
 use Rattle.tc_model.specs.declared.reactions.GuardTest.{GuardTest}

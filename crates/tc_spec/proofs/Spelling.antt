@@ -12,7 +12,7 @@ use Rattle.tc_term.specs.Text.{Alone}
 use Rattle.tc_term.specs.Tree.{Tree, Fits}
 use Rattle.tc_term.specs.Variables.{variables, variables_after, IsPattern}
 use Rattle.tc_model.specs.Events.{op_name}
-use Rattle.tc_model.specs.Reactions.{Rule, IsRule, of_one, of_two, of_three, guard_term, goal_term, clause_of_form, clause_term}
+use Rattle.tc_model.specs.Reactions.{Rule, IsRule, of_one, guard_term, goal_term, clause_of_form, clause_term}
 use Rattle.tc_model.specs.declared.reactions.Form.{Form}
 use Rattle.tc_model.specs.declared.reactions.Form.TheVariants.{Two, Three}
 use Rattle.tc_model.specs.declared.reactions.GuardTest.{GuardTest}

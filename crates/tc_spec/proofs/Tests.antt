@@ -1,10 +1,9 @@
 -- Guards: their leaves as tests, and what their tests allow.
-use Rattle.std.proofs.Common.{◌≡◌, ◌≢◌, ◌≤◌, ◌<◌, ◌+◌, ◌↔◌, ℕ, List, [], ◌∷◌, ◌++◌, All, Bool, true, false, IsTrue, Result, Ok, Err, IfOk, length, map, get_or, refl, ap, sym, subst, ◌∙◌, codes, arith}
-use Rattle.std.proofs.lemmas.List.{append_assoc, length-map, map-append}
+use Rattle.std.proofs.Common.{◌≡◌, ◌≤◌, ◌<◌, ◌↔◌, ℕ, List, [], ◌∷◌, ◌++◌, All, Bool, true, false, IsTrue, Result, Ok, Err, IfOk, length, map, get_or, refl, ap, sym, subst, ◌∙◌, codes, arith}
+use Rattle.std.proofs.lemmas.List.{append_assoc, map-append}
 use Rattle.std.proofs.lemmas.List.Elements.{All-nil, All-cons, All-head, All-push}
 use Rattle.tc_lists.proofs.Elements.{All-append_left, All-append_right}
-use Rattle.tc_term.specs.Tree.{Tree, Variable, Atomic, Number, Compound, Trees}
-use Rattle.tc_term.specs.TreeView.{tree_of}
+use Rattle.tc_term.specs.Tree.{Tree, Atomic}
 use Rattle.tc_model.specs.Events.{Occurrence}
 use Rattle.tc_model.specs.Reactions.{test_term}
 use Rattle.tc_model.specs.Triggers.{Holds}
@@ -15,7 +14,6 @@ use Rattle.tc_model.specs.declared.limits.TheConstants.{MOST_TESTS}
 use Rattle.tc_model.specs.declared.reactions.GuardTest.{GuardTest}
 use Rattle.tc_model.specs.declared.reactions.GuardTest.TheVariants.{Request, Response, Success, Failure}
 use Rattle.tc_spec.proofs.Commas.{leaves-other, leaves-pair, leaves-some}
-use Rattle.tc_spec.proofs.Shapes.{no_test}
 use Rattle.tc_spec.specs.Guards.{Allows, Forbids, IsTestTerm}
 use Rattle.tc_spec.specs.Written.{IsGuardOf, IsNoTwo, IsTwo, leaves}
 

@@ -7,7 +7,7 @@
 //! |---|---|
 //! | `tuples(T,..)`, or `tuples` for none | none: these are the tuples from here on, oldest first |
 //! | `request(OP(T))`, `success(OP(T))`, `failure(OP(T))` | none: this is the event from here on |
-//! | `reaction(Head,Body)` | what comes of the body: its item, its events, and the tuples that it leaves |
+//! | `reaction(Head,Body)`, `reaction(Head,Guard,Body)` | what comes of the body, whatever the guard: its item, its events, and the tuples that it leaves |
 //! | `text(P,..)` | how many clauses the text is, or which one is faulty, and why |
 //! | `printed` | the clauses of the last good text, as they are printed |
 //! | `triggered` | the numbers of those of them that the event triggers |

@@ -1,7 +1,6 @@
-use Rattle.std.proofs.Common.{◌≡◌, ◌+◌, length, take, get_or, refl, sym, subst, All, arith}
+use Rattle.std.proofs.Common.{take, get_or, refl, sym, subst, arith}
 use Rattle.std.proofs.lemmas.List.{take_all, get_or_default}
 use Rattle.tc_lists.proofs.Parts.{take_read}
-use Rattle.tc_model.specs.Triggers.{Holds}
 use Rattle.tc_model.specs.declared.reactions.GuardTest.TheVariants.{Request}
 use Rattle.tc_spec.specs.Guards.{Allows}
 use Rattle.tc_spec.proofs.Tests.{allows_more, forbids_by}

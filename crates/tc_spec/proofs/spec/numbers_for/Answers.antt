@@ -1,5 +1,4 @@
 use Rattle.std.proofs.Common.{◌≡◌, ◌<◌, length, sym, subst, ◌∙◌, arith}
-use Rattle.tc_lists.proofs.Options.{IfSome-at}
 use Rattle.tc_term.specs.TreeView.{tree_of}
 use Rattle.tc_spec.proofs.Parted.{part_enough, part_found}
 use Rattle.tc_spec.proofs.Sifting.{of_enough}
