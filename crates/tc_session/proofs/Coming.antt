@@ -1,15 +1,16 @@
 -- What a line came to.
-use Rattle.std.proofs.Common.{◌≡◌, ℕ, ◌+◌, ◌-◌, ◌<◌, List, [], ◌∷◌, ◌++◌, false, Option, Some, None, Result, Ok, Err, OnOk, OnErr, IfSome, length, refl, sym, ap, subst, ◌∙◌, length-append, arith}
-use Rattle.std.specs.Prelude.{slice_get}
+use Rattle.std.proofs.Common.{◌≡◌, ℕ, ◌+◌, ◌-◌, ◌<◌, List, [], ◌∷◌, ◌++◌, Option, Some, None, Result, Ok, Err, OnOk, OnErr, IfSome, length, refl, sym, ap, subst, ◌∙◌, length-append, arith}
+use Rattle.std.specs.Prelude.{codes, slice_get}
 use Rattle.std.specs.declared.alloc.AllocError.{AllocError}
 use Rattle.tc_lists.proofs.Places.{slice_get_longer, slice_get_pushed}
 use Rattle.tc_model.specs.declared.asks.Ask.{Ask}
 use Rattle.tc_model.specs.declared.outcomes.Reply.{Reply}
-use Rattle.tc_desk.specs.Desks.{DeskState, Gets, HasRowOfPoll, IsRowAnswered, Makes, Polls, Refuses, replied}
+use Rattle.tc_desk.specs.Desks.{DeskState, Gets, IsRowAnswered, Makes, Polls, Refuses, replied}
 use Rattle.tc_desk.specs.declared.rows.LogRow.{LogRow}
 use Rattle.tc_desk.specs.declared.rows.Refusal.{Refusal}
 use Rattle.tc_desk.specs.declared.rows.Refusal.TheVariants as refusal
 use Rattle.tc_desk.specs.declared.desks.Served.{Served}
+use Rattle.tc_desk.specs.declared.desks.Served.TheVariants as desk_served
 use Rattle.tc_desk.specs.declared.desks.Seen.TheVariants.{Answered}
 use Rattle.tc_histtext.specs.Text.{refusal_text, reply_text, result_text}
 use Rattle.tc_histtext.specs.declared.versions.Version.TheVariants.{One}
@@ -17,7 +18,7 @@ use Rattle.tc_lines.specs.Replies.{error_line, reply_line}
 use Rattle.tc_lines.specs.declared.requests.BadLine.{BadLine}
 use Rattle.tc_lines.specs.declared.requests.LineAsk.{LineAsk}
 use Rattle.tc_lines.specs.declared.requests.LineAsk.TheVariants.{Call, Poll, Wait}
-use Rattle.tc_session.specs.Answering.{IsCame, IsPendingPlace, IsPushed, came_of}
+use Rattle.tc_session.specs.Answering.{IsCame, IsPushed, PendsAt, came_of}
 use Rattle.tc_session.specs.Answers.{Answers}
 use Rattle.tc_session.specs.declared.answering.Came.{Came}
 use Rattle.tc_session.specs.declared.answering.Came.TheVariants as came
@@ -77,11 +78,18 @@ pub refused : (d : DeskState) (centre : List ℕ) (ask : Ask) (why : Refusal) (e
 refused d centre ask why e c old new refuses not pushed =
     told d (Ok (Call centre ask)) (error_line (refusal_text One why)) e old new c (Err why, (not, refuses, refl)) pushed
 
+-- a call that was served and waits, of which so much is told
+pub waits_so : (d : DeskState) (centre : List ℕ) (ask : Ask) (e : DeskState) (old new : List ℕ)
+    → Makes d centre ask desk_served.Pending e → new ≡ old ++ reply_line (codes "pending")
+    → IsCame d (Ok (Call centre ask)) old came.GoesOn new e
+waits_so d centre ask e old new made is =
+    (reply_line (result_text One made.result), (Ok desk_served.Pending, (made, refl)), is ∙ ap (λ r. old ++ reply_line (result_text One r)) (sym made.served))
+
 -- the pending call's reply, read off its row at the place where it was pending
 got_row : (before after : List LogRow) (reply : Reply) (place : Option ℕ) → (answered : IsRowAnswered before reply after)
-    → IfSome place (IsPendingPlace before) → IfSome place (λ k. slice_get after k ≡ Some (replied answered.row reply))
-got_row before after reply None answered at = at
-got_row before after reply (Some k) answered at = has_reply before after reply k at.0 answered at.1 at.2
+    → PendsAt before place → IfSome place (λ k. slice_get after k ≡ Some (replied answered.row reply))
+got_row before after reply None answered pends = tt
+got_row before after reply (Some k) answered pends = has_reply before after reply k pends.0 answered pends.1 pends.2
 
 longer : (middle log : List LogRow) (behind row : LogRow) (place : Option ℕ) → log ≡ middle ++ behind ∷ []
     → IfSome place (λ k. slice_get middle k ≡ Some row) → IfSome place (λ k. slice_get log k ≡ Some row)
@@ -89,37 +97,24 @@ longer middle log behind row None is at = at
 longer middle log behind row (Some k) is at = ap (λ l. slice_get l k) is ∙ slice_get_longer middle (behind ∷ []) k row at
 
 -- what was told of a pending call
-pub polled : (d : DeskState) (reply : Reply) (e : DeskState) (log : List LogRow) (place : Option ℕ) (c : Came) (old new : List ℕ)
-    → HasRowOfPoll d (Some reply) e → e.waits ≡ false → log ≡ e.log → IfSome place (IsPendingPlace d.log)
+pub polled : (d e : DeskState) (log : List LogRow) (place : Option ℕ) (c : Came) (old new : List ℕ)
+    → Polls d (Ok Answered) e → log ≡ e.log → PendsAt d.log place
     → ((row : LogRow) → IfSome place (λ k. slice_get log k ≡ Some row) → IsPushed (reply_line (result_text One row.result)) old c new)
     → IsCame d (Ok Poll) old c new e
-polled d reply e log place c old new has waits is pending pushed =
-    told d (Ok Poll) (reply_line (reply_text reply)) e old new c (Ok Answered, (reply, has, waits, refl))
+polled d e log place c old new polls is pends pushed =
+    let reply = polls.0 in
+    let has = polls.1 in
+    told d (Ok Poll) (reply_line (reply_text reply)) e old new c (Ok Answered, (reply, has, polls.2, refl))
     (pushed (replied has.answered.row reply)
-    (longer has.middle log _ (replied has.answered.row reply) place (is ∙ has.log) (got_row d.log has.middle reply place has.answered pending)))
+    (longer has.middle log _ (replied has.answered.row reply) place (is ∙ has.log) (got_row d.log has.middle reply place has.answered pends)))
 
 -- the reply for which a wait was
 pub waited : (d e : DeskState) (log : List LogRow) (place : Option ℕ) (c : Came) (old new : List ℕ)
-    → Gets d e → log ≡ e.log → IfSome place (IsPendingPlace d.log)
+    → Gets d e → log ≡ e.log → PendsAt d.log place
     → ((row : LogRow) → IfSome place (λ k. slice_get log k ≡ Some row) → IsPushed (reply_line (result_text One row.result)) old c new)
     → IsCame d (Ok Wait) old c new e
-waited d e log place c old new got is pending pushed =
+waited d e log place c old new got is pends pushed =
     told d (Ok Wait) (reply_line (reply_text got.reply)) e old new c (Ok tt, (got, refl))
     (pushed (replied got.answered.row got.reply)
     (subst (λ (l : List LogRow). IfSome place (λ k. slice_get l k ≡ Some (replied got.answered.row got.reply))) (sym is)
-    (got_row d.log e.log got.reply place got.answered pending)))
-
--- the same, from the log before
-pub polled_at : (d e : DeskState) (before log : List LogRow) (place : Option ℕ) (c : Came) (old new : List ℕ) → Polls d (Ok Answered) e
-    → before ≡ d.log → log ≡ e.log → IfSome place (IsPendingPlace before)
-    → ((row : LogRow) → IfSome place (λ k. slice_get log k ≡ Some row) → IsPushed (reply_line (result_text One row.result)) old c new)
-    → IsCame d (Ok Poll) old c new e
-polled_at d e before log place c old new polls same is pending pushed =
-    polled d polls.0 e log place c old new polls.1 polls.2 is (subst (λ (l : List LogRow). IfSome place (IsPendingPlace l)) same pending) pushed
-
-pub waited_at : (d e : DeskState) (before log : List LogRow) (place : Option ℕ) (c : Came) (old new : List ℕ) → Gets d e
-    → before ≡ d.log → log ≡ e.log → IfSome place (IsPendingPlace before)
-    → ((row : LogRow) → IfSome place (λ k. slice_get log k ≡ Some row) → IsPushed (reply_line (result_text One row.result)) old c new)
-    → IsCame d (Ok Wait) old c new e
-waited_at d e before log place c old new got same is pending pushed =
-    waited d e log place c old new got is (subst (λ (l : List LogRow). IfSome place (IsPendingPlace l)) same pending) pushed
+    (got_row d.log e.log got.reply place got.answered pends)))

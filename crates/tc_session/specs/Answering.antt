@@ -1,7 +1,9 @@
 -- What a line came to, with the replies that are kept before and after it.
-use Rattle.std.specs.Prelude.{◌≡◌, ℕ, List, ◌++◌, codes, slice_get, Some, Result, Ok, Err}
+use Rattle.std.specs.Prelude.{◌≡◌, ℕ, List, ◌++◌, false, codes, slice_get, Option, Some, None}
+use Rattle.std.specs.Prelude.{Result, Ok, Err}
 use Rattle.std.specs.declared.alloc.AllocError.{AllocError}
 use Rattle.tc_desk.specs.Desks.{DeskState}
+use Rattle.tc_desk.specs.Logs.{any_pending}
 use Rattle.tc_desk.specs.declared.rows.LogRow.{LogRow}
 use Rattle.tc_desk.specs.declared.rows.LogResult.TheVariants.{Pending}
 use Rattle.tc_lines.specs.Replies.{error_line, reply_line}
@@ -28,6 +30,11 @@ IsCame d asked old came.Unwritten new e =
 abbrev pub IsPendingPlace : List LogRow → ℕ → Type 0
 IsPendingPlace log place =
     (row : LogRow) × (slice_get log place ≡ Some row) × (row.result ≡ Pending)
+
+-- the row of the log that is pending stands at this place, if one is pending
+abbrev pub PendsAt : List LogRow → Option ℕ → Type 0
+PendsAt log (Some place) = IsPendingPlace log place
+PendsAt log None = any_pending log ≡ false
 
 -- whether a reply was appended
 abbrev pub came_of : Result (Unit {0}) AllocError → Came

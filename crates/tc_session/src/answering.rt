@@ -1,21 +1,20 @@
 //! One line at a desk.
-ghost use Rattle.std.specs.Prelude.{◌≡◌, ◌+◌, ◌<◌, ◌≤◌, List, [], ◌∷◌, ◌++◌, true, false};
-ghost use Rattle.std.specs.Prelude.{Ok, Some, IfNone, IfSome, IsSomeAnd, IsTrue, codes};
+ghost use Rattle.std.specs.Prelude.{◌≡◌, ◌+◌, ◌<◌, ◌≤◌, List, [], ◌∷◌, ◌++◌, true};
+ghost use Rattle.std.specs.Prelude.{Ok, Some, IfSome, IsSomeAnd, IsTrue, codes};
 ghost use Rattle.std.specs.Prelude.{length, slice_get, vec_len, vec_capacity};
-ghost use Rattle.tc_desk.specs.Logs.{any_pending};
 ghost use Rattle.tc_desk.specs.declared.rows.LogRow.{LogRow};
 ghost use Rattle.tc_desk.specs.declared.rows.LogResult.TheVariants.{Pending};
 ghost use Rattle.tc_histtext.specs.Text.{result_text};
 ghost use Rattle.tc_histtext.specs.Text.{refusal_text as refusal_words};
 ghost use Rattle.tc_histtext.specs.declared.versions.Version.TheVariants.{One};
 ghost use Rattle.tc_lines.specs.Replies.{error_line, reply_line};
-ghost use Rattle.tc_session.specs.Answering.{IsCame, IsPendingPlace, IsPushed, came_of};
+ghost use Rattle.tc_session.specs.Answering.{IsCame, IsPendingPlace, IsPushed, PendsAt, came_of};
 ghost use Rattle.tc_session.specs.Answers.{KeepsDesk};
 
 use crate::texts::{push_error, push_row, push_words};
 use std::alloc::Global;
 use std::sync::Wait;
-use tc_desk::{Desk, DeskFault, LogRow, Refusal, Seen};
+use tc_desk::{Desk, DeskFault, LogRow, Refusal, Seen, Served};
 use tc_lines::{BadLine, LineAsk, refusal_text};
 use tc_lists::NoMemory;
 use tc_model::Ask;
@@ -42,21 +41,26 @@ pub(crate) fn answer<R: Wait, D: Desk>(
     rt: &R,
     alloc: Global,
     desk: &mut D,
+    pending: &mut Option<usize>,
     asked: Result<LineAsk, BadLine>,
     replies: &mut Vec<u8>,
 ) -> Came
     requires free { (D.state desk.old).free ≡ true }
+    requires pends { PendsAt (D.state desk.old).log pending.old }
     requires room { vec_len replies.old + ROOM ≤ vec_capacity replies.old }
     ensures came { IsCame (D.state desk.old) asked replies.old.items result replies.new.items
         (D.state desk.new) }
+    ensures pends { PendsAt (D.state desk.new).log pending.new }
     ensures kept { KeepsDesk (D.state desk.old) (D.state desk.new) }
     ensures bond { D.bond desk.new ≡ D.bond desk.old }
     ensures sound { D.sound desk.old → D.sound desk.new }
 {
     match asked {
-        Ok(LineAsk::Call(centre, ask)) => answer_call(rt, alloc, desk, &centre, ask, replies),
-        Ok(LineAsk::Poll) => answer_poll(rt, alloc, desk, replies),
-        Ok(LineAsk::Wait) => answer_wait(rt, alloc, desk, replies),
+        Ok(LineAsk::Call(centre, ask)) => {
+            answer_call(rt, alloc, desk, pending, &centre, ask, replies)
+        }
+        Ok(LineAsk::Poll) => answer_poll(rt, alloc, desk, pending, replies),
+        Ok(LineAsk::Wait) => answer_wait(rt, alloc, desk, pending, replies),
         Ok(LineAsk::Quit) => {
             push_words(b"bye", replies);
             Came::Quits
@@ -73,20 +77,28 @@ fn answer_call<R: Wait, D: Desk>(
     rt: &R,
     alloc: Global,
     desk: &mut D,
+    pending: &mut Option<usize>,
     centre: &Name,
     ask: Ask,
     replies: &mut Vec<u8>,
 ) -> Came
     requires free { (D.state desk.old).free ≡ true }
+    requires pends { PendsAt (D.state desk.old).log pending.old }
     requires room { vec_len replies.old + ROOM ≤ vec_capacity replies.old }
     ensures came { IsCame (D.state desk.old) (Ok (LineAsk.Call centre.now ask)) replies.old.items
         result replies.new.items (D.state desk.new) }
+    ensures pends { PendsAt (D.state desk.new).log pending.new }
     ensures kept { KeepsDesk (D.state desk.old) (D.state desk.new) }
     ensures bond { D.bond desk.new ≡ D.bond desk.old }
     ensures sound { D.sound desk.old → D.sound desk.new }
 {
     match desk.call(rt, alloc, centre, ask) {
-        Ok(_) => push_last(alloc, desk.log(), replies),
+        Ok(Served::Replied) => push_last(alloc, desk.log(), replies),
+        Ok(Served::Pending) => {
+            *pending = Some(desk.log().len() - 1);
+            push_words(b"pending", replies);
+            Came::GoesOn
+        }
         Err(why) => {
             if why == Refusal::NoMemory {
                 tell_no_memory(replies)
@@ -98,18 +110,25 @@ fn answer_call<R: Wait, D: Desk>(
 }
 
 // Polls.
-fn answer_poll<R: Wait, D: Desk>(rt: &R, alloc: Global, desk: &mut D, replies: &mut Vec<u8>) -> Came
+fn answer_poll<R: Wait, D: Desk>(
+    rt: &R,
+    alloc: Global,
+    desk: &mut D,
+    pending: &mut Option<usize>,
+    replies: &mut Vec<u8>,
+) -> Came
     requires free { (D.state desk.old).free ≡ true }
+    requires pends { PendsAt (D.state desk.old).log pending.old }
     requires room { vec_len replies.old + ROOM ≤ vec_capacity replies.old }
     ensures came { IsCame (D.state desk.old) (Ok LineAsk.Poll) replies.old.items result
         replies.new.items (D.state desk.new) }
+    ensures pends { PendsAt (D.state desk.new).log pending.new }
     ensures kept { KeepsDesk (D.state desk.old) (D.state desk.new) }
     ensures bond { D.bond desk.new ≡ D.bond desk.old }
     ensures sound { D.sound desk.old → D.sound desk.new }
 {
-    let place = pending_place(desk.log());
     match desk.poll(rt, alloc) {
-        Ok(Seen::Answered) => push_answered(alloc, desk.log(), place, replies),
+        Ok(Seen::Answered) => push_answered(alloc, desk.log(), pending.take(), replies),
         Ok(Seen::StillPending) => {
             push_words(b"pending", replies);
             Came::GoesOn
@@ -122,18 +141,25 @@ fn answer_poll<R: Wait, D: Desk>(rt: &R, alloc: Global, desk: &mut D, replies: &
 }
 
 // Waits.
-fn answer_wait<R: Wait, D: Desk>(rt: &R, alloc: Global, desk: &mut D, replies: &mut Vec<u8>) -> Came
+fn answer_wait<R: Wait, D: Desk>(
+    rt: &R,
+    alloc: Global,
+    desk: &mut D,
+    pending: &mut Option<usize>,
+    replies: &mut Vec<u8>,
+) -> Came
     requires free { (D.state desk.old).free ≡ true }
+    requires pends { PendsAt (D.state desk.old).log pending.old }
     requires room { vec_len replies.old + ROOM ≤ vec_capacity replies.old }
     ensures came { IsCame (D.state desk.old) (Ok LineAsk.Wait) replies.old.items result
         replies.new.items (D.state desk.new) }
+    ensures pends { PendsAt (D.state desk.new).log pending.new }
     ensures kept { KeepsDesk (D.state desk.old) (D.state desk.new) }
     ensures bond { D.bond desk.new ≡ D.bond desk.old }
     ensures sound { D.sound desk.old → D.sound desk.new }
 {
-    let place = pending_place(desk.log());
     match desk.wait(rt, alloc) {
-        Ok(()) => push_answered(alloc, desk.log(), place, replies),
+        Ok(()) => push_answered(alloc, desk.log(), pending.take(), replies),
         Err(DeskFault::Idle) => complain(b"idle", replies),
         Err(DeskFault::TurnsSpent) => complain(b"turns spent", replies),
         Err(DeskFault::NoMemory) => tell_no_memory(replies),
@@ -141,10 +167,9 @@ fn answer_wait<R: Wait, D: Desk>(rt: &R, alloc: Global, desk: &mut D, replies: &
     }
 }
 
-// The place of a row that is pending, the last one first.
-fn pending_place(log: &[LogRow]) -> Option<usize>
-    ensures some { IfSome result (IsPendingPlace log.now) }
-    ensures none { IfNone result (any_pending log.now ≡ false) }
+/// The place of a row that is pending, the last one first.
+pub(crate) fn pending_place(log: &[LogRow]) -> Option<usize>
+    ensures { PendsAt log.now result }
 {
     for behind in 0..log.len() {
         let place = log.len() - 1 - behind;

@@ -9,10 +9,11 @@ ghost use Rattle.tc_io.specs.Sources.{source_of};
 ghost use Rattle.tc_lines.specs.Lines.{HasNoBreak};
 ghost use Rattle.tc_lines.specs.Requests.{BeginsWith};
 ghost use Rattle.tc_lines.specs.declared.limits.TheConstants.{MOST_LINE};
+ghost use Rattle.tc_session.specs.Answering.{PendsAt};
 ghost use Rattle.tc_session.specs.Sessions.{IsSession, cut_text};
 ghost use Rattle.tc_session.specs.SoFar.{Finishes, IsSoFar, Moment, StepsTo, moment};
 
-use crate::answering::{Came, ROOM, answer};
+use crate::answering::{Came, ROOM, answer, pending_place};
 use crate::endings::SessionEnd;
 use crate::sending::{finish, flush, prepare, read_more};
 use crate::texts::push_error;
@@ -27,8 +28,9 @@ const MOST_READ: usize = 4_096;
 
 /// Serves the lines of a link at a desk, until one asks for the end or no further one comes.
 ///
-/// Replies are gathered, and written when no whole line is left to answer, before a wait, and where
-/// they are many; so lines that come together are answered at the price of one.
+/// Replies are gathered, and written when no whole line is left to answer, before a wait for a
+/// pending call, and where they are many; so lines that come together are answered at the price of
+/// one. The place of the pending call's row is kept, so no line costs a walk through the log.
 pub fn serve_session<R: Wait, D: Desk, L: Link>(
     rt: &R,
     alloc: Global,
@@ -59,8 +61,19 @@ pub fn serve_session<R: Wait, D: Desk, L: Link>(
     let mut lines = Lines::new(alloc);
     let mut replies = Vec::new(alloc);
     let mut buffer = [0; MOST_READ];
+    let mut pending = pending_place(desk.log());
     for _ in rt.forever() {
-        if let Some(end) = step(rt, alloc, desk, link, &mut lines, &mut replies, &mut buffer) {
+        let over = step(
+            rt,
+            alloc,
+            desk,
+            &mut pending,
+            link,
+            &mut lines,
+            &mut replies,
+            &mut buffer,
+        );
+        if let Some(end) = over {
             return end;
         }
     }
@@ -72,12 +85,14 @@ fn step<R: Wait, D: Desk, L: Link>(
     rt: &R,
     alloc: Global,
     desk: &mut D,
+    pending: &mut Option<usize>,
     link: &mut L,
     lines: &mut Lines,
     replies: &mut Vec<u8>,
     buffer: &mut [u8],
 ) -> Option<SessionEnd>
     requires free { (D.state desk.old).free ≡ true }
+    requires pends { PendsAt (D.state desk.old).log pending.old }
     requires buffer { 0 < length buffer.old }
     ensures steps { (from : Moment) → IsSoFar from
         (moment L.Source.left L.Source.read_faults L.Source.sure L.Sink.taken L.Sink.write_faults
@@ -85,6 +100,7 @@ fn step<R: Wait, D: Desk, L: Link>(
         → StepsTo from result
         (moment L.Source.left L.Source.read_faults L.Source.sure L.Sink.taken L.Sink.write_faults
         L.Sink.sure link.new lines.new replies.new.items (D.state desk.new)) }
+    ensures pends { PendsAt (D.state desk.new).log pending.new }
     ensures kept { Keeps (D.state desk.old) (D.state desk.new) }
     ensures bond { D.bond desk.new ≡ D.bond desk.old }
     ensures sound { D.sound desk.old → D.sound desk.new }
@@ -93,22 +109,24 @@ fn step<R: Wait, D: Desk, L: Link>(
         return Some(end);
     }
     match lines.next_request(alloc) {
-        Some(asked) => serve_line(rt, alloc, desk, link, asked, replies),
+        Some(asked) => serve_line(rt, alloc, desk, pending, link, asked, replies),
         None => refill(link, lines, replies, buffer),
     }
 }
 
-// Serves a line that asks this. Before a wait all replies are written. How the session ends, if it
-// does.
+// Serves a line that asks this. Before a wait for a pending call all replies are written. How the
+// session ends, if it does.
 fn serve_line<R: Wait, D: Desk, L: Link>(
     rt: &R,
     alloc: Global,
     desk: &mut D,
+    pending: &mut Option<usize>,
     link: &mut L,
     asked: Result<LineAsk, BadLine>,
     replies: &mut Vec<u8>,
 ) -> Option<SessionEnd>
     requires free { (D.state desk.old).free ≡ true }
+    requires pends { PendsAt (D.state desk.old).log pending.old }
     requires room { vec_len replies.old + ROOM ≤ vec_capacity replies.old }
     ensures steps { (from : Moment) (held rest : List ℕ) → BeginsWith held asked rest
         → IsSoFar from
@@ -117,14 +135,15 @@ fn serve_line<R: Wait, D: Desk, L: Link>(
         → StepsTo from result
         (moment L.Source.left L.Source.read_faults L.Source.sure L.Sink.taken L.Sink.write_faults
         L.Sink.sure link.new rest replies.new.items (D.state desk.new)) }
+    ensures pends { PendsAt (D.state desk.new).log pending.new }
     ensures kept { Keeps (D.state desk.old) (D.state desk.new) }
     ensures bond { D.bond desk.new ≡ D.bond desk.old }
     ensures sound { D.sound desk.old → D.sound desk.new }
 {
-    if let Some(end) = flush_before(link, &asked, replies) {
+    if let Some(end) = flush_before(link, &asked, pending.is_some(), replies) {
         return Some(end);
     }
-    match answer(rt, alloc, desk, asked, replies) {
+    match answer(rt, alloc, desk, pending, asked, replies) {
         Came::GoesOn => None,
         Came::Quits => Some(finish(link, replies, SessionEnd::Quit)),
         Came::NoMemory => Some(finish(link, replies, SessionEnd::NoMemory)),
@@ -132,10 +151,12 @@ fn serve_line<R: Wait, D: Desk, L: Link>(
     }
 }
 
-// Writes all replies, where the line asks to wait. How the session ends, if it does.
+// Writes all replies, where the line asks to wait for a call that is pending. How the session ends,
+// if it does.
 fn flush_before<L: Link>(
     link: &mut L,
     asked: &Result<LineAsk, BadLine>,
+    is_pending: bool,
     replies: &mut Vec<u8>,
 ) -> Option<SessionEnd>
     requires room { vec_len replies.old + ROOM ≤ vec_capacity replies.old }
@@ -148,8 +169,8 @@ fn flush_before<L: Link>(
     ensures room { IfNone result (vec_len replies.new + ROOM ≤ vec_capacity replies.new) }
 {
     match asked {
-        Ok(LineAsk::Wait) => flush(link, replies),
-        Ok(LineAsk::Call(..) | LineAsk::Poll | LineAsk::Quit) | Err(_) => None,
+        Ok(LineAsk::Wait) if is_pending => flush(link, replies),
+        Ok(LineAsk::Call(..) | LineAsk::Poll | LineAsk::Wait | LineAsk::Quit) | Err(_) => None,
     }
 }
 

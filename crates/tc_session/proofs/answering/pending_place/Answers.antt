@@ -11,5 +11,5 @@ loop-behind-preserved c =
     let no : IsTrue c.is_pending_at.result → ⊥ = search rules in
     behind_more c.args.log.now c.loop-behind.behind _ c.is_pending_at.result (omega arith) c.is_pending_at.ensures.told no c.loop-behind.invariant
 
-pub returns-clause-none : goal.returns-clause-none
-returns-clause-none c = none_pending c.args.log.now (λ k row at pending. let low = c.loop-behind.invariant k row at pending in omega (arith, low))
+pub returns : goal.returns
+returns c = none_pending c.args.log.now (λ k row at pending. let low = c.loop-behind.invariant k row at pending in omega (arith, low))
