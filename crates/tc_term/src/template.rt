@@ -82,6 +82,17 @@ impl Pattern {
         }
     }
 
+    /// A term that is known to be a template, with so many variables, numbered by first appearance.
+    ///
+    /// Neither is looked at again: takes O(1) time and no memory.
+    pub fn known(term: Term, vars: u32) -> Pattern
+        requires pattern { IsPattern (tree_of term) }
+        requires count { vars ≡ length (variables (tree_of term)) }
+        ensures { result ≡ tree_of term }
+    {
+        Pattern { term, vars }
+    }
+
     /// A tuple as a template, which has no variable. No memory is taken.
     pub fn of_tuple(tuple: Ground) -> Pattern
         ensures { result ≡ tuple }

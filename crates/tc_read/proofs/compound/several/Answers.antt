@@ -4,7 +4,7 @@ use Rattle.tc_read.specs.Items.{kept_item, parts_view}
 use Rattle.tc_read.specs.Kept.{finished, joined, parts}
 use Rattle.tc_read.specs.Machine.{turned}
 use Rattle.tc_read.proofs.Framed.{applied-turned, tops-some, under-some}
-use Rattle.tc_read.proofs.compound.compound.Goals as goal
+use Rattle.tc_read.proofs.compound.several.Goals as goal
 
 pub loop-left-init : goal.loop-left-init
 loop-left-init c = (λ last e. (last, refl, e), refl, refl)
