@@ -174,7 +174,7 @@ fn is_goal(term: &Term) -> bool {
 fn text_of(alloc: Global, event: &Name, head: &Term, goals: &[Term]) -> Result<Vec<u8>, NoMemory> {
     let mut args = Vec::new(alloc);
     append(&mut args, head.copy(alloc)?)?;
-    let event = compound(event.copy(alloc)?, args);
+    let event = compound(alloc, event.copy(alloc)?, args)?;
     let body = body_of(alloc, goals)?;
     let mut text = Vec::new(alloc);
     append_term(alloc, &of_two(alloc, b"reaction", event, body)?, &mut text)?;
@@ -200,7 +200,7 @@ fn of_two(alloc: Global, name: &[u8], left: Term, right: Term) -> Result<Term, N
     let mut args = Vec::new(alloc);
     append(&mut args, left)?;
     append(&mut args, right)?;
-    Ok(compound(Name::new(alloc, name)?, args))
+    compound(alloc, Name::new(alloc, name)?, args)
 }
 
 /// The text of clauses.
