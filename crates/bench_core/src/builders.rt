@@ -4,17 +4,17 @@ use std::alloc::Global;
 use tc_lists::{NoMemory, append_number};
 use tc_model::Op;
 use tc_read::read_term;
-use tc_term::{Args, Ground, Name, Pattern, Term};
+use tc_term::{Args, Ground, Name, NotPattern, Pattern, Term};
 
 /// The term `name(x)`.
 pub fn one(alloc: Global, name: &[u8], x: Term) -> Result<Term, NoMemory> {
-    let args = Args::new(vec![in alloc; x]?);
+    let args = Args::one(alloc, x)?;
     Ok(Term::Comp(Name::new(alloc, name)?, args))
 }
 
 /// The term `p(x,y)`.
 pub fn pair(alloc: Global, x: Term, y: Term) -> Result<Term, NoMemory> {
-    let args = Args::new(vec![in alloc; x, y]?);
+    let args = Args::two(alloc, x, y)?;
     Ok(Term::Comp(Name::new(alloc, b"p")?, args))
 }
 
@@ -65,6 +65,7 @@ pub fn call(verb: Verb, term: Term) -> Result<Op, BenchFault> {
 fn asked(term: Term) -> Result<Pattern, BenchFault> {
     match Pattern::of(term) {
         Ok(template) => Ok(template),
+        Err(NotPattern::NoMemory(_)) => Err(BenchFault::NoMemory(NoMemory)),
         Err(_) => Err(BenchFault::Text),
     }
 }

@@ -46,8 +46,6 @@ fn link(store: &mut Store, doubled: &Term, i: u32) -> Result<bool, AllocError>
 fn doubled(alloc: Global) -> Result<Term, AllocError>
     ensures { IfOk result (λ term. var_bound (tree_of term) ≡ 1) }
 {
-    let mut arguments = Vec::new(alloc);
-    arguments.push(Term::Var(0))?;
-    arguments.push(Term::Var(0))?;
-    Ok(Term::Comp(Name::new(alloc, b"f")?, Args::new(arguments)))
+    let args = Args::two(alloc, Term::Var(0), Term::Var(0))?;
+    Ok(Term::Comp(Name::new(alloc, b"f")?, args))
 }

@@ -3,10 +3,8 @@
 //! What a term evaluates to is defined beside terms; here it is computed. No memory is taken.
 //!
 //! ```rattle
-//! let mut args = Vec::new(alloc);
-//! args.push(Term::Int(-7))?;
-//! args.push(Term::Int(2))?;
-//! let term = Term::Comp(Name::new(alloc, b"mod")?, Args::new(args));
+//! let args = Args::two(alloc, Term::Int(-7), Term::Int(2))?;
+//! let term = Term::Comp(Name::new(alloc, b"mod")?, args);
 //! let tuple = Ground::of(term)?; // -7 mod 2
 //! assert!(rt; eval(&tuple) == Some(1));
 //! assert!(rt; compare(Cmp::Le, 1, 1));

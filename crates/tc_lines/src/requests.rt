@@ -1,9 +1,10 @@
 //! What a line asks.
-ghost use Rattle.std.specs.Prelude.{◌≡◌, IfNone, IfSome, Err};
+ghost use Rattle.std.specs.Prelude.{◌≡◌, IfNone, IfOk, IfSome, Err};
 ghost use Rattle.tc_term.specs.TreeView.{tree_of};
 ghost use Rattle.tc_lines.specs.Requests.{AsksNothing, IsRequest, IsWord, request_term};
 
 use std::alloc::Global;
+use tc_lists::NoMemory;
 use tc_model::{Ask, line_of};
 use tc_read::{ReadFault, read_term};
 use tc_term::{Name, Term};
@@ -47,9 +48,10 @@ pub fn read_line_request(alloc: Global, line: &[u8]) -> Result<LineAsk, BadLine>
     ensures { IsRequest line.now result }
 {
     match read_term(alloc, line) {
-        Ok(pattern) => match request_of(pattern.into_term()) {
-            Some(asked) => Ok(asked),
-            None => Err(BadLine::Shape),
+        Ok(pattern) => match request_of(alloc, pattern.into_term()) {
+            Ok(Some(asked)) => Ok(asked),
+            Ok(None) => Err(BadLine::Shape),
+            Err(_) => Err(BadLine::NoMemory),
         },
         Err(ReadFault::Syntax(_)) => Err(BadLine::Syntax),
         Err(ReadFault::WideInt(_)) => Err(BadLine::Size),
@@ -60,16 +62,17 @@ pub fn read_line_request(alloc: Global, line: &[u8]) -> Result<LineAsk, BadLine>
 }
 
 // The request that is written so, if one is.
-fn request_of(t: Term) -> Option<LineAsk>
-    ensures some { IfSome result (λ asked. tree_of t ≡ request_term asked) }
-    ensures none { IfNone result (AsksNothing (tree_of t)) }
+fn request_of(alloc: Global, t: Term) -> Result<Option<LineAsk>, NoMemory>
+    ensures some { IfOk result (λ found. IfSome found (λ asked. tree_of t ≡ request_term asked)) }
+    ensures none { IfOk result (λ found. IfNone found (AsksNothing (tree_of t))) }
 {
     if let Some(word) = word_of(&t) {
-        return Some(word);
+        return Ok(Some(word));
     }
-    match line_of(t) {
-        Some(line) => Some(LineAsk::Call(line.centre, line.ask)),
-        None => None,
+    let found = line_of(alloc, t)?;
+    match found {
+        Some(line) => Ok(Some(LineAsk::Call(line.centre, line.ask))),
+        None => Ok(None),
     }
 }
 

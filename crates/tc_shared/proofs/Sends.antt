@@ -1,8 +1,7 @@
 -- Which parts of a centre may go to another thread.
 use denote.Param.Send.{IsSend, IsSync, sendable}
 use Rattle.std.proofs.Crossing.{crosses}
-use Rattle.tc_term.proofs.terms.Args.TheLaws.TheKnot as knot
-use Rattle.tc_term.proofs.name.Name.TheSendSync as name
+use Rattle.tc_term.proofs.Sends.{of_terms, args_send, term_send, term_field_send, ground_send, pattern_send}
 use Rattle.tc_model.proofs.calls.CallId.TheSendSync as callid
 use Rattle.tc_model.proofs.events.Phase.TheSendSync as phase
 use Rattle.tc_model.proofs.events.EventOp.TheSendSync as eventop
@@ -36,10 +35,6 @@ use Rattle.tc_unify.specs.contracts.store.Store.{the_row as store}
 use Rattle.tc_bells.proofs.bells.Bells.TheSendSync as bells
 use Rattle.tc_turn.proofs.turnstile.Turnstile.TheSendSync as turnstile
 use Rattle.tc_shared.specs.contracts.centre.SharedCentre.{the_row as shared}
-use Rattle.tc_term.specs.contracts.terms.Args.{the_row as args}
-use Rattle.tc_term.specs.contracts.terms.Term.{the_row as term, the_field as term_field}
-use Rattle.tc_term.specs.contracts.tuple.Ground.{the_row as ground}
-use Rattle.tc_term.specs.contracts.template.Pattern.{the_row as pattern}
 use Rattle.tc_model.specs.contracts.goals.Goal.{the_row as goal, the_field as goal_field}
 use Rattle.tc_model.specs.contracts.reactions.Reaction.{the_row as reaction}
 use Rattle.tc_model.specs.contracts.reactions.Clauses.{the_row as clauses}
@@ -52,8 +47,6 @@ use Rattle.tc_model.specs.contracts.outcomes.Reply.{the_row as reply, the_field 
 use Rattle.tc_model.specs.contracts.entries.Entry.{the_row as entry, the_field as entry_field}
 
 -- what the searches below know from the start
-ruleset of_terms = (sendable, crosses, knot.send-Term, knot.send-Args, name.the_send)
-
 ruleset of_events = (
   of_terms,
   callid.the_send,
@@ -64,21 +57,6 @@ ruleset of_events = (
   sign.the_field_send,
   cmp.the_field_send,
 )
-
-pub args_send : IsSend args
-args_send = search of_events depth 60
-
-pub term_send : IsSend term
-term_send = search (of_events, args_send) depth 60
-
-pub term_field_send : IsSend term_field.row
-term_field_send = search (of_events, args_send, term_send) depth 60
-
-pub ground_send : IsSend ground
-ground_send = search (of_events, term_send, term_field_send) depth 60
-
-pub pattern_send : IsSend pattern
-pattern_send = search (of_events, term_send, term_field_send) depth 60
 
 pub goal_send : IsSend goal
 goal_send = search (of_events, term_send, term_field_send) depth 60

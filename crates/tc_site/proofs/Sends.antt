@@ -17,12 +17,12 @@ use Rattle.tc_site.specs.contracts.kits.EndedDesk.TheInside as ended_inside
 use Rattle.tc_site.specs.contracts.sites.Site as site
 use Rattle.tc_site.specs.contracts.sites.Site.TheInside as site_inside
 use Rattle.tc_term.proofs.name.Name.TheSendSync as name
-use Rattle.tc_term.proofs.terms.Args.TheLaws.TheKnot as knot
+use Rattle.tc_term.proofs.Sends.{of_terms}
 use Rattle.tc_turn.proofs.pass.Pass.TheSendSync as pass
 
 -- rows of logs
 pub row_send : IsSend row.the_row
-row_send = search (crosses, knot.crosses, name.the_send, sendable) depth 60 fits 20000
+row_send = search of_terms depth 60 fits 20000
 
 site_inside_sync : (W : RattleType) (g : Warden.Ghosts W.Denot) → IsSync W → IsSync (site_inside.the_row W g)
 site_inside_sync W g warden =

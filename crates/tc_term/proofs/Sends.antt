@@ -10,7 +10,7 @@ use Rattle.tc_term.specs.contracts.tuple.Ground.{the_row as ground}
 use Rattle.tc_term.specs.contracts.template.Pattern.{the_row as pattern}
 
 -- what a search for such a proof knows from the start
-ruleset of_terms = (sendable, crosses, knot.crosses, name.the_send, name.the_sync)
+pub ruleset of_terms = (sendable, crosses, knot.crosses, name.the_send, name.the_sync)
 
 pub args_send : IsSend args
 args_send = search of_terms depth 60

@@ -240,7 +240,7 @@ fn text_of(
 ) -> Result<Vec<u8>, NoMemory> {
     let mut args = Vec::new(alloc);
     append(&mut args, head.copy(alloc)?)?;
-    let event = compound(event.copy(alloc)?, args);
+    let event = compound(alloc, event.copy(alloc)?, args)?;
     let mut parts = Vec::new(alloc);
     append(&mut parts, event)?;
     if let Some(tests) = guard {
@@ -248,7 +248,8 @@ fn text_of(
     }
     append(&mut parts, body_of(alloc, goals)?)?;
     let mut text = Vec::new(alloc);
-    append_term(alloc, &compound(Name::new(alloc, b"reaction")?, parts), &mut text)?;
+    let clause = compound(alloc, Name::new(alloc, b"reaction")?, parts)?;
+    append_term(alloc, &clause, &mut text)?;
     text.extend_from_slice(b".\n")?;
     Ok(text)
 }
@@ -279,7 +280,7 @@ fn of_two(alloc: Global, name: &[u8], left: Term, right: Term) -> Result<Term, N
     let mut args = Vec::new(alloc);
     append(&mut args, left)?;
     append(&mut args, right)?;
-    Ok(compound(Name::new(alloc, name)?, args))
+    compound(alloc, Name::new(alloc, name)?, args)
 }
 
 /// The text of clauses.

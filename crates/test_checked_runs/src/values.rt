@@ -103,17 +103,17 @@ pub fn filled(alloc: Global, term: &Term, values: &Values) -> Result<Term, NoMem
                 let term = filled(alloc, arg, values)?;
                 terms.push(term)?;
             }
-            Ok(compound(name.copy(alloc)?, terms))
+            compound(alloc, name.copy(alloc)?, terms)
         }
     }
 }
 
 /// The compound of these arguments: where there is none, the atom.
-pub fn compound(name: Name, terms: Vec<Term>) -> Term {
+pub fn compound(alloc: Global, name: Name, terms: Vec<Term>) -> Result<Term, NoMemory> {
     if terms.is_empty() {
-        return Term::Atom(name);
+        return Ok(Term::Atom(name));
     }
-    Term::Comp(name, Args::new(terms))
+    Ok(Term::Comp(name, Args::new(alloc, terms)?))
 }
 
 /// The place of the oldest tuple that the template matches.

@@ -4,7 +4,7 @@ use std::alloc::Global;
 use tc_lists::NoMemory;
 use tc_model::Op;
 use tc_spec::{SpecFault, read_spec};
-use tc_term::{Ground, Name, Pattern, Term};
+use tc_term::{Ground, Name, NotPattern, Pattern, Term};
 
 /// What an agent does: it makes a call, or looks at an earlier one.
 #[derive(Drop)]
@@ -128,6 +128,7 @@ pub fn tuple_of(alloc: Global, term: &Term) -> Result<Ground, WorldFault> {
 fn template_of(alloc: Global, term: &Term) -> Result<Pattern, WorldFault> {
     match Pattern::of(term.copy(alloc)?) {
         Ok(template) => Ok(template),
+        Err(NotPattern::NoMemory(_)) => Err(WorldFault::NoMemory(NoMemory)),
         Err(_) => Err(WorldFault::NoWorld("a template is too large")),
     }
 }

@@ -3,9 +3,10 @@ use crate::fault::Fault;
 use crate::terms::{add, applied, of_one_code};
 use std::alloc::Global;
 use tc_bag::Bag;
+use tc_lists::NoMemory;
 use tc_model::{CallId, Request, Wants};
 use tc_pending::{Known, Pending};
-use tc_term::{Pattern, Term};
+use tc_term::{NotPattern, Pattern, Term};
 
 // Adds the request of the first agent for a tuple.
 fn ask(pending: &mut Pending, term: Term) -> Result<(), Fault> {
@@ -20,6 +21,7 @@ fn ask_for(pending: &mut Pending, agent: u32, term: Term) -> Result<(), Fault> {
             wants: Wants::Take,
             template,
         })?),
+        Err(NotPattern::NoMemory(_)) => Err(Fault::NoMemory(NoMemory)),
         Err(_) => Err(Fault::NoTuple),
     }
 }

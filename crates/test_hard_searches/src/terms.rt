@@ -7,7 +7,7 @@ use tc_term::{Args, Ground, Name, Term};
 
 /// The term `name(x)`.
 pub fn applied(alloc: Global, name: &[u8], x: Term) -> Result<Term, NoMemory> {
-    let args = Args::new(vec![in alloc; x]?);
+    let args = Args::one(alloc, x)?;
     Ok(Term::Comp(Name::new(alloc, name)?, args))
 }
 
@@ -18,7 +18,7 @@ pub fn wide(alloc: Global, zeros: u32, last: i64) -> Result<Term, NoMemory> {
         args.push(Term::Int(0))?;
     }
     args.push(Term::Int(last))?;
-    Ok(Term::Comp(Name::new(alloc, b"w")?, Args::new(args)))
+    Ok(Term::Comp(Name::new(alloc, b"w")?, Args::new(alloc, args)?))
 }
 
 /// One of two names of 1,024 letters that have the same code in a bag.

@@ -72,7 +72,7 @@ fn compound(alloc: Global, name: &Name, args: Vec<Term>) -> Result<Term, NoMemor
     Ok(if args.is_empty() {
         Term::Atom(name)
     } else {
-        Term::Comp(name, Args::new(args))
+        Term::Comp(name, Args::new(alloc, args)?)
     })
 }
 
@@ -94,7 +94,7 @@ fn nest(alloc: Global, outer: &Name, times: i64, inner: &Term) -> anyhow::Result
 
 // The compound of one argument.
 fn applied(alloc: Global, outer: &Name, inner: Term) -> Result<Term, NoMemory> {
-    Ok(Term::Comp(outer.copy(alloc)?, Args::new(vec![in alloc; inner]?)))
+    Ok(Term::Comp(outer.copy(alloc)?, Args::one(alloc, inner)?))
 }
 
 /// The compound of so many times this argument, if there are any, else the atom.
@@ -123,7 +123,7 @@ fn numbers(alloc: Global, count: i64, last: &Term) -> Result<Term, NoMemory> {
         args.push(Term::Int(number))?;
     }
     args.push(last.copy(alloc)?)?;
-    Ok(Term::Comp(Name::new(alloc, b"f")?, Args::new(args)))
+    Ok(Term::Comp(Name::new(alloc, b"f")?, Args::new(alloc, args)?))
 }
 
 // The compound of the variables of the numbers below this one, and of a last argument.
@@ -133,7 +133,7 @@ fn variables(alloc: Global, count: u32, last: &Term) -> Result<Term, NoMemory> {
         args.push(Term::Var(number))?;
     }
     args.push(last.copy(alloc)?)?;
-    Ok(Term::Comp(Name::new(alloc, b"f")?, Args::new(args)))
+    Ok(Term::Comp(Name::new(alloc, b"f")?, Args::new(alloc, args)?))
 }
 
 // The compound of so many different variables, from the highest number down, and of 0.
@@ -143,7 +143,7 @@ fn different(alloc: Global, count: u32) -> Result<Term, NoMemory> {
         args.push(Term::Var(u32::MAX - number))?;
     }
     args.push(Term::Int(0))?;
-    Ok(Term::Comp(Name::new(alloc, b"f")?, Args::new(args)))
+    Ok(Term::Comp(Name::new(alloc, b"f")?, Args::new(alloc, args)?))
 }
 
 /// The tuple that a row's term stands for.
@@ -184,6 +184,7 @@ pub fn print_template(alloc: Global, term: &Term, into: &mut Vec<u8>) -> anyhow:
         Ok(template) => append_template(alloc, &template.copy(alloc)?, into)?,
         Err(NotPattern::TooBig(_term)) => into.extend_from_slice(b"too big")?,
         Err(NotPattern::TooMany(_term)) => into.extend_from_slice(b"too many variables")?,
+        Err(NotPattern::NoMemory(_term)) => return Err(anyhow!("memory has run out")),
     }
     Ok(())
 }
