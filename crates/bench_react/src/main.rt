@@ -1,5 +1,5 @@
 //! How long one body of a reaction takes, in three cases, and how long it takes to find the clause
-//! that an event triggers, among few and among many, which differ by their heads or by their guards.
+//! that an event triggers, among few and among many that differ by their heads or their guards.
 //!
 //! With no argument it does each a few times, and prints how many bodies fired and failed, and how
 //! many clauses were triggered. With the argument `measure` it prints the nanoseconds of processor

@@ -24,8 +24,8 @@ impl Kind {
     }
 }
 
-/// Looks so many times for what one event triggers among so many clauses of a kind: how many clauses
-/// were triggered in all.
+/// Looks so many times for what one event triggers among so many clauses of a kind: how many
+/// clauses were triggered in all.
 pub fn find(alloc: Global, kind: Kind, clauses: u32, count: u32) -> anyhow::Result<u64> {
     let text = match kind {
         Kind::Named => heads(alloc, clauses)?,
