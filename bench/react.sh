@@ -21,7 +21,7 @@ print_table() {
     END {
       print "| case | here, ns | swipl, ns | ratio |"
       print "|---|---|---|---|"
-      count = split("counter fires fails among-10 among-1000", cases)
+      count = split("counter fires fails among-10 among-1000 guarded-10 guarded-1000", cases)
       for (i = 1; i <= count; i++) {
         name = cases[i]
         if (name in swipl) {

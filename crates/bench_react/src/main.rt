@@ -1,5 +1,5 @@
 //! How long one body of a reaction takes, in three cases, and how long it takes to find the clause
-//! that an event triggers, among few and among many.
+//! that an event triggers, among few and among many that differ by their heads or their guards.
 //!
 //! With no argument it does each a few times, and prints how many bodies fired and failed, and how
 //! many clauses were triggered. With the argument `measure` it prints the nanoseconds of processor
@@ -15,7 +15,7 @@ use bodies::Body;
 use std::env;
 use std::time::{CpuClock, Duration};
 use tally::Tally;
-use triggers::find;
+use triggers::{Kind, find};
 
 const FEW: u32 = 10;
 
@@ -38,16 +38,29 @@ fn main(rt: HostRuntime) -> anyhow::Result<()> {
             print_tally(&rt, body, &tally)?;
         }
     }
-    for clauses in [10, 1_000] {
-        let count = if measured { SEARCHES } else { FEW };
-        let start = rt.process_cpu_time()?;
-        let found = find(rt.alloc(), clauses, count)?;
-        let time = rt.process_cpu_time()?.saturating_sub(start);
-        if measured {
-            println!(rt; "among-{clauses} {}", of_one(count, &time))?;
-        } else {
-            println!(rt; "among-{clauses}: {found} triggered")?;
+    for kind in [Kind::Named, Kind::Guarded] {
+        for clauses in [10, 1_000] {
+            measure_search(&rt, measured, kind, clauses)?;
         }
+    }
+    Ok(())
+}
+
+fn measure_search(
+    rt: &HostRuntime,
+    measured: bool,
+    kind: Kind,
+    clauses: u32,
+) -> anyhow::Result<()> {
+    let name = kind.name();
+    let count = if measured { SEARCHES } else { FEW };
+    let start = rt.process_cpu_time()?;
+    let found = find(rt.alloc(), kind, clauses, count)?;
+    let time = rt.process_cpu_time()?.saturating_sub(start);
+    if measured {
+        println!(rt; "{name}-{clauses} {}", of_one(count, &time))?;
+    } else {
+        println!(rt; "{name}-{clauses}: {found} triggered")?;
     }
     Ok(())
 }

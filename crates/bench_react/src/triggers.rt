@@ -5,10 +5,32 @@ use tc_lists::{NoMemory, append_number};
 use tc_spec::{Spec, read_spec};
 use tc_unify::Store;
 
-/// Looks so many times for what one event triggers among so many clauses, whose heads differ by
-/// their names: how many clauses were triggered in all.
-pub fn find(alloc: Global, clauses: u32, count: u32) -> anyhow::Result<u64> {
-    let text = heads(alloc, clauses)?;
+/// By what the clauses differ of which one is triggered.
+#[derive(Clone, Copy)]
+pub enum Kind {
+    /// By the names of their heads.
+    Named,
+    /// By their guards.
+    Guarded,
+}
+
+impl Kind {
+    /// The word for it.
+    pub fn name(self) -> &'static str {
+        match self {
+            Kind::Named => "among",
+            Kind::Guarded => "guarded",
+        }
+    }
+}
+
+/// Looks so many times for what one event triggers among so many clauses of a kind: how many
+/// clauses were triggered in all.
+pub fn find(alloc: Global, kind: Kind, clauses: u32, count: u32) -> anyhow::Result<u64> {
+    let text = match kind {
+        Kind::Named => heads(alloc, clauses)?,
+        Kind::Guarded => guards(alloc, clauses)?,
+    };
     let spec = Spec::of(alloc, read_spec(alloc, &text)?)?;
     let event = put(tuple(alloc, "e7(1)")?);
     let mut store = Store::new(alloc, 0)?;
@@ -27,6 +49,17 @@ fn heads(alloc: Global, clauses: u32) -> Result<Vec<u8>, NoMemory> {
         text.extend_from_slice(b"reaction(out(e")?;
         append_number(u64::from(i), &mut text)?;
         text.extend_from_slice(b"(X)),true). ")?;
+    }
+    Ok(text)
+}
+
+// So many clauses to `out` of e7(X), of which the eighth alone has a guard that holds.
+fn guards(alloc: Global, clauses: u32) -> Result<Vec<u8>, NoMemory> {
+    let mut text = Vec::new(alloc);
+    for i in 0..clauses {
+        text.extend_from_slice(b"reaction(out(e7(X)),")?;
+        text.extend_from_slice(if i == 7 { b"success" } else { b"failure" })?;
+        text.extend_from_slice(b",true). ")?;
     }
     Ok(text)
 }

@@ -54,8 +54,8 @@ test_name test.Failure = codes "failure"
 abbrev pub test_term : GuardTest → Tree
 test_term t = Atomic (test_name t)
 
--- the term that a guard is written as: `true` of no test, else the tests with commas between, nested
--- to the right
+-- the term that a guard is written as: `true` of no test, else the tests with commas between,
+-- nested to the right
 abbrev pub guard_term : List GuardTest → Tree
 guard_term [] = Atomic (codes "true")
 guard_term (t ∷ []) = test_term t

@@ -10,7 +10,7 @@ pub enum SpecCause {
     /// The clause is too big for a template, or can't be read back.
     #[error("the clause is too big")]
     Size,
-    /// The term is no `reaction(Head,Body)`.
+    /// The term is no `reaction(Head,Body)`, and no `reaction(Head,Guard,Body)` with a guard.
     #[error("no reaction of a head and a body")]
     Shape,
     /// The head is no operation on a term.

@@ -67,11 +67,11 @@ pub enum Form {
     Three,
 }
 
-/// A reaction: the clause `reaction(Head,Body)` or `reaction(Head,Guard,Body)`, which runs its goals
-/// where an event meets its head and all tests of its guard hold.
+/// A reaction: the clause `reaction(Head,Body)` or `reaction(Head,Guard,Body)`, which runs its
+/// goals where an event meets its head and all tests of its guard hold.
 ///
-/// Its variables are numbered by first appearance in the clause. It has 1 to 64 goals and, where its
-/// clause has three arguments, up to 16 tests; the text of its clause can be read back.
+/// Its variables are numbered by first appearance in the clause. It has 1 to 64 goals and, where
+/// its clause has three arguments, up to 16 tests; the text of its clause can be read back.
 #[derive(Drop)]
 pub struct Reaction {
     vars: u32,
@@ -102,7 +102,7 @@ impl Reaction {
     ghost use Rattle.tc_term.specs.TreeView.{tree_of};
     ghost use Rattle.tc_model.specs.Reactions.{IsRule};
 
-    /// The reaction to an operation's events whose term meets the head, and of which the tests hold.
+    /// The reaction to an operation's events whose term meets the head, where the tests hold.
     pub fn new(
         vars: u32,
         form: Form,

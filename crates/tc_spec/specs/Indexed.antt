@@ -1,5 +1,5 @@
--- Clauses with their numbers by operation, and in parts by the codes of their heads and by what their
--- guards allow.
+-- Clauses with their numbers by operation, and in parts by the codes of their heads and by what
+-- their guards allow.
 use Rattle.std.specs.Prelude.{◌≡◌, ◌<◌, ℕ, IsTrue, List, AllPairs, Contains, length}
 use Rattle.std.proofs.Common.{get_or}
 use Rattle.tc_model.specs.Events.{Occurrence}

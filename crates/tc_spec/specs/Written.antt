@@ -73,8 +73,8 @@ IsNotShaped t =
     (f : Form) (head : Tree) (guard : List GuardTest) (body : Tree)
     → IsShaped t f head guard body → ⊥
 
--- the term is shaped as a clause of the rule's head, its guard and its goals, however guard and body
--- are nested
+-- the term is shaped as a clause of the rule's head, its guard and its goals, however guard and
+-- body are nested
 pub record SpellsRule (t : Tree) (r : Rule) : Type 0 where
   pub body : Tree
   pub parts : IsShaped t r.form (of_one (op_name r.op) r.head) r.guard body

@@ -1,7 +1,8 @@
 //! Specifications: terms as reactions, clauses as text, and which clauses an event triggers.
 //!
 //! An event triggers a clause of its operation whose guard holds of it, and whose head can be made
-//! equal to the event's term, their variables kept apart. Nothing here knows of tuples, or of what a body does.
+//! equal to the event's term, their variables kept apart. Nothing here knows of tuples, or of what
+//! a body does.
 //!
 //! ```
 //! let mut clauses = Clauses::new(alloc);

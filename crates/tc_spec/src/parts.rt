@@ -48,8 +48,8 @@ impl Part {
 
 /// The numbers of the clauses in parts, of which there are one to 512, and no more than clauses.
 ///
-/// A clause is in the part of its code, and one whose head is a variable is in each; of a part it is
-/// in the lists of those events that its guard allows. Takes time in the number of clauses times
+/// A clause is in the part of its code, and one whose head is a variable is in each; of a part it
+/// is in the lists of those events that its guard allows. Takes time in the number of clauses times
 /// that of parts.
 pub fn parts_of(alloc: Global, clauses: &[Reaction]) -> Result<Vec<Part>, NoMemory>
     requires { length clauses.now ≤ MOST_CLAUSES }

@@ -19,8 +19,8 @@ use std::alloc::Global;
 use tc_model::{Form, GuardTest, MOST_GOALS, Reaction, SpecCause};
 use tc_term::{Pattern, Term};
 
-/// The reaction that a clause `reaction(Head,Body)` or `reaction(Head,Guard,Body)` is written as, or
-/// its first fault.
+/// The reaction that a clause `reaction(Head,Body)` or `reaction(Head,Guard,Body)` is written as,
+/// or its first fault.
 ///
 /// A clause with commas nested in any way is read, and the reaction's own is nested to the right.
 /// Names of the template may hold no byte below 32 but line feeds and tabs, as those that were

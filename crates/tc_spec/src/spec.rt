@@ -92,10 +92,10 @@ impl Spec {
     /// The numbers of the clauses that the event triggers, rising. Clauses count from 1.
     ///
     /// The store is scratch: it may hold anything before, and nothing is said of it afterwards.
-    /// Only clauses whose guards hold and whose heads have the operation, the name and the number of
-    /// arguments of the event, or a variable, are tried, each in the time of its head and the
-    /// event's term; few others are looked at. A guard that doesn't hold costs nothing, but where
-    /// the event's term is a variable, its test.
+    /// Only clauses whose guards hold and whose heads have the operation, the name and the number
+    /// of arguments of the event, or a variable, are tried, each in the time of its head and the
+    /// event's term; few others are looked at. A clause whose guard doesn't hold is looked at only
+    /// where the event's term is a variable.
     pub fn triggered(
         &self,
         alloc: Global,

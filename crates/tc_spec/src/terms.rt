@@ -22,7 +22,8 @@ pub fn clause_of(alloc: Global, r: &Reaction) -> Result<Term, NoMemory>
     Ok(clause)
 }
 
-/// The clause of a form, of a head, of a guard, and of these terms as its body, with commas between.
+/// The clause of a form, of a head and a guard, and of these terms as its body, with commas
+/// between.
 pub fn clause_of_terms(
     alloc: Global,
     form: Form,

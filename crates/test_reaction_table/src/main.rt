@@ -7,13 +7,13 @@
 //! |---|---|
 //! | `tuples(T,..)`, or `tuples` for none | none: these are the tuples from here on, oldest first |
 //! | `request(OP(T))`, `success(OP(T))`, `failure(OP(T))` | none: this is the event from here on |
-//! | `reaction(Head,Body)`, `reaction(Head,Guard,Body)` | what comes of the body, whatever the guard: its item, its events, and the tuples that it leaves |
+//! | `reaction(Head,Body)`, or with a guard | the body's item, its events, the tuples that it leaves |
 //! | `text(P,..)` | how many clauses the text is, or which one is faulty, and why |
 //! | `printed` | the clauses of the last good text, as they are printed |
 //! | `triggered` | the numbers of those of them that the event triggers |
 //!
 //! A part P of a text is an atom, and `P*N` stands for it N times. Each body runs over the tuples
-//! anew, in the name of the agent ann at the centre desk.
+//! anew, in the name of the agent ann at the centre desk, whether or not its guard holds.
 //!
 //! What the table shows beyond what is proved: that the definitions of goals, bodies, events and
 //! faulty clauses say what is meant, row by row, and that calls answer where memory is ample. Its
