@@ -10,7 +10,7 @@ import re
 from typing import List, Match, Optional
 
 from .errors import BadTerm
-from .terms import LARGEST_NUMBER, LEAST_NUMBER, Atom, Term, Var, cell, term
+from .terms import LARGEST_NUMBER, LEAST_NUMBER, Term, Var, cell, term
 
 _TOKEN = re.compile(
     r"""(?P<name>[a-z][A-Za-z0-9_]*)
