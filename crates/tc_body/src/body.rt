@@ -113,7 +113,18 @@ pub fn run_goals(
         return Ok((Some(1), effects));
     }
     for (i, goal) in goals.iter().enumerate() {
-        if !step(alloc, goal, r.vars(), e, context, store, bag, &mut effects)? {
+        let on = &goals[i..];
+        if !step(
+            alloc,
+            goal,
+            on,
+            r.vars(),
+            e,
+            context,
+            store,
+            bag,
+            &mut effects,
+        )? {
             return Ok((Some(i as u32 + 1), effects));
         }
     }

@@ -1,5 +1,6 @@
 //! One goal of a body.
-ghost use Rattle.std.specs.Prelude.{◌≡◌, ◌≤◌, ◌<◌, ◌+◌, ℤ, IfOk, IsTrue, false, All};
+ghost use Rattle.std.specs.Prelude.{◌≡◌, ◌≤◌, ◌<◌, ◌+◌, ◌++◌, ◌∷◌, [], ℤ, length};
+ghost use Rattle.std.specs.Prelude.{IfOk, OnOk, IsTrue, false, All};
 ghost use Rattle.tc_term.specs.Tree.{Atomic, Number};
 ghost use Rattle.tc_term.specs.TreeView.{tree_of};
 ghost use Rattle.tc_term.specs.Arithmetic.{holds};
@@ -27,9 +28,12 @@ use tc_unify::{Part, Store};
 /// Where it could, the equations, the tuples and the effects are those after its step, by the
 /// oldest tuple that matches. Where it could not, it has no step by any tuple, the effects are as
 /// before, and the equations and the tuples may have changed: the body has failed.
+///
+/// With the first effect, room is made for all that the goals from this one on may have.
 pub fn step(
     alloc: Global,
     goal: &Goal,
+    on: &[Goal],
     vars: u32,
     e: &Event,
     context: &Context,
@@ -58,9 +62,9 @@ pub fn step(
     ensures next { bag.new.next ≤ bag.old.next + 1 }
 {
     match goal {
-        Goal::OutR(t) => put(alloc, t, store, bag, effects),
-        Goal::InR(t) => take_oldest(alloc, t, store, bag, effects),
-        Goal::RdR(t) => read_oldest(alloc, t, store, bag, effects),
+        Goal::OutR(t) => put(alloc, t, on, store, bag, effects),
+        Goal::InR(t) => take_oldest(alloc, t, on, store, bag, effects),
+        Goal::RdR(t) => read_oldest(alloc, t, on, store, bag, effects),
         Goal::NoR(t) => is_absent(alloc, t, store, bag),
         Goal::Pre => Ok(e.phase() == Phase::Pre),
         Goal::Post => Ok(e.phase() == Phase::Post),
@@ -82,6 +86,7 @@ pub fn step(
 fn put(
     alloc: Global,
     t: &Term,
+    on: &[Goal],
     store: &Store,
     bag: &mut Bag,
     effects: &mut Vec<Effect>,
@@ -100,7 +105,7 @@ fn put(
     let Some(value) = store.value(part)? else {
         return Ok(false);
     };
-    effects.push(Effect::Put(value.copy(alloc)?))?;
+    record(effects, Effect::Put(value.copy(alloc)?), on)?;
     bag.add(value)?;
     Ok(true)
 }
@@ -109,6 +114,7 @@ fn put(
 fn take_oldest(
     alloc: Global,
     t: &Term,
+    on: &[Goal],
     store: &mut Store,
     bag: &mut Bag,
     effects: &mut Vec<Effect>,
@@ -131,7 +137,7 @@ fn take_oldest(
     let Some((age, tuple)) = oldest_match(store, t, &key, bag)? else {
         return Ok(false);
     };
-    effects.push(Effect::Took(tuple.copy(alloc)?))?;
+    record(effects, Effect::Took(tuple.copy(alloc)?), on)?;
     bag.take(age);
     Ok(true)
 }
@@ -140,6 +146,7 @@ fn take_oldest(
 fn read_oldest(
     alloc: Global,
     t: &Term,
+    on: &[Goal],
     store: &mut Store,
     bag: &Bag,
     effects: &mut Vec<Effect>,
@@ -158,8 +165,32 @@ fn read_oldest(
     let Some((_, tuple)) = oldest_match(store, t, &key, bag)? else {
         return Ok(false);
     };
-    effects.push(Effect::Read(tuple.copy(alloc)?))?;
+    record(effects, Effect::Read(tuple.copy(alloc)?), on)?;
     Ok(true)
+}
+
+// Adds an effect. With the first, room is made for all that these goals may have.
+fn record(effects: &mut Vec<Effect>, effect: Effect, goals: &[Goal]) -> Result<(), NoMemory>
+    ensures { OnOk result (effects.new.items ≡ effects.old.items ++ effect ∷ []) }
+{
+    if effects.is_empty() {
+        effects.reserve_exact(most_effects(goals))?;
+    }
+    effects.push(effect)?;
+    Ok(())
+}
+
+// How many effects these goals may have.
+fn most_effects(goals: &[Goal]) -> usize
+    ensures { result ≤ length goals.now }
+{
+    let mut count = 0;
+    for goal in goals {
+        if let Goal::OutR(_) | Goal::InR(_) | Goal::RdR(_) = goal {
+            count += 1;
+        }
+    }
+    count
 }
 
 // Whether no tuple matches.
