@@ -17,6 +17,8 @@ use Rattle.tc_read.specs.declared.measured.Item.{Item}
 use Rattle.tc_read.specs.declared.scanner.Scanner.{Scanner}
 use Rattle.tc_read.proofs.Meanings.{read_of, none_read}
 use Rattle.tc_read.proofs.Order.{variables_read}
+use Rattle.tc_read.proofs.Integers.{integers_read}
+use Rattle.tc_read.specs.Judging.{IsRead}
 use Rattle.tc_read.proofs.Blanks.{layout_shorter}
 use Rattle.tc_read.proofs.Found.{front_some}
 
@@ -57,6 +59,19 @@ module _ (s : Scanner) (size end behind : ℕ) (ts : List At) (stop : Stop) (g :
 
   known_is : length (names_view s.variables) ≡ length (all_known [] ts)
   known_is = ap length g.names
+
+  -- what was parsed has been read
+  pub ended_read : (item : Item) (n : ℕ) → ((k : Kept) → IsTerm kept (map token_view s.tokens.items) k ↔ (kept_item item ≡ k)) → n ≡ length (names_view s.variables)
+      → IsRead (kept_item item) n
+  ended_read item n only count =
+      let x = read_of (numbered [] ts) (kept_item item) (subst (λ tokens. IsTerm kept tokens (kept_item item)) tokens_are ((only (kept_item item)).1 refl)) in
+      let same : n ≡ length (all_known [] ts) = count ∙ known_is in
+      record {
+        reading = x.0;
+        kept = x.2;
+        numbered = λ few. subst (λ m. variables (x.0).term ≡ range_with_len 0 m) (sym same) (variables_read ts x.0 (omega (arith, same, few)) x.1);
+        integers = integers_read (numbered [] ts) x.0 x.1;
+      }
 
   pub ended_judged : (item : Item) (n : ℕ) (result : Result Pattern ReadFault) → s.brackets.too_many ≡ false → ((k : Kept) → IsTerm kept (map token_view s.tokens.items) k ↔ (kept_item item ≡ k)) → n ≡ length (names_view s.variables)
       → ((behind : ℕ) (r : Reading) → kept_of r ≡ kept_item item → (n ≤ 256 → variables r.term ≡ range_with_len 0 n) → IsTermAnswer (Judged (place_by s.first end) behind n r) behind result)

@@ -1,10 +1,10 @@
-use Rattle.std.proofs.Common.{◌≡◌, ℕ, ◌<◌, ◌≤◌, ◌⊎◌, inr, Bool, true, false, nat_lt, length, Option, Some, None, refl, sym, ◌∙◌, ap, subst, arith, MatchOption}
+use Rattle.std.proofs.Common.{◌≡◌, ℕ, ◌≤◌, ◌⊎◌, inr, Bool, true, false, nat_lt, length, Option, Some, None, refl, sym, ◌∙◌, ap, subst, arith, MatchOption}
 use Rattle.std.specs.List.{range_with_len}
 use Rattle.std.proofs.lemmas.List.FromFn.{length-range_with_len}
-use Rattle.tc_term.specs.Tree.{Tree, Fits}
-use Rattle.tc_term.specs.Variables.{variables, renumbered, IsPattern}
+use Rattle.tc_term.specs.Tree.{Tree, Fits, HasIntegers, nodes, depth, name_bytes}
+use Rattle.tc_term.specs.Variables.{variables, IsPattern}
 use Rattle.tc_term.specs.Faults.{Reading, Found, TooMany, TooBig, WideInt, When, Judged}
-use Rattle.tc_term.proofs.Numbered.{renumbered-pattern}
+use Rattle.tc_read.specs.Judging.{IsRead}
 use Rattle.tc_read.specs.Kept.{Small, fits, kept_by, kept_of, small_if}
 use Rattle.std.proofs.lemmas.Bool.{le-ltb}
 
@@ -25,17 +25,23 @@ pattern_read r n f h e =
     let len : length (variables r.term) ≡ n = ap length e ∙ length-range_with_len 0 n in
     record { template = record { fits = f; few = omega arith }; numbered = e ∙ ap (range_with_len 0) (sym len) }
 
-pub judged_ok : (place behind n : ℕ) (r : Reading) (t p : Tree) → kept_of r ≡ Small t → Fits t → n ≤ 256 → (n ≤ 256 → variables r.term ≡ range_with_len 0 n) → p ≡ renumbered t → Judged place behind n r (Found p behind)
-judged_ok place behind n r t p k f h v e =
+pub judged_ok : (place behind n : ℕ) (r : Reading) (t p : Tree) → kept_of r ≡ Small t → Fits t → n ≤ 256 → p ≡ t → Judged place behind n r (Found p behind)
+judged_ok place behind n r t p k f h e =
     let s = small r t k in
     let fits : Fits r.term = subst Fits (sym s.same) f in
-    let same : p ≡ r.term = e ∙ ap renumbered (sym s.same) ∙ renumbered-pattern r.term (pattern_read r n fits h (v h)) in
+    let same : p ≡ r.term = e ∙ sym s.same in
     let answer = Found p behind in
     subst (λ o. MatchOption o (When (nat_lt 256 n) (answer ≡ TooMany place) (((answer ≡ TooBig place) × (Fits r.term → ⊥)) ⊎ ((answer ≡ Found r.term behind) × Fits r.term))) (λ wide. answer ≡ WideInt wide)) (sym s.narrow)
     (subst (λ b. When b (answer ≡ TooMany place) (((answer ≡ TooBig place) × (Fits r.term → ⊥)) ⊎ ((answer ≡ Found r.term behind) × Fits r.term))) (sym (le-ltb 256 n h)) (inr (ap (λ t. Found t behind) same, fits)))
 
--- a term with so few variables isn't refused for them
-pub not_too_many : (n : ℕ) (r : Reading) (t : Tree) → kept_of r ≡ Small t → n ≤ 256 → (n ≤ 256 → variables r.term ≡ range_with_len 0 n) → 256 < length (variables t) → ⊥
-not_too_many n r t k h v more =
-    let s = small r t k in
-    omega (arith, ap (λ u. length (variables u)) s.same, ap length (v h), length-range_with_len 0 n)
+-- a term that was read, and fits, is a template with so many variables
+pub pattern_kept : (n : ℕ) (t : Tree) → IsRead (Small t) n → nodes t ≤ 10000 → depth t ≤ 1000 → name_bytes t ≤ 65535 → n ≤ 256
+    → IsPattern t × (n ≡ length (variables t))
+pattern_kept n t read a b c h =
+    let r = read.reading in
+    let s = small r t read.kept in
+    let fits : Fits t = record { nodes = a; depth = b; name_bytes = c; integers = subst HasIntegers s.same (read.integers s.narrow) } in
+    let p = pattern_read r n (subst Fits (sym s.same) fits) h (read.numbered h) in (
+      subst IsPattern s.same p,
+      sym (ap (λ u. length (variables u)) (sym s.same) ∙ ap length (read.numbered h) ∙ length-range_with_len 0 n),
+    )

@@ -10,6 +10,7 @@ pub mod Quotes
 pub mod Blanks
 pub mod Answering
 pub mod Judging
+mod Integers
 pub mod Order
 pub mod Found
 pub mod Gathered

@@ -102,7 +102,7 @@ pub name_bytes_of_trees : (t : Tree) (ts : List Tree) → name_bytes_of_all (tre
 name_bytes_of_trees t [] = omega arith
 name_bytes_of_trees t (u ∷ ts) = ap (λ n. name_bytes t + n) (name_bytes_of_trees u ts)
 
-compound_too_big : (name : List ℕ) (t : Tree) (ts : List Tree) → fits_all (t ∷ ts) ≡ false → fits (Compound name (trees t ts)) ≡ false
+pub compound_too_big : (name : List ℕ) (t : Tree) (ts : List Tree) → fits_all (t ∷ ts) ≡ false → fits (Compound name (trees t ts)) ≡ false
 compound_too_big name t ts e =
     within (nodes (Compound name (trees t ts))) (depth (Compound name (trees t ts))) (name_bytes (Compound name (trees t ts)))
     (all_nodes (t ∷ ts) + 1) (all_depth (t ∷ ts) + 1) (all_name_bytes (t ∷ ts))
@@ -111,7 +111,7 @@ compound_too_big name t ts e =
 first_too_big : (t : Tree) (ts : List Tree) → fits t ≡ false → fits_all (t ∷ ts) ≡ false
 first_too_big t ts e = within (all_nodes (t ∷ ts) + 1) (all_depth (t ∷ ts) + 1) (all_name_bytes (t ∷ ts)) (nodes t) (depth t) (name_bytes t) (omega arith) (omega arith) (omega arith) e
 
-others_too_big : (t : Tree) (ts : List Tree) → fits_all ts ≡ false → fits_all (t ∷ ts) ≡ false
+pub others_too_big : (t : Tree) (ts : List Tree) → fits_all ts ≡ false → fits_all (t ∷ ts) ≡ false
 others_too_big t ts e =
     within (all_nodes (t ∷ ts) + 1) (all_depth (t ∷ ts) + 1) (all_name_bytes (t ∷ ts)) (all_nodes ts + 1) (all_depth ts + 1) (all_name_bytes ts) (omega arith) (omega arith) (omega arith) e
 

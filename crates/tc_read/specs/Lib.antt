@@ -19,3 +19,4 @@ pub mod Budget
 pub mod Front
 pub mod Seen
 pub mod Canonical
+pub mod Judging

@@ -19,7 +19,7 @@ use crate::printed_names::name_at;
 use crate::read::rest_from;
 use std::alloc::Global;
 use tc_lists::NoMemory;
-use tc_term::{Args, MOST_DEPTH, Name, Pattern, Term};
+use tc_term::{Args, MOST_DEPTH, Name, NotPattern, Pattern, Term};
 
 /// What is read at the front, unless memory runs out.
 type Read<'a, T> = Result<Front<'a, T>, NoMemory>;
@@ -85,7 +85,8 @@ fn arguments<'a>(alloc: Global, depth: usize, budget: Budget, bytes: &'a [u8]) -
             return Ok(None);
         };
         if byte == b')' {
-            return Ok(Some((Args::new(terms), budget, behind)));
+            let args = Args::new(alloc, terms)?;
+            return Ok(Some((args, budget, behind)));
         }
         if byte != b',' {
             return Ok(None);
@@ -135,10 +136,8 @@ fn cell(alloc: Global, first: Term, last: Term) -> Result<Term, NoMemory>
     ensures { IfOk result (λ r. tree_of r
         ≡ Compound (codes ".") (More (tree_of first) (Last (tree_of last)))) }
 {
-    let mut terms = Vec::new(alloc);
-    terms.push(first)?;
-    terms.push(last)?;
-    Ok(Term::Comp(Name::new(alloc, b".")?, Args::new(terms)))
+    let args = Args::two(alloc, first, last)?;
+    Ok(Term::Comp(Name::new(alloc, b".")?, args))
 }
 
 /// A list behind its opening bracket.
@@ -259,7 +258,9 @@ pub fn read_canonical(
         return Ok(None);
     };
     match Pattern::of(term) {
-        Err(_) => Ok(None),
+        Err(NotPattern::TooBig(_)) => Ok(None),
+        Err(NotPattern::TooMany(_)) => Ok(None),
+        Err(NotPattern::NoMemory(_)) => Err(NoMemory),
         Ok(pattern) => Ok(Some((pattern, text.len() - rest.len()))),
     }
 }

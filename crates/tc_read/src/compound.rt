@@ -74,44 +74,101 @@ fn join(argument: Item, parts: Parts) -> Result<Parts, NoMemory>
 
 /// The compound of this name with these arguments.
 #[inline(always)]
-fn finish(name: Name, parts: Parts) -> Item
-    ensures { kept_item result ≡ finished name (parts_view parts) }
+fn finish(alloc: Global, name: Name, parts: Parts) -> Result<Item, NoMemory>
+    ensures { IfOk result (λ r. kept_item r ≡ finished name (parts_view parts)) }
 {
     match parts {
-        Parts::Wide(place) => Item::Wide(place),
-        Parts::Oversized => Item::Large,
-        Parts::Whole(several) => whole(name, several),
+        Parts::Wide(place) => Ok(Item::Wide(place)),
+        Parts::Oversized => Ok(Item::Large),
+        Parts::Whole(several) => whole(alloc, name, several),
     }
 }
 
 #[inline(always)]
-fn whole(name: Name, several: Several) -> Item
-    ensures { kept_item result ≡ whole name (reverse (map tree_of several.terms.items)) }
+fn whole(alloc: Global, name: Name, several: Several) -> Result<Item, NoMemory>
+    ensures { IfOk result
+        (λ r. kept_item r ≡ whole name (reverse (map tree_of several.terms.items))) }
 {
     let length = name.bytes().len();
     if several.terms.len() == 0 || length > MOST_BYTES_OF_NAMES {
-        return Item::Large;
+        return Ok(Item::Large);
     }
     let mut terms = several.terms;
     terms.reverse();
-    let args = Args::new(terms);
-    item(
+    let args = Args::new(alloc, terms)?;
+    Ok(item(
         Term::Comp(name, args),
         several.nodes + 1,
         several.depth + 1,
         several.name_bytes + length,
-    )
+    ))
+}
+
+/// The compound of this name with this argument.
+#[inline(always)]
+fn over_one(alloc: Global, name: Name, x: Measured) -> Result<Item, NoMemory>
+    ensures { IfOk result
+        (λ r. kept_item r ≡ kept.compound name (Small (tree_of x.term)) []) }
+{
+    let length = name.bytes().len();
+    if length > MOST_BYTES_OF_NAMES {
+        return Ok(Item::Large);
+    }
+    let nodes = usize::from(x.nodes) + 1;
+    let depth = usize::from(x.depth) + 1;
+    let name_bytes = usize::from(x.name_bytes) + length;
+    let args = Args::one(alloc, x.term)?;
+    Ok(item(Term::Comp(name, args), nodes, depth, name_bytes))
+}
+
+/// The compound of this name with these arguments.
+#[inline(always)]
+fn over_two(alloc: Global, name: Name, x: Measured, y: Measured) -> Result<Item, NoMemory>
+    ensures { IfOk result
+        (λ r. kept_item r ≡ kept.compound name (Small (tree_of x.term))
+        (Small (tree_of y.term) ∷ [])) }
+{
+    let length = name.bytes().len();
+    if length > MOST_BYTES_OF_NAMES {
+        return Ok(Item::Large);
+    }
+    let nodes = usize::from(x.nodes) + usize::from(y.nodes) + 1;
+    let depth = usize::from(x.depth).max(usize::from(y.depth)) + 1;
+    let name_bytes = usize::from(x.name_bytes) + usize::from(y.name_bytes) + length;
+    let args = Args::two(alloc, x.term, y.term)?;
+    Ok(item(Term::Comp(name, args), nodes, depth, name_bytes))
+}
+
+/// A compound of one argument.
+#[inline(always)]
+fn single(alloc: Global, name: Name, argument: Item) -> Result<Item, NoMemory>
+    ensures { IfOk result (λ r. kept_item r ≡ kept.compound name (kept_item argument) []) }
+{
+    match argument {
+        Item::Wide(place) => Ok(Item::Wide(place)),
+        Item::Large => Ok(Item::Large),
+        Item::Small(x) => over_one(alloc, name, x),
+    }
 }
 
 /// A compound of two arguments.
 #[inline(always)]
-fn pair(alloc: Global, name: &[u8], left: Item, right: Item) -> Result<Item, NoMemory>
+fn pair(alloc: Global, name: Name, left: Item, right: Item) -> Result<Item, NoMemory>
     ensures { IfOk result
-        (λ r. kept_item r ≡ kept.compound name.now (kept_item left) (kept_item right ∷ [])) }
+        (λ r. kept_item r ≡ kept.compound name (kept_item left) (kept_item right ∷ [])) }
 {
-    let last = join(right, none(alloc, 2)?)?;
-    let both = join(left, last)?;
-    Ok(finish(Name::new(alloc, name)?, both))
+    match left {
+        Item::Wide(place) => Ok(Item::Wide(place)),
+        Item::Large => match right {
+            Item::Wide(place) => Ok(Item::Wide(place)),
+            Item::Large | Item::Small(_) => Ok(Item::Large),
+        },
+        Item::Small(x) => match right {
+            Item::Wide(place) => Ok(Item::Wide(place)),
+            Item::Large => Ok(Item::Large),
+            Item::Small(y) => over_two(alloc, name, x, y),
+        },
+    }
 }
 
 /// An operator between two terms.
@@ -120,15 +177,14 @@ pub fn between(alloc: Global, operator: Operator, left: Item, right: Item) -> Re
         (λ r. kept_item r ≡ between kept (operator_view operator) (kept_item left)
         (kept_item right)) }
 {
-    pair(alloc, operator.name, left, right)
+    pair(alloc, Name::new(alloc, operator.name)?, left, right)
 }
 
 /// A minus before a term.
 pub fn negated(alloc: Global, of: Item) -> Result<Item, NoMemory>
     ensures { IfOk result (λ r. kept_item r ≡ negated kept (kept_item of)) }
 {
-    let parts = join(of, none(alloc, 1)?)?;
-    Ok(finish(Name::new(alloc, b"-")?, parts))
+    single(alloc, Name::new(alloc, b"-")?, of)
 }
 
 /// The empty list.
@@ -142,7 +198,7 @@ pub fn nil(alloc: Global) -> Result<Item, NoMemory>
 pub fn cell(alloc: Global, element: Item, tail: Item) -> Result<Item, NoMemory>
     ensures { IfOk result (λ r. kept_item r ≡ cell kept (kept_item element) (kept_item tail)) }
 {
-    pair(alloc, b".", element, tail)
+    pair(alloc, Name::new(alloc, b".")?, element, tail)
 }
 
 /// A list of so many last items, which are taken off, before a tail.
@@ -175,11 +231,35 @@ pub fn compound(
         (items_of stack.new ≡ under count (below (items_of stack.old))) }
     ensures frames { frames_of stack.new ≡ frames_of stack.old }
 {
+    if count == 0 {
+        let only = stack.pop_item();
+        let item = single(alloc, name, only)?;
+        return Ok(item);
+    }
+    if count == 1 {
+        let last = stack.pop_item();
+        let first = stack.pop_item();
+        let item = pair(alloc, name, first, last)?;
+        return Ok(item);
+    }
+    several(alloc, name, count, stack)
+}
+
+// The same by a list of the arguments, which is needed for three or more.
+fn several(alloc: Global, name: Name, count: usize, stack: &mut Stack) -> Result<Item, NoMemory>
+    ensures compound { IfOk result
+        (λ r. kept_item r ≡ applied kept name
+        (turned (tops count (below (items_of stack.old))) (top (items_of stack.old) ∷ []))) }
+    ensures items { OnOk result
+        (items_of stack.new ≡ under count (below (items_of stack.old))) }
+    ensures frames { frames_of stack.new ≡ frames_of stack.old }
+{
     let mut parts = join(stack.pop_item(), none(alloc, count.saturating_add(1))?)?;
     let mut left = count;
     while left > 0 {
         left -= 1;
         parts = join(stack.pop_item(), parts)?;
     }
-    Ok(finish(name, parts))
+    let item = finish(alloc, name, parts)?;
+    Ok(item)
 }

@@ -10,6 +10,7 @@ ghost use Rattle.tc_term.specs.Layouts as text;
 ghost use Rattle.tc_term.specs.Variables as tree;
 ghost use Rattle.tc_read.specs.Items.{kept_item};
 ghost use Rattle.tc_read.specs.Kept.{kept_of};
+ghost use Rattle.tc_read.specs.Judging.{IsRead};
 ghost use Rattle.tc_read.specs.ReadAnswers.{IsClauseAnswer, IsTermAnswer, place_by};
 ghost use Rattle.tc_read.specs.Scanner.{Gathers};
 
@@ -19,10 +20,11 @@ use crate::parse::parse;
 use crate::scan::{Scanned, Stop, scan};
 use crate::scanner::Scanner;
 use std::alloc::Global;
-use tc_term::{MOST_VARIABLES, NotPattern, Pattern};
+use tc_term::{MOST_VARIABLES, Pattern};
 
 /// The template of what was parsed, with so many variables, behind the first token at this place.
 fn judge(item: Item, variables: usize, place: usize) -> Result<Pattern, ReadFault>
+    requires { IsRead (kept_item item) variables }
     ensures { (behind : ℕ) (r : Reading) → kept_of r ≡ kept_item item
         → (variables ≤ most_variables → tree.variables r.term ≡ range_with_len 0 variables)
         → IsTermAnswer (Judged place behind variables r) behind result }
@@ -40,11 +42,7 @@ fn judge(item: Item, variables: usize, place: usize) -> Result<Pattern, ReadFaul
             if variables > MOST_VARIABLES {
                 return Err(ReadFault::TooMany(place));
             }
-            match Pattern::of(measured.term) {
-                Ok(pattern) => Ok(pattern),
-                Err(NotPattern::TooBig(_)) => Err(ReadFault::TooBig(place)),
-                Err(NotPattern::TooMany(_)) => Err(ReadFault::TooMany(place)),
-            }
+            Ok(Pattern::known(measured.term, variables as u32))
         }
     }
 }
@@ -62,6 +60,7 @@ fn place_or(place: Option<usize>, end: usize) -> usize
 /// The template that the tokens are, all of them, with what stands behind their end; `end` is the
 /// place of the end token, or of the end of the text.
 fn read_tokens(alloc: Global, gathered: &Scanner, end: usize) -> Result<Pattern, ReadFault>
+    requires { (ts : List At) × Gathers gathered.now ts × (first_wide ts ≡ None) }
     ensures { (size behind : ℕ) (ts : List At) (stop : text.Stop) → Gathers gathered.now ts
         → first_wide ts ≡ None → first_place size [] stop ≡ end
         → place_behind size stop ≡ behind

@@ -9,3 +9,4 @@ pub mod Solutions
 pub mod Numbered
 pub mod Matching
 pub mod Causes
+pub mod Sends

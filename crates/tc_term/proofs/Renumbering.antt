@@ -117,6 +117,10 @@ variables-renumbered t =
     λ m n stands stands' same. sym (get_or-place_in vs m 0 stands) ∙ ap (λ k. get_or vs k 0) same ∙ get_or-place_in vs n 0 stands' in
     variables_after-renamed (place_in vs) vs differ t [] (λ m stands. stands) ∙ map-place_in vs (IsOnce-variables t)
 
+-- so a term that this leaves as it is was numbered so before
+pub in_order-renumbered : (t : Tree) → renumbered t ≡ t → variables t ≡ range_with_len 0 (length (variables t))
+in_order-renumbered t same = ap variables (sym same) ∙ variables-renumbered t
+
 pub length-variables-renumbered : (t : Tree) → length (variables (renumbered t)) ≡ length (variables t)
 length-variables-renumbered t = ap length (variables-renumbered t) ∙ length-range_with_len 0 (length (variables t))
 

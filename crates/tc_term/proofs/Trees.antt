@@ -5,7 +5,7 @@ use Rattle.std.proofs.Math.Bool.{and-true, and-false}
 use Rattle.std.proofs.lemmas.List.{append-nil, drop_all}
 use Rattle.std.proofs.lemmas.List.Elements.{All-cons, All-nil}
 use Rattle.tc_term.specs.declared.terms.Term.{Term}
-use Rattle.tc_term.specs.Tree.{Trees, depth, depth_of_all}
+use Rattle.tc_term.specs.Tree.{Tree, Trees, depth, depth_of_all}
 use Rattle.tc_term.specs.TreeView.{tree_of, trees_of}
 use Rattle.tc_term.specs.Same.{same_trees, same_term}
 
@@ -22,11 +22,11 @@ trees_of-alike (x ∷ w ∷ xs) (y ∷ z ∷ ys) e =
     let rest_same : trees_of (w ∷ xs) ≡ trees_of (z ∷ ys) = trees_of-alike (w ∷ xs) (z ∷ ys) rest in
     cc
 
--- where nothing of a list is left, what was copied so far is all of it
-pub copied_all : (xs ys : List Term) (i : ℕ) → length xs ≤ i →
-    map tree_of xs ≡ map tree_of ys ++ map tree_of (drop i xs) → map tree_of ys ≡ map tree_of xs
-copied_all xs ys i ended so_far =
-    sym (so_far ∙ ap (λ rest. map tree_of ys ++ map tree_of rest) (drop_all i xs ended) ∙ append-nil (map tree_of ys))
+-- where nothing of a list is left, what was copied so far is all of it, whatever was made of each
+pub copied_all : (f : Term → Tree) (xs ys : List Term) (i : ℕ) → length xs ≤ i →
+    map f xs ≡ map tree_of ys ++ map f (drop i xs) → map tree_of ys ≡ map f xs
+copied_all f xs ys i ended so_far =
+    sym (so_far ∙ ap (λ rest. map tree_of ys ++ map f rest) (drop_all i xs ended) ∙ append-nil (map tree_of ys))
 
 -- no argument is deeper than all of them
 pub All-depth : (xs : List Term) → All (λ t. depth (tree_of t) ≤ depth_of_all (trees_of xs)) xs

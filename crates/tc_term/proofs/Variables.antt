@@ -1,24 +1,26 @@
 -- Variables of lists of terms, and terms with other trees in their places.
-use Rattle.std.proofs.Common.{◌≡◌, ◌<◌, ◌≤◌, ◌==◌, if◌then◌else◌, ℕ, true, false, suc, List, [], ◌∷◌, ◌++◌, length, get_or, refl, ap, sym, ◌∙◌, length-append, arith}
+use Rattle.std.proofs.Common.{◌≡◌, ◌<◌, ◌≤◌, ◌==◌, if◌then◌else◌, ℕ, true, false, List, [], ◌∷◌, ◌++◌, length, map, refl, ap, sym, ◌∙◌, length-append, arith}
 use Rattle.tc_term.specs.declared.terms.Term.{Term}
 use Rattle.tc_term.specs.Tree.{Tree, Variable, Atomic, Number, Compound, Trees, Last, More}
 use Rattle.tc_term.specs.TreeView.{tree_of, trees_of}
-use Rattle.tc_term.specs.Variables.{instance, instances, place_in, with_number, variables_after, variables_after_all}
+use Rattle.tc_term.specs.Variables.{instance, instances, renamed, place_in, with_number, variables_after, variables_after_all}
+
+-- the tree of a term with each variable given its place among these numbers
+abbrev pub placed : List ℕ → Term → Tree
+placed numbers t = renamed (place_in numbers) (tree_of t)
 
 -- arguments that are replaced one by one
-pub trees_of-instances : (f : ℕ → Tree) (xs ys : List Term) → length ys ≡ length xs →
-    ((k : ℕ) (d : Term) → k < length xs → tree_of (get_or ys k d) ≡ instance f (tree_of (get_or xs k d))) →
-    trees_of ys ≡ instances f (trees_of xs)
-trees_of-instances f [] [] as_long each = refl
-trees_of-instances f [] (y ∷ ys) as_long each = absurd (omega (arith, as_long))
-trees_of-instances f (x ∷ xs) [] as_long each = absurd (omega (arith, as_long))
-trees_of-instances f (x ∷ []) (y ∷ []) as_long each = ap Last (each 0 x (omega arith))
-trees_of-instances f (x ∷ []) (y ∷ z ∷ ys) as_long each = absurd (omega (arith, as_long))
-trees_of-instances f (x ∷ w ∷ xs) (y ∷ []) as_long each = absurd (omega (arith, as_long))
-trees_of-instances f (x ∷ w ∷ xs) (y ∷ z ∷ ys) as_long each =
-    let first : tree_of y ≡ instance f (tree_of x) = each 0 x (omega arith) in
-    let rest : trees_of (z ∷ ys) ≡ instances f (trees_of (w ∷ xs)) =
-    trees_of-instances f (w ∷ xs) (z ∷ ys) (omega (arith, as_long)) (λ k d inside. each (suc k) d (omega (arith, inside))) in
+pub trees_of-instances : (f : ℕ → Tree) (xs ys : List Term) →
+    map tree_of ys ≡ map (λ t. instance f (tree_of t)) xs → trees_of ys ≡ instances f (trees_of xs)
+trees_of-instances f [] [] alike = refl
+trees_of-instances f [] (y ∷ ys) alike = absurd (cc)
+trees_of-instances f (x ∷ xs) [] alike = absurd (cc)
+trees_of-instances f (x ∷ []) (y ∷ []) alike = cc
+trees_of-instances f (x ∷ []) (y ∷ z ∷ ys) alike = absurd (cc)
+trees_of-instances f (x ∷ w ∷ xs) (y ∷ []) alike = absurd (cc)
+trees_of-instances f (x ∷ w ∷ xs) (y ∷ z ∷ ys) alike =
+    let rest : map tree_of (z ∷ ys) ≡ map (λ t. instance f (tree_of t)) (w ∷ xs) = cc in
+    let rest_same : trees_of (z ∷ ys) ≡ instances f (trees_of (w ∷ xs)) = trees_of-instances f (w ∷ xs) (z ∷ ys) rest in
     cc
 
 -- the variables that were seen before, and then those of the terms

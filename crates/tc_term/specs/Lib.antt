@@ -19,4 +19,5 @@ pub mod Faults
 pub mod Readable
 pub mod NameBytes
 pub mod Letters
+pub mod Blocks
 pub mod Arithmetic

@@ -11,6 +11,7 @@ ghost use Rattle.tc_term.specs.declared.limits.TheConstants.{MOST_NODES, MOST_DE
 ghost use Rattle.tc_term.specs.declared.limits.TheConstants.{MOST_BYTES_OF_NAMES, MOST_VARIABLES};
 ghost use Rattle.tc_term.specs.declared.limits.TheConstants.{MOST_BRACKETS};
 ghost use Rattle.tc_term.specs.declared.template.NotPattern.{NotPattern};
+ghost use Rattle.tc_term.specs.declared.template.NotPattern.TheVariants.{NoMemory};
 ghost use Rattle.tc_term.specs.declared.terms.Term.{Term};
 ghost use Rattle.tc_term.specs.declared.tuple.NotTuple.{NotTuple};
 
@@ -50,12 +51,16 @@ pub fn renumbering_keeps_matches()
         → Matches m [] (renumbered t) u → Matches n [] t u }
 {}
 
-/// A tuple is not refused as a tuple, and a term that can be numbered as a template not as one.
+/// A tuple is not refused as a tuple, and a term that is numbered as a template is not as one. A term
+/// that can be numbered so is refused for want of memory alone, where it isn't yet.
 pub fn good_terms_are_not_refused()
     ensures tuple { (t : Term) (why : NotTuple)
         → IsTuple (tree_of t) → HasTupleCause t why → ⊥ }
     ensures template { (t : Term) (why : NotPattern)
-        → IsTemplate (tree_of t) → HasExcess t why → ⊥ }
+        → IsTemplate (tree_of t) → HasExcess t why
+        → (why ≡ NoMemory t) × (renumbered (tree_of t) ≡ tree_of t → ⊥) }
+    ensures pattern { (t : Term) (why : NotPattern)
+        → IsPattern (tree_of t) → HasExcess t why → ⊥ }
 {}
 
 /// A tuple is a template.

@@ -4,11 +4,12 @@
 //! its text is, and what equations say of its variables, is defined here too. Nothing here knows of
 //! operations or tuple centres.
 //!
+//! A term isn't changed once it is made, so its copies share their arguments: a copy takes a step on
+//! a count and no memory.
+//!
 //! ```rattle
-//! let mut args = Vec::new(alloc);
-//! args.push(Term::Int(1))?;
-//! args.push(Term::Var(7))?;
-//! let term = Term::Comp(Name::new(alloc, b"p")?, Args::new(args));
+//! let args = Args::two(alloc, Term::Int(1), Term::Var(7))?;
+//! let term = Term::Comp(Name::new(alloc, b"p")?, args);
 //! let template = Pattern::of(term)?; // p(1,_0)
 //! assert!(rt; template.vars() == 1);
 //! let tuple = Ground::of(template.into_term());

@@ -1,5 +1,5 @@
 //! The variables of a term, by first appearance.
-ghost use Rattle.std.specs.Prelude.{◌≡◌, ◌<◌, ◌≤◌, IsTrue, false, [], length};
+ghost use Rattle.std.specs.Prelude.{◌≡◌, ◌<◌, ◌≤◌, ◌↔◌, IsTrue, false, [], length};
 ghost use Rattle.std.specs.List.{range_with_len};
 ghost use Rattle.tc_term.specs.Limits.{most_variables};
 ghost use Rattle.tc_term.specs.TreeView.{tree_of};
@@ -95,7 +95,7 @@ pub(crate) fn place(numbers: &[u32], n: u32) -> usize
 
 // Whether the numbers are 0, 1, .. in order.
 pub(crate) fn count_up(numbers: &[u32]) -> bool
-    ensures { IsTrue result → numbers.now ≡ range_with_len 0 (length numbers.now) }
+    ensures { IsTrue result ↔ numbers.now ≡ range_with_len 0 (length numbers.now) }
 {
     for (i, n) in numbers.iter().enumerate() {
         if *n as usize != i {

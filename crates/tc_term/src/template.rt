@@ -5,7 +5,7 @@ ghost use Rattle.tc_term.specs.TreeView.{tree_of};
 ghost use Rattle.tc_term.specs.Variables.{var_bound, variables, renumbered, IsTemplate, IsPattern};
 
 use crate::limits::fits;
-use crate::numbering::{Seen, count_up, note};
+use crate::numbering::{Seen, count_up, note, place};
 use crate::terms::Term;
 use crate::tuple::Ground;
 use std::alloc::Global;
@@ -22,6 +22,10 @@ pub enum NotPattern {
     /// It is within the limits, and has more than 256 different variables.
     #[error("the term has more than 256 different variables")]
     TooMany(Term),
+    /// It is a template whose variables aren't numbered by first appearance yet, and there was no
+    /// memory for one whose are.
+    #[error("out of memory")]
+    NoMemory(Term),
 }
 
 /// A template: a term within the limits with at most 256 different variables, which are numbered
@@ -55,7 +59,8 @@ impl Pattern {
 
     /// The term as a template with its variables numbered anew, where it is one.
     ///
-    /// No memory is taken. Takes O(nodes × variables) time.
+    /// A term that is numbered so already is taken as it is, without memory; of another a copy is
+    /// made, since other terms may share its arguments. Takes O(nodes × variables) time.
     pub fn of(t: Term) -> Result<Pattern, NotPattern>
         ensures ok { IfOk result (λ p. (p ≡ renumbered (tree_of t)) × IsTemplate (tree_of t)) }
         ensures err { IfErr result (HasExcess t) }
@@ -68,10 +73,24 @@ impl Pattern {
             return Err(NotPattern::TooMany(t));
         }
         let numbers = seen.numbers();
-        Ok(Pattern {
-            term: renumbered(t, numbers),
-            vars: numbers.len() as u32,
-        })
+        match renumbered(t, numbers) {
+            Ok(term) => Ok(Pattern {
+                term,
+                vars: numbers.len() as u32,
+            }),
+            Err(t) => Err(NotPattern::NoMemory(t)),
+        }
+    }
+
+    /// A term that is known to be a template, with so many variables, numbered by first appearance.
+    ///
+    /// Neither is looked at again: takes O(1) time and no memory.
+    pub fn known(term: Term, vars: u32) -> Pattern
+        requires pattern { IsPattern (tree_of term) }
+        requires count { vars ≡ length (variables (tree_of term)) }
+        ensures { result ≡ tree_of term }
+    {
+        Pattern { term, vars }
     }
 
     /// A tuple as a template, which has no variable. No memory is taken.
@@ -108,7 +127,7 @@ impl Pattern {
         self.vars
     }
 
-    /// Another template of the same term.
+    /// Another template of the same term, which shares its arguments. Takes O(1) time.
     pub fn copy(&self, alloc: Global) -> Result<Pattern, NoMemory>
         ensures { IfOk result (λ p. p ≡ self.now) }
     {
@@ -120,15 +139,25 @@ impl Pattern {
 }
 
 // The term with its variables numbered anew; these are the numbers that they have, by first
-// appearance. Most terms are numbered so already.
-fn renumbered(mut t: Term, numbers: &[u32]) -> Term
+// appearance. Most terms are numbered so already, and taken as they are. For another a copy is made,
+// and where memory runs out the term is given back.
+fn renumbered(t: Term, numbers: &[u32]) -> Result<Term, Term>
     requires few { length numbers.now ≤ most_variables }
     requires seen { numbers.now ≡ variables (tree_of t) }
-    ensures { tree_of result ≡ renumbered (tree_of t) }
+    ensures ok { IfOk result (λ r. tree_of r ≡ renumbered (tree_of t)) }
+    ensures same { IfErr result (λ u. u ≡ t) }
+    ensures renamed { IfErr result (λ u. renumbered (tree_of t) ≡ tree_of t → ⊥) }
 {
     if count_up(numbers) {
-        return t;
+        return Ok(t);
     }
-    t.renumber(numbers);
-    t
+    match t {
+        Term::Var(n) => Ok(Term::Var(place(numbers, n) as u32)),
+        Term::Atom(name) => Ok(Term::Atom(name)),
+        Term::Int(n) => Ok(Term::Int(n)),
+        Term::Comp(name, args) => match args.with_places(numbers) {
+            Ok(args) => Ok(Term::Comp(name, args)),
+            Err(_) => Err(Term::Comp(name, args)),
+        },
+    }
 }

@@ -1,5 +1,6 @@
 //! Terms, and the arguments of compounds.
-ghost use Rattle.std.specs.Prelude.{◌≡◌, ◌<◌, ◌≤◌, All, IfNone, IfOk, IfSome, length};
+ghost use Rattle.std.specs.Prelude.{◌≡◌, ◌<◌, ◌≤◌, [], ◌∷◌, All, IfNone, IfOk, IfSome, length};
+ghost use Rattle.tc_term.specs.Blocks.{terms_of};
 ghost use Rattle.tc_term.specs.Cells.{IsCell, IsNoCell};
 ghost use Rattle.tc_term.specs.Limits.{most_variables};
 ghost use Rattle.tc_term.specs.Tree.{depth, depth_of_all, is_ground};
@@ -9,7 +10,10 @@ ghost use Rattle.tc_term.specs.Variables.{renamed, all_renamed, place_in};
 use crate::name::Name;
 use crate::numbering::place;
 use std::alloc::Global;
+use std::fmt;
+use std::fmt::{Debug, Formatter, Write};
 use std::marker::Model;
+use std::sync::Arc;
 use tc_lists::NoMemory;
 
 /// A variable with its number, an atom, a whole number, or a compound: a name with its arguments.
@@ -25,10 +29,22 @@ pub enum Term {
 }
 
 /// The arguments of a compound: one term or more.
+///
+/// They lie in a block of memory that all copies share, and that is freed with the last of them.
 #[cycle(term)]
-#[derive(Debug, Drop)]
+#[derive(Drop)]
 pub struct Args {
-    terms: Vec<Term>,
+    alloc: Global,
+    block: Arc<Block>,
+}
+
+// The arguments: one or two in the block itself, more in memory of their own.
+#[cycle(term)]
+#[derive(Drop)]
+enum Block {
+    One([Term; 1]),
+    Two([Term; 2]),
+    Many(Vec<Term>),
 }
 
 impl Model for Args {
@@ -41,26 +57,75 @@ impl Model for Args {
     ghost coded = { coded_trees };
 
     ghost use Rattle.tc_term.specs.TreeView.{trees_of};
+    ghost use Rattle.tc_term.specs.Blocks.{terms_of};
 
-    ghost view = { λ a. trees_of a.terms.items };
+    ghost view = { λ a. trees_of (terms_of a.block.value) };
 
-    ghost invariant = { λ a. 0 < length a.terms.items };
+    ghost invariant = { λ a. 0 < length (terms_of a.block.value) };
 
     ghost size = { depth_of_all };
 
     ghost use Rattle.std.proofs.Common.{arith};
-    ghost use Rattle.tc_term.specs.TreeFalls.{most_le-depth};
+    ghost use Rattle.tc_term.specs.TreeFalls.{block_le-depth};
 
-    ghost size_decreases = { λ a h. omega (arith, most_le-depth a.terms.items) };
+    ghost size_decreases = { λ a h. omega (arith, block_le-depth a.block.value) };
+}
+
+impl Block {
+    fn items(&self) -> &[Term]
+        ensures { result.now ≡ terms_of self.now }
+    {
+        match self {
+            Block::One(terms) => terms,
+            Block::Two(terms) => terms,
+            Block::Many(terms) => terms,
+        }
+    }
+
+    fn into_vec(self, alloc: Global) -> Result<Vec<Term>, NoMemory>
+        ensures { IfOk result (λ terms. terms.items ≡ terms_of self) }
+    {
+        match self {
+            Block::One(terms) => Ok(Vec::from_array(alloc, terms)?),
+            Block::Two(terms) => Ok(Vec::from_array(alloc, terms)?),
+            Block::Many(terms) => Ok(terms),
+        }
+    }
 }
 
 impl Args {
-    /// These arguments, one or more.
-    pub fn new(terms: Vec<Term>) -> Args
+    /// These arguments, one or more, in a block that copies share.
+    pub fn new(alloc: Global, mut terms: Vec<Term>) -> Result<Args, NoMemory>
         requires { 0 < length terms.items }
-        ensures { result ≡ trees_of terms.items }
+        ensures { IfOk result (λ args. args ≡ trees_of terms.items) }
     {
-        Args { terms }
+        if terms.len() == 1 {
+            let Some(x) = terms.pop() else { unreachable!() };
+            return Args::one(alloc, x);
+        }
+        if terms.len() == 2 {
+            let Some(y) = terms.pop() else { unreachable!() };
+            let Some(x) = terms.pop() else { unreachable!() };
+            return Args::two(alloc, x, y);
+        }
+        let block = Arc::new(alloc, Block::Many(terms))?;
+        Ok(Args { alloc, block })
+    }
+
+    /// This one argument.
+    pub fn one(alloc: Global, x: Term) -> Result<Args, NoMemory>
+        ensures { IfOk result (λ args. args ≡ trees_of (x ∷ [])) }
+    {
+        let block = Arc::new(alloc, Block::One([x]))?;
+        Ok(Args { alloc, block })
+    }
+
+    /// These two arguments.
+    pub fn two(alloc: Global, x: Term, y: Term) -> Result<Args, NoMemory>
+        ensures { IfOk result (λ args. args ≡ trees_of (x ∷ y ∷ [])) }
+    {
+        let block = Arc::new(alloc, Block::Two([x, y]))?;
+        Ok(Args { alloc, block })
     }
 
     /// The arguments, in order. A recursion through them falls by `depth`.
@@ -69,38 +134,47 @@ impl Args {
         ensures trees { trees_of result.now ≡ self.now }
         ensures depth { All (λ t. depth (tree_of t) ≤ depth_of_all self.now) result.now }
     {
-        &self.terms
+        self.block.items()
     }
 
-    /// The arguments themselves. No memory is taken.
-    pub fn into_vec(self) -> Vec<Term>
-        ensures some { 0 < length result.items }
-        ensures trees { trees_of result.items ≡ self }
+    /// The arguments themselves.
+    ///
+    /// They are moved where no copy shares their block, and copied where one does. Three or more
+    /// that nobody shares take no memory.
+    pub fn into_vec(self, alloc: Global) -> Result<Vec<Term>, NoMemory>
+        ensures some { IfOk result (λ terms. 0 < length terms.items) }
+        ensures trees { IfOk result (λ terms. trees_of terms.items ≡ self) }
     {
-        self.terms
-    }
-
-    // Gives each variable its place among these numbers.
-    #[cycle(renumber)]
-    fn renumber(&mut self, numbers: &[u32])
-        requires { length numbers.now ≤ most_variables }
-        ensures { self.new ≡ all_renamed (place_in numbers.now) self.old }
-    {
-        for i in 0..self.terms.len() {
-            self.terms[i].renumber(numbers);
+        match Arc::try_unwrap(self.block) {
+            Ok(block) => block.into_vec(alloc),
+            Err(block) => copies(alloc, block.items()),
         }
     }
 
-    /// Copies of the arguments, in room for exactly these.
-    #[cycle(copy)]
+    // The arguments with each variable given its place among these numbers.
+    #[cycle(places)]
+    pub(crate) fn with_places(&self, numbers: &[u32]) -> Result<Args, NoMemory>
+        requires { length numbers.now ≤ most_variables }
+        ensures { IfOk result (λ args. args ≡ all_renamed (place_in numbers.now) self.now) }
+    {
+        let alloc = self.alloc;
+        let items = self.items();
+        let mut terms = Vec::with_capacity(alloc, items.len())?;
+        for term in items {
+            terms.push(term.with_places(alloc, numbers)?)?;
+        }
+        Args::new(alloc, terms)
+    }
+
+    /// Another value of the same arguments, which shares their block.
+    ///
+    /// Takes O(1) time and no memory. It fails only where the block's count of copies is full, at
+    /// 2^63 - 1.
     pub fn copy(&self, alloc: Global) -> Result<Args, NoMemory>
         ensures { IfOk result (λ args. args ≡ self.now) }
     {
-        let mut terms = Vec::with_capacity(alloc, self.terms.len())?;
-        for term in &self.terms {
-            terms.push(term.copy(alloc)?)?;
-        }
-        Ok(Args { terms })
+        let block = Arc::try_clone(&self.block)?;
+        Ok(Args { alloc, block })
     }
 }
 
@@ -113,7 +187,7 @@ impl Term {
             Term::Var(_) => false,
             Term::Atom(_) | Term::Int(_) => true,
             Term::Comp(_, args) => {
-                for arg in &args.terms {
+                for arg in args.items() {
                     if !arg.is_ground() {
                         return false;
                     }
@@ -140,21 +214,25 @@ impl Term {
         }
     }
 
-    // Gives each variable its place among these numbers.
-    #[cycle(renumber)]
-    pub(crate) fn renumber(&mut self, numbers: &[u32])
+    // The term with each variable given its place among these numbers.
+    #[cycle(places)]
+    fn with_places(&self, alloc: Global, numbers: &[u32]) -> Result<Term, NoMemory>
         requires { length numbers.now ≤ most_variables }
-        ensures { tree_of self.new ≡ renamed (place_in numbers.now) (tree_of self.old) }
+        ensures { IfOk result
+            (λ term. tree_of term ≡ renamed (place_in numbers.now) (tree_of self.now)) }
     {
         match self {
-            Term::Var(n) => *n = place(numbers, *n) as u32,
-            Term::Atom(_) | Term::Int(_) => {}
-            Term::Comp(_, args) => args.renumber(numbers),
+            Term::Var(n) => Ok(Term::Var(place(numbers, *n) as u32)),
+            Term::Comp(name, args) => {
+                Ok(Term::Comp(name.copy(alloc)?, args.with_places(numbers)?))
+            }
+            Term::Atom(_) | Term::Int(_) => self.copy(alloc),
         }
     }
 
-    /// Another term of the same tree. Recurses as deep as the term is.
-    #[cycle(copy)]
+    /// Another term of the same tree, which shares its arguments.
+    ///
+    /// Takes O(1) time, and no memory but for a name of more than 14 bytes.
     pub fn copy(&self, alloc: Global) -> Result<Term, NoMemory>
         ensures { IfOk result (λ term. tree_of term ≡ tree_of self.now) }
     {
@@ -164,6 +242,33 @@ impl Term {
             Term::Int(n) => Ok(Term::Int(*n)),
             Term::Comp(name, args) => Ok(Term::Comp(name.copy(alloc)?, args.copy(alloc)?)),
         }
+    }
+}
+
+// Copies of the terms, in room for exactly these.
+fn copies(alloc: Global, terms: &[Term]) -> Result<Vec<Term>, NoMemory>
+    ensures trees { IfOk result (λ copies. trees_of copies.items ≡ trees_of terms.now) }
+    ensures as_long { IfOk result (λ copies. length copies.items ≡ length terms.now) }
+{
+    let mut copies = Vec::with_capacity(alloc, terms.len())?;
+    for term in terms {
+        copies.push(term.copy(alloc)?)?;
+    }
+    Ok(copies)
+}
+
+// By hand, since the arguments lie behind a pointer that is shared.
+impl Debug for Args {
+    #[cycle(debug)]
+    fn fmt<W: Write>(&self, f: &mut Formatter<W>) -> fmt::Result {
+        f.write_str("[")?;
+        for (i, term) in self.items().iter().enumerate() {
+            if i > 0 {
+                f.write_str(", ")?;
+            }
+            term.fmt(f)?;
+        }
+        f.write_str("]")
     }
 }
 
@@ -203,10 +308,12 @@ impl PartialEq for Args {
 
     #[cycle(same)]
     fn eq(&self, other: &Args) -> bool {
-        if self.terms.len() != other.terms.len() {
+        let xs = self.items();
+        let ys = other.items();
+        if xs.len() != ys.len() {
             return false;
         }
-        for (x, y) in self.terms.iter().zip(&other.terms) {
+        for (x, y) in xs.iter().zip(ys) {
             if x != y {
                 return false;
             }

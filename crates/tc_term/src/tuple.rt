@@ -75,7 +75,7 @@ impl Ground {
         self.term
     }
 
-    /// Another tuple of the same term.
+    /// Another tuple of the same term, which shares its arguments. Takes O(1) time.
     pub fn copy(&self, alloc: Global) -> Result<Ground, NoMemory>
         ensures { IfOk result (λ tuple. tuple ≡ self.now) }
     {

@@ -63,7 +63,9 @@ pub(crate) fn part_value(
                     None => return Ok(None),
                 }
             }
-            Ok(Some(with_arguments(name.copy(alloc)?, values)))
+            let name = name.copy(alloc)?;
+            let whole = with_arguments(alloc, name, values)?;
+            Ok(Some(whole))
         }
     }
 }
@@ -109,17 +111,20 @@ fn node_value(
             None => return Ok(None),
         }
     }
-    Ok(Some(with_arguments(name, values)))
+    let whole = with_arguments(alloc, name, values)?;
+    Ok(Some(whole))
 }
 
 // The atom of this name, or the compound with these arguments.
-fn with_arguments(name: Name, arguments: Vec<Term>) -> Term
-    ensures { tree_of result ≡ applied_over tree_of (Atomic name) arguments.items }
+fn with_arguments(alloc: Global, name: Name, arguments: Vec<Term>) -> Result<Term, NoMemory>
+    ensures { IfOk result
+        (λ t. tree_of t ≡ applied_over tree_of (Atomic name) arguments.items) }
 {
     if arguments.is_empty() {
-        Term::Atom(name)
+        Ok(Term::Atom(name))
     } else {
-        Term::Comp(name, Args::new(arguments))
+        let args = Args::new(alloc, arguments)?;
+        Ok(Term::Comp(name, args))
     }
 }
 

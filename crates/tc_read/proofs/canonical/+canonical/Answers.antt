@@ -38,7 +38,7 @@ arguments-returns-then-byte-ne44 t c =
 
 pub arguments-returns-then-byte-eq41 : goal.arguments-returns-then-byte-eq41
 arguments-returns-then-byte-eq41 t c =
-    ap (λ ts. Some (ts, c.in-Some.budget, c.in-Some-next_byte.behind.now)) c.new.ensures ∙
+    ap (λ ts. Some (ts, c.in-Some.budget, c.in-Some-next_byte.behind.now)) c.in_ok-args.ensures ∙
     last_next (reads c.args.depth Alone) c.loop.terms.items (c.args.budget.room.nodes - c.loop.counter) (c.args.budget.room.nodes - (c.loop.counter + 1))
     c.loop.left c.loop.rest.now _ c.loop.invariant (omega (arith, c.loop-test.true)) c.in_ok-term.field-0 c.in_ok-term.ensures
     c.in-Some.term c.in-Some.budget c.in-Some.after c.in-Some.is c.in-Some-next_byte.behind.now c.push.new.self.items

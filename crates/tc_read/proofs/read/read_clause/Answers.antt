@@ -35,3 +35,8 @@ returns-in-Ok-clause-behind c =
     let within = end_within scanned (omega (arith, length-drop c.args.from c.args.text.now)) in
     let beyond = end_beyond scanned (omega (arith, length-drop c.args.from c.args.text.now)) in
     (omega (arith, beyond, length-drop c.args.from c.args.text.now), within)
+
+pub read_tokens-requires : goal.read_tokens-requires
+read_tokens-requires c =
+    let s = rw c.rest_from.ensures at c.in_ok-gathered.ensures in
+    (s.0, s.2, sym s.2.wide ∙ none_from_never c.in_ok-gathered.field-0.gathered.wide c.in_default.not-Some)

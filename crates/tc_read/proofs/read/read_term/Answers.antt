@@ -18,3 +18,8 @@ returns c =
     (λ a h. to_read false (length c.args.text.now) c.args.text.now s.0 TextEnd (rw c.in-TextEnd.is at s.1) narrow a h)
     (length c.args.text.now) c.read_tokens.result
     (c.read_tokens.ensures (length c.args.text.now) (length c.args.text.now) s.0 TextEnd s.2 narrow refl refl)
+
+pub read_tokens-requires : goal.read_tokens-requires
+read_tokens-requires c =
+    let s = c.in_ok-gathered.ensures in
+    (s.0, s.2, sym s.2.wide ∙ none_from_never c.in_ok-gathered.field-0.gathered.wide c.in_default.not-Some)

@@ -1,12 +1,9 @@
-use Rattle.std.proofs.Common.{◌+◌, ◌∙◌, ap, subst, arith, drop, length, IfOk}
+use Rattle.std.proofs.Common.{◌+◌, ap, subst, arith, drop, length, IfOk}
 use Rattle.std.proofs.Math.Path.{fun_ext}
-use Rattle.std.proofs.lemmas.List.{drop_all}
-use Rattle.tc_term.specs.Tree.{Atomic}
 use Rattle.tc_term.specs.TreeView.{tree_of}
-use Rattle.tc_unify.specs.Nodes.{applied_over}
 use Rattle.tc_unify.specs.Values.{IsValue, of_term}
 use Rattle.tc_unify.proofs.Copied.{args_fit}
-use Rattle.tc_unify.proofs.Fixed.{IsSpent-head, spent_next, builds_next, none_next, none_value, built_value, term_builds, of_variable}
+use Rattle.tc_unify.proofs.Fixed.{IsSpent-head, spent_next, builds_next, none_next, none_value, term_builds, of_variable}
 use Rattle.tc_unify.proofs.values.+part_value.Goals as goal
 use Rattle.tc_lists.proofs.Parts.{drop_read}
 
@@ -62,13 +59,3 @@ returns-in-Var t c =
     subst (λ V. IfOk c.node_value.result (IsValue c.args.arena.now c.args.links.now V c.args.depth c.args.room.now c.node_value.new.room))
     (fun_ext (of_variable c.args.arena.now c.args.links.now c.requires.solved c.args.shift c.args.term.now c.in-Var.n (9295712209692852481 + c.in-Var.n + c.args.shift) (ap tree_of c.in-Var.is) (omega arith)))
     c.node_value.ensures
-
-pub returns-in_ok-copy-in-Comp : goal.returns-in_ok-copy-in-Comp
-returns-in_ok-copy-in-Comp t c =
-    let a = c.args.arena.now in
-    let l = c.args.links.now in
-    let items = c.items-arg-items.result.now in
-    let inv = c.loop-arg.invariant in
-    built_value a l c.requires.solved (λ v x. of_term c.args.shift x v) (of_term c.args.shift c.args.term.now) c.in-Comp.name c.loop-arg.values.items (drop c.loop-arg.arg-index items) c.with_arguments.result c.args.depth c.args.room.now c.loop-arg.room
-    (drop_all c.loop-arg.arg-index items c.loop-arg-test.false)
-    (c.with_arguments.ensures ∙ ap (λ n. applied_over tree_of (Atomic n) c.loop-arg.values.items) c.in_ok-copy-in-Comp.ensures) inv.spent inv.value

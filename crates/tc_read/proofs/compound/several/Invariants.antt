@@ -3,7 +3,7 @@ use Rattle.tc_read.specs.Frames.{frames_of, items_of, tops, under}
 use Rattle.tc_read.specs.Items.{parts_view}
 use Rattle.tc_read.specs.Kept.{Kept, parts}
 use Rattle.tc_read.specs.Machine.{turned}
-use Rattle.tc_read.proofs.compound.compound.Given as goal
+use Rattle.tc_read.proofs.compound.several.Given as goal
 
 abbrev pub invariant-loop-left : goal.invariant-loop-left
 invariant-loop-left l =

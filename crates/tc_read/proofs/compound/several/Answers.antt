@@ -4,7 +4,7 @@ use Rattle.tc_read.specs.Items.{kept_item, parts_view}
 use Rattle.tc_read.specs.Kept.{finished, joined, parts}
 use Rattle.tc_read.specs.Machine.{turned}
 use Rattle.tc_read.proofs.Framed.{applied-turned, tops-some, under-some}
-use Rattle.tc_read.proofs.compound.compound.Goals as goal
+use Rattle.tc_read.proofs.compound.several.Goals as goal
 
 pub loop-left-init : goal.loop-left-init
 loop-left-init c = (λ last e. (last, refl, e), refl, refl)
@@ -39,7 +39,7 @@ returns-clause-compound c =
     let whole : turned done (first ∷ []) ≡ all.0 =
     ap (λ ks. turned (tops c.args.count ks) (first ∷ [])) (sym c.pop_item.ensures.items)
     ∙ all.1 ∙ ap (λ n. turned (tops n (items_of c.loop-left.stack)) all.0) zero in
-    c.finish.ensures
+    c.in_ok-item.ensures
     ∙ ap (finished name) (all.2 ∙ ap parts (sym whole))
     ∙ sym (applied-turned name done [] first)
 
