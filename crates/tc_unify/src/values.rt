@@ -56,7 +56,7 @@ pub(crate) fn part_value(
             if !room.take(depth, name.bytes().len()) {
                 return Ok(None);
             }
-            let mut values = Vec::with_capacity(alloc, args.items().len())?;
+            let mut values = Vec::new(alloc);
             for arg in args.items() {
                 match part_value(alloc, arena, links, arg, shift, depth - 1, room)? {
                     Some(value) => values.push(value)?,
@@ -104,7 +104,7 @@ fn node_value(
     if !room.take(depth, name.bytes().len()) {
         return Ok(None);
     }
-    let mut values = Vec::with_capacity(alloc, spine.arguments.len())?;
+    let mut values = Vec::new(alloc);
     while let Some(argument) = spine.arguments.pop() {
         match node_value(alloc, arena, links, argument, depth - 1, room)? {
             Some(value) => values.push(value)?,

@@ -90,10 +90,10 @@ loop-argument-init t c =
     record {
       deep = c.take-2.ensures.depth c.if-not-take-2.false;
       arguments = spine.arguments;
-      spent = IsSpent-head a l c.requires.solved name c.in_ok-values.values.items c.args.depth c.args.room.now c.take-2.new.self (length c.bytes.result.now) c.in_ok-values.ensures.items
+      spent = IsSpent-head a l c.requires.solved name c.new-values.result.items c.args.depth c.args.room.now c.take-2.new.self (length c.bytes.result.now) c.new-values.ensures.items
           (ap length c.bytes.ensures)
           (c.take-2.ensures.depth c.if-not-take-2.false) (c.take-2.ensures.nodes c.if-not-take-2.false) (c.take-2.ensures.bytes c.if-not-take-2.false);
-      value = spine_builds a l c.requires.solved c.args.node c.end-end.result name c.in_ok-values.values.items c.in_ok-spine.spine.arguments.items name c.end-end.ensures refl c.in_ok-values.ensures.items
+      value = spine_builds a l c.requires.solved c.args.node c.end-end.result name c.new-values.result.items c.in_ok-spine.spine.arguments.items name c.end-end.ensures refl c.new-values.ensures.items
           (λ v. named_spine a v (label (shape_of a) v c.end-end.result) c.in_ok-spine.spine.atom name (reverse c.in_ok-spine.spine.arguments.items) c.requires.solved.linked.arena shape (spine.tree v));
     }
 

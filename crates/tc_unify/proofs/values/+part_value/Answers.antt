@@ -15,9 +15,9 @@ loop-arg-init t c =
     record {
       deep = c.take-in-Comp.ensures.depth c.if-not-take.false;
       args = λ i x h e. (args_fit c.args.shift c.args.term.now c.in-Comp.name c.in-Comp.args items a.variables (ap tree_of c.in-Comp.is) c.items-arg-items.ensures.trees c.items-arg-items.ensures.depth c.requires.variables i x h e).1;
-      spent = IsSpent-head a l c.requires.solved c.in-Comp.name c.in_ok-values.values.items c.args.depth c.args.room.now c.take-in-Comp.new.self (length c.bytes-in-Comp.result.now) c.in_ok-values.ensures.items (ap length c.bytes-in-Comp.ensures)
+      spent = IsSpent-head a l c.requires.solved c.in-Comp.name c.new-values.result.items c.args.depth c.args.room.now c.take-in-Comp.new.self (length c.bytes-in-Comp.result.now) c.new-values.ensures.items (ap length c.bytes-in-Comp.ensures)
           (c.take-in-Comp.ensures.depth c.if-not-take.false) (c.take-in-Comp.ensures.nodes c.if-not-take.false) (c.take-in-Comp.ensures.bytes c.if-not-take.false);
-      value = term_builds a l c.requires.solved c.args.shift c.args.term.now c.in-Comp.name c.in-Comp.args items c.in_ok-values.values.items (ap tree_of c.in-Comp.is) c.items-arg-items.ensures.trees c.items-arg-items.ensures.some c.in_ok-values.ensures.items;
+      value = term_builds a l c.requires.solved c.args.shift c.args.term.now c.in-Comp.name c.in-Comp.args items c.new-values.result.items (ap tree_of c.in-Comp.is) c.items-arg-items.ensures.trees c.items-arg-items.ensures.some c.new-values.ensures.items;
     }
 
 pub part_value-requires : goal.part_value-requires
