@@ -68,3 +68,17 @@ fn threads_at_two_bells_wake(rt: HostRuntime) -> Result<(), Fail> {
     assert_eq!(rt; first.rung(), 1);
     Ok(())
 }
+
+#[test]
+fn all_bells_ring(rt: HostRuntime) -> Result<(), Fail> {
+    let bells = Bells::new(rt.alloc(), 3)?;
+    bells.ring_all();
+    let mut rung: u64 = 0;
+    for number in 0..3 {
+        if let Some(bell) = bells.get(number) {
+            rung = rung.wrapping_add(bell.rung());
+        }
+    }
+    assert_eq!(rt; rung, 3);
+    Ok(())
+}

@@ -39,4 +39,11 @@ impl Bells {
     {
         self.all.get(number)
     }
+
+    /// Rings each bell.
+    pub fn ring_all(&self) {
+        for bell in &self.all {
+            bell.ring();
+        }
+    }
 }

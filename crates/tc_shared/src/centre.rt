@@ -14,11 +14,10 @@ ghost use Rattle.tc_shared.specs.Passes.{IsCallRefused, IsLookRefused, IsWaitRef
 ghost use Rattle.tc_shared.specs.Passes.{IsSpent, IsPaused, IsPausedOf};
 
 use crate::answers::{CallFault, LookFault, SharedPollFault, call_fault, poll_fault};
-use crate::waking::{rung, sleep, wake};
+use crate::waking::{answered_since, rung, sleep, wake};
 use std::alloc::Global;
 use std::marker::Model;
 use std::sync::Wait;
-use std::thread::yield_now;
 use tc_bells::Bells;
 use tc_centre::{Answer, Core, Poll};
 use tc_lists::NoMemory;
@@ -134,8 +133,9 @@ impl SharedCentre {
         let known = pass.known();
         let served = held.value.turn(alloc, id, op);
         vouch(&held.value);
-        wake(&self.bells, held.value.history(), known);
+        let answered = answered_since(held.value.history(), known);
         self.turnstile.leave(pass, held);
+        wake(&self.bells, &answered);
         match served {
             Ok(answer) => Ok(answer),
             Err(fault) => Err(call_fault(fault)),
@@ -178,9 +178,11 @@ impl SharedCentre {
 
     /// Waits until the agent's call of this number has its reply.
     ///
-    /// It takes a turn, and a further one each time that a request of the agent was answered: so
-    /// two at most where the agent has one request, however many other calls are served. In
-    /// between it sleeps. Where no turn is left, and there is no reply yet, it doesn't wait.
+    /// It takes a turn, and a further one each time that it is woken and there are more entries. In
+    /// between it sleeps. It is woken where a request of the agent was answered, so it mostly takes
+    /// two turns, however many other calls are served. But a turn that answers more than four
+    /// agents wakes all, and a bell may ring late, for an earlier request. Where no turn is left,
+    /// and there is no reply yet, it doesn't wait.
     pub fn wait<R: Wait>(
         &self,
         rt: &R,
@@ -249,20 +251,21 @@ impl SharedCentre {
         }
     }
 
-    // Sleeps until the agent's bell has rung since, and then until more entries stand than the pass
-    // knows: the bell rings in the turn in which they are made.
+    // Sleeps until the agent's bell has rung since, and more entries stand than the pass knows.
+    // Where there are none it sleeps on, and takes no turn.
     fn rest<R: Wait>(&self, rt: &R, pass: &mut CentrePass, heard: u64)
         requires own { IsPassOf self.now pass.old }
         requires free { pass.old.holds ≡ false }
         ensures { Rests self.now pass.old pass.new }
     {
-        sleep(rt, &self.bells, pass.number(), heard);
         let known = pass.known();
+        let mut heard = heard;
         for _ in rt.forever() {
+            sleep(rt, &self.bells, pass.number(), heard);
+            heard = rung(&self.bells, pass.number());
             if self.turnstile.count(pass) > known {
                 return;
             }
-            yield_now();
         }
         unreachable!()
     }

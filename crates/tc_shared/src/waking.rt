@@ -25,13 +25,56 @@ pub(crate) fn sleep<R: Wait>(rt: &R, bells: &Bells, agent: u32, rung: u64) {
     }
 }
 
-/// Wakes the agents whose requests are answered by entries behind the first so many.
-pub(crate) fn wake(bells: &Bells, history: &[Entry], known: u64) {
+/// How many answered agents are told apart. Where a turn answers more, all agents are woken.
+const MOST_TOLD: usize = 4;
+
+/// The agents whose requests a turn has answered.
+#[derive(Drop)]
+pub(crate) struct Answered {
+    agents: [u32; MOST_TOLD],
+    count: usize,
+    are_more: bool,
+}
+
+/// The agents whose requests are answered by entries behind the first so many.
+pub(crate) fn answered_since(history: &[Entry], known: u64) -> Answered {
+    let mut answered = Answered {
+        agents: [0; MOST_TOLD],
+        count: 0,
+        are_more: false,
+    };
     for entry in history.get(known as usize..).unwrap_or(&[]) {
         if let Entry::Gave { id, .. } = entry {
-            if let Some(bell) = bells.get(id.agent as usize) {
-                bell.ring();
-            }
+            note(&mut answered, id.agent);
+        }
+    }
+    answered
+}
+
+// Notes one more agent.
+fn note(answered: &mut Answered, agent: u32) {
+    match answered.agents.get_mut(answered.count) {
+        Some(place) => {
+            *place = agent;
+            answered.count += 1;
+        }
+        None => answered.are_more = true,
+    }
+}
+
+/// Wakes these agents, once the turn that has answered them was passed on.
+///
+/// No wake-up is lost: an agent reads how often its bell has rung before it looks, and again before
+/// it reads the count of entries, and the bell of an agent that is answered rings after that count
+/// has risen. So it sees the answer, or the bell rings behind what it has read and ends its sleep.
+pub(crate) fn wake(bells: &Bells, answered: &Answered) {
+    if answered.are_more {
+        bells.ring_all();
+        return;
+    }
+    for agent in answered.agents.get(..answered.count).unwrap_or(&[]) {
+        if let Some(bell) = bells.get(*agent as usize) {
+            bell.ring();
         }
     }
 }
