@@ -19,7 +19,12 @@ const EVENTS: [&[u8]; 9] = [
 // The goals without an argument, with one and with two.
 const PLAIN: [&[u8]; 5] = [b"pre", b"post", b"success", b"failure", b"true"];
 
-const OF_ONE: [&[u8]; 4] = [b"current_agent", b"current_tc", b"current_op", b"current_tuple"];
+const OF_ONE: [&[u8]; 4] = [
+    b"current_agent",
+    b"current_tc",
+    b"current_op",
+    b"current_tuple",
+];
 
 // The goals on tuples, without a guard and with one.
 const UNGUARDED: [&[u8]; 4] = [b"out_r", b"in_r", b"rd_r", b"no_r"];
@@ -151,7 +156,11 @@ fn tests_of(alloc: Global, guard: &Term) -> Result<Option<Vec<Term>>, NoMemory> 
     if tests.len() > MOST_TESTS {
         return Ok(None);
     }
-    Ok(if tests.iter().all(is_test) { Some(tests) } else { None })
+    Ok(if tests.iter().all(is_test) {
+        Some(tests)
+    } else {
+        None
+    })
 }
 
 // Whether a term is this atom.
