@@ -59,6 +59,7 @@ fn has_op(r: &Reaction, o: EventOp) -> bool
 }
 
 /// Whether a reaction's guard holds of the events of this phase and sign.
+#[inline(always)]
 pub fn has_guard_for(r: &Reaction, phase: Phase, sign: Sign) -> bool
     ensures yes { IsTrue result → Allows phase sign r.now.guard }
     ensures no { result ≡ false → Forbids phase sign r.now.guard }
