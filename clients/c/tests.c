@@ -252,6 +252,11 @@ static void each_call_has_its_reply(tc_session *s) {
   REPLIES(tc_rdp(s, "c", "p(X)", &reply), TC_TUPLE, "p(1)");
   REPLIES(tc_in(s, "c", "p(X)", &reply), TC_TUPLE, "p(1)");
   REPLIES(tc_inp(s, "c", "p(X)", &reply), TC_NONE, "");
+  REPLIES(tc_no(s, "c", "p(X)", &reply), TC_ABSENT, "");
+  REPLIES(tc_nop(s, "c", "p(X)", &reply), TC_ABSENT, "");
+  REPLIES(tc_out(s, "c", "p(2)", &reply), TC_DONE, "");
+  REPLIES(tc_nop(s, "c", "p(X)", &reply), TC_FOUND, "p(2)");
+  REPLIES(tc_inp(s, "c", "p(X)", &reply), TC_TUPLE, "p(2)");
   REPLIES(tc_out(s, "'two words'", "a", &reply), TC_OVER, "post");
   REPLIES(tc_in(s, "'two words'", "a", &reply), TC_REFUSED, "denied");
   REPLIES(tc_poll(s, &reply), TC_REFUSED, "idle");

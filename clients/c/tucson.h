@@ -370,6 +370,8 @@ typedef enum {
   TC_DONE,    /* an out or a set_spec was served */
   TC_TUPLE,   /* text: the tuple */
   TC_NONE,    /* no tuple matches */
+  TC_ABSENT,  /* no tuple matches, which is what a no or a nop has asked */
+  TC_FOUND,   /* text: a tuple that matches what a nop has asked for; it stays */
   TC_PENDING, /* there is no such tuple yet */
   TC_SPEC,    /* text: the reactions, as a name in quotes */
   TC_OVER,    /* text: pre or post; the reactions went over the budget */
@@ -534,9 +536,10 @@ static inline int tc_read_reply(tc_text line, tc_reply *reply) {
     const char *words;
     tc_reply_kind kind;
     int has_text;
-  } table[] = {{"done", TC_DONE, 0},   {"none", TC_NONE, 0},    {"pending", TC_PENDING, 0},
-               {"bye", TC_BYE, 0},     {"tuple ", TC_TUPLE, 1}, {"spec ", TC_SPEC, 1},
-               {"over ", TC_OVER, 1}, {"error ", TC_REFUSED, 1}};
+  } table[] = {{"done", TC_DONE, 0},     {"none", TC_NONE, 0},    {"pending", TC_PENDING, 0},
+               {"absent", TC_ABSENT, 0}, {"bye", TC_BYE, 0},      {"tuple ", TC_TUPLE, 1},
+               {"found ", TC_FOUND, 1},  {"spec ", TC_SPEC, 1},   {"over ", TC_OVER, 1},
+               {"error ", TC_REFUSED, 1}};
   for (size_t i = 0; i < sizeof table / sizeof table[0]; i++) {
     reply->text = line;
     reply->kind = table[i].kind;
@@ -588,6 +591,12 @@ static inline int tc_rdp(tc_session *session, const char *centre, const char *pa
   return tc_call(session, centre, "rdp", pattern, reply);
 }
 
+/* Whether no tuple matches: TC_ABSENT, or TC_FOUND with the oldest that does. */
+static inline int tc_nop(tc_session *session, const char *centre, const char *pattern,
+                         tc_reply *reply) {
+  return tc_call(session, centre, "nop", pattern, reply);
+}
+
 /* Takes or reads a tuple; TC_PENDING where there is none yet. No other call is served then before
  * tc_poll or tc_wait has told it. */
 static inline int tc_in_no_wait(tc_session *session, const char *centre, const char *pattern,
@@ -598,6 +607,12 @@ static inline int tc_in_no_wait(tc_session *session, const char *centre, const c
 static inline int tc_rd_no_wait(tc_session *session, const char *centre, const char *pattern,
                                 tc_reply *reply) {
   return tc_call(session, centre, "rd", pattern, reply);
+}
+
+/* That no tuple matches; TC_PENDING while one does, as with tc_in_no_wait. */
+static inline int tc_no_no_wait(tc_session *session, const char *centre, const char *pattern,
+                                tc_reply *reply) {
+  return tc_call(session, centre, "no", pattern, reply);
 }
 
 /* Whether the call that is pending has its reply. */
@@ -621,6 +636,13 @@ static inline int tc_in(tc_session *session, const char *centre, const char *pat
 static inline int tc_rd(tc_session *session, const char *centre, const char *pattern,
                         tc_reply *reply) {
   int error = tc_rd_no_wait(session, centre, pattern, reply);
+  return !error && reply->kind == TC_PENDING ? tc_wait(session, reply) : error;
+}
+
+/* Waits until no tuple matches. */
+static inline int tc_no(tc_session *session, const char *centre, const char *pattern,
+                        tc_reply *reply) {
+  int error = tc_no_no_wait(session, centre, pattern, reply);
   return !error && reply->kind == TC_PENDING ? tc_wait(session, reply) : error;
 }
 

@@ -11,7 +11,7 @@ import tucson
 
 TOP = Path(__file__).resolve().parents[3]
 PROGRAM = os.environ.get("TUCSON") or str(TOP / "tucson")
-PRIMITIVES = ("out", "in", "rd", "inp", "rdp", "set_spec", "get_spec")
+PRIMITIVES = ("out", "in", "rd", "inp", "rdp", "no", "nop", "set_spec", "get_spec")
 
 
 def configuration(agents, more=""):

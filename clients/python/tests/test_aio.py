@@ -7,7 +7,7 @@ import tucson.aio
 from tests.server import Server
 from tucson import Var, request, term
 from tucson.errors import BadReply, ConnectionEnded, OverBudget, Refused
-from tucson.replies import Bye, Done, Found, NoTuple, Pending, Spec
+from tucson.replies import Absent, Bye, Done, Found, NoTuple, Pending, Spec
 
 X = Var("X")
 
@@ -39,6 +39,8 @@ class AtAServer(unittest.IsolatedAsyncioTestCase):
         with self.assertRaises(OverBudget):
             await session.out("c", "a")
         self.assertEqual(await session.set_spec("c", ""), Done())
+        self.assertEqual(await session.no("c", term("q", X)), Absent())
+        self.assertEqual(await session.nop("c", term("q", X)), Absent())
         self.assertEqual(await session.get_spec("c"), Spec(""))
         self.assertEqual(await session.ask("c ? out("), Refused("line syntax"))
         with self.assertRaises(Refused):

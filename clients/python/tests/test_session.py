@@ -10,7 +10,7 @@ from tests.server import Server
 from tucson import ANY, Atom, Var, cell, request, term, text_of
 from tucson.errors import BadTerm, ConnectionEnded, OverBudget, Refused
 from tucson.exchange import pieces
-from tucson.replies import Bye, Done, Found, NoTuple, Pending, Spec
+from tucson.replies import Absent, Bye, Done, Found, NoTuple, Pending, Spec
 
 X, Y = Var("X"), Var("Y")
 MOST_LINE = 131_072
@@ -59,6 +59,17 @@ class Calls(AtAServer):
         self.assertEqual(session.poll(), Pending())
         self.assertEqual(session.quit(), Bye())
         self.assertEqual(self.server.wait()[0], 3)
+
+    def test_absence_is_asked_and_waited_for(self):
+        session = self.session
+        self.assertEqual(session.nop("c", term("p", X)), Absent())
+        self.assertEqual(session.no("c", term("p", X)), Absent())
+        session.out("c", term("p", 1))
+        self.assertEqual(session.nop("c", term("p", X)), Found(term("p", 1), {"X": 1}))
+        self.assertEqual(session.inp("c", ANY), Found(term("p", 1)))
+        session.out("c", term("p", 2))
+        self.assertEqual(session.no("c", term("p", X), wait=False), Pending())
+        self.assertEqual(session.poll(), Pending())
 
     def test_reactions_are_set_and_told(self):
         text = "reaction(out(p(X)),(Y is X + 1,out_r('it\\'s'(Y)))).\n\treaction(rd(q),true)."

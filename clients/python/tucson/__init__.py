@@ -19,13 +19,14 @@ from .errors import (
 )
 from .matching import match
 from .reading import read_term
-from .replies import Bye, Done, Found, NoTuple, Pending, Reply, Spec
+from .replies import Absent, Bye, Done, Found, NoTuple, Pending, Reply, Spec
 from .request import Request
 from .session import Session, connect
 from .terms import ANY, Atom, Compound, Term, Var, cell, term, text_of
 
 __all__ = [
     "ANY",
+    "Absent",
     "Atom",
     "BadReply",
     "BadTerm",

@@ -16,7 +16,7 @@ from . import request
 from .errors import ConnectionEnded
 from .exchange import Exchange, pieces
 from .matching import match
-from .replies import Bye, Done, Found, NoTuple, Pending, Reply, Spec, expect
+from .replies import Absent, Bye, Done, Found, NoTuple, Pending, R, Reply, Spec, expect
 from .request import Request
 from .terms import Term
 
@@ -94,7 +94,7 @@ class Session:
 
         Where it is, no other call is served before `poll` or `wait` has told its tuple.
         """
-        return await self._finish(request.in_(centre, template), wait)
+        return await self._finish(request.in_(centre, template), wait, Found)
 
     @overload
     async def rd(self, centre: str, template: Term, wait: Literal[True] = True) -> Found: ...
@@ -104,7 +104,7 @@ class Session:
 
     async def rd(self, centre: str, template: Term, wait: bool = True) -> Union[Found, Pending]:
         """Reads the oldest tuple that matches, as `in_` takes it."""
-        return await self._finish(request.rd(centre, template), wait)
+        return await self._finish(request.rd(centre, template), wait, Found)
 
     async def inp(self, centre: str, template: Term) -> Union[Found, NoTuple]:
         """Takes the oldest tuple that matches, if there is one."""
@@ -114,6 +114,20 @@ class Session:
         """Reads the oldest tuple that matches, if there is one."""
         return expect(await self._ask(request.rdp(centre, template)), Found, NoTuple)
 
+    @overload
+    async def no(self, centre: str, template: Term, wait: Literal[True] = True) -> Absent: ...
+
+    @overload
+    async def no(self, centre: str, template: Term, wait: bool) -> Union[Absent, Pending]: ...
+
+    async def no(self, centre: str, template: Term, wait: bool = True) -> Union[Absent, Pending]:
+        """Waits until no tuple matches; without `wait` it may be pending, as `in_`."""
+        return await self._finish(request.no(centre, template), wait, Absent)
+
+    async def nop(self, centre: str, template: Term) -> Union[Absent, Found]:
+        """Whether no tuple matches: `Absent`, or the oldest that does, which stays."""
+        return expect(await self._ask(request.nop(centre, template)), Absent, Found)
+
     async def set_spec(self, centre: str, text: str) -> Done:
         """Replaces the centre's reactions by those of the text."""
         return expect(await self._ask(request.set_spec(centre, text)), Done)
@@ -122,13 +136,13 @@ class Session:
         """The centre's reactions, as a text."""
         return expect(await self._ask(request.get_spec(centre)), Spec)
 
-    async def poll(self) -> Union[Found, Pending]:
-        """The tuple of the call that is pending, if it has come."""
-        return expect(await self._ask(request.POLL), Found, Pending)
+    async def poll(self) -> Union[Found, Absent, Pending]:
+        """The reply of the call that is pending, if it has come."""
+        return expect(await self._ask(request.POLL), Found, Absent, Pending)
 
-    async def wait(self) -> Found:
-        """The tuple of the call that is pending, when it comes."""
-        return expect(await self._ask(request.WAIT), Found)
+    async def wait(self) -> Union[Found, Absent]:
+        """The reply of the call that is pending, when it comes."""
+        return expect(await self._ask(request.WAIT), Found, Absent)
 
     async def quit(self) -> Bye:
         """Ends the session."""
@@ -167,13 +181,13 @@ class Session:
     async def _ask(self, asked: Request) -> Reply:
         return (await self.gather([asked]))[0]
 
-    async def _finish(self, asked: Request, wait: bool) -> Union[Found, Pending]:
+    async def _finish(self, asked: Request, wait: bool, kind: Type[R]) -> Union[R, Pending]:
         """Asks, and waits in the same turn, so that no other task's call comes between."""
         async with self._turn:
             replies = await self._gather([[asked]])
             if wait and isinstance(replies[0], Pending):
                 replies = await self._gather([[request.WAIT]])
-        return expect(replies[0], Found, Pending)
+        return expect(replies[0], kind, Pending)
 
     async def _gather(self, cut: List[List[Request]]) -> List[Reply]:
         replies: List[Reply] = []

@@ -22,7 +22,8 @@ class Done:
 class Found:
     """A tuple, and the values that it gives to the variables of the template, by their names.
 
-    The bindings are empty where the template isn't known: where a raw line has asked.
+    The bindings are empty where the template isn't known: where a raw line has asked. To a `nop`
+    it says that this tuple matches, and stays.
     """
 
     tuple: Term
@@ -38,8 +39,13 @@ class NoTuple:
 
 
 @dataclass(frozen=True)
+class Absent:
+    """No tuple matches, which is what a `no` or a `nop` has asked."""
+
+
+@dataclass(frozen=True)
 class Pending:
-    """There is no such tuple yet; `wait` waits for it, `poll` looks again. It is false."""
+    """It isn't so yet; `wait` waits for it, `poll` looks again. It is false."""
 
     def __bool__(self) -> Literal[False]:
         return False
@@ -57,11 +63,12 @@ class Bye:
     """The session has ended, as was asked."""
 
 
-Reply = Union[Done, Found, NoTuple, Pending, Spec, Bye, Refused, OverBudget]
+Reply = Union[Done, Found, NoTuple, Absent, Pending, Spec, Bye, Refused, OverBudget]
 
 _WORDS: Dict[str, Reply] = {
     "done": Done(),
     "none": NoTuple(),
+    "absent": Absent(),
     "pending": Pending(),
     "bye": Bye(),
 }
@@ -74,7 +81,7 @@ def read_reply(line: str) -> Reply:
         return _WORDS[line]
     word, _, rest = line.partition(" ")
     try:
-        if word == "tuple":
+        if word in ("tuple", "found"):
             return Found(read_term(rest))
         if word == "spec":
             return Spec(unquote(rest))
@@ -89,6 +96,7 @@ def read_reply(line: str) -> Reply:
 
 R = TypeVar("R")
 S = TypeVar("S")
+T = TypeVar("T")
 
 
 @overload
@@ -99,10 +107,14 @@ def expect(reply: Reply, kind: Type[R]) -> R: ...
 def expect(reply: Reply, kind: Type[R], other: Type[S]) -> Union[R, S]: ...
 
 
-def expect(reply: Reply, kind: Any, other: Any = None) -> Any:
-    """The reply, which has to be of this kind or of the other. One that says no is raised."""
+@overload
+def expect(reply: Reply, kind: Type[R], other: Type[S], third: Type[T]) -> Union[R, S, T]: ...
+
+
+def expect(reply: Reply, *kinds: Any) -> Any:
+    """The reply, which has to be of one of these kinds. One that says no is raised."""
     if isinstance(reply, NotServed):
         raise reply
-    if isinstance(reply, kind) or (other and isinstance(reply, other)):
+    if isinstance(reply, kinds):
         return reply
     raise BadReply(f"another reply than was asked for: {reply!r}")

@@ -61,6 +61,16 @@ def rdp(centre: str, template: Term) -> Request:
     return _call(centre, f"rdp({text_of(template)})", template)
 
 
+def no(centre: str, template: Term) -> Request:
+    """Asks that no tuple matches; its reply is `Pending` while one does."""
+    return _call(centre, f"no({text_of(template)})", template)
+
+
+def nop(centre: str, template: Term) -> Request:
+    """Asks whether no tuple matches; its reply is the oldest that does, if there is one."""
+    return _call(centre, f"nop({text_of(template)})", template)
+
+
 def set_spec(centre: str, text: str) -> Request:
     """Replaces the centre's reactions by those of the text."""
     return _call(centre, f"set_spec({quote(text)})")

@@ -10,7 +10,7 @@ from . import request
 from .errors import ConnectionEnded
 from .exchange import Exchange, pieces
 from .matching import match
-from .replies import Bye, Done, Found, NoTuple, Pending, Reply, Spec, expect
+from .replies import Absent, Bye, Done, Found, NoTuple, Pending, R, Reply, Spec, expect
 from .request import Request
 from .terms import Term
 
@@ -83,7 +83,7 @@ class Session:
 
         Where it is, no other call is served before `poll` or `wait` has told its tuple.
         """
-        return self._finish(request.in_(centre, template), wait)
+        return self._finish(request.in_(centre, template), wait, Found)
 
     @overload
     def rd(self, centre: str, template: Term, wait: Literal[True] = True) -> Found: ...
@@ -93,7 +93,7 @@ class Session:
 
     def rd(self, centre: str, template: Term, wait: bool = True) -> Union[Found, Pending]:
         """Reads the oldest tuple that matches, as `in_` takes it."""
-        return self._finish(request.rd(centre, template), wait)
+        return self._finish(request.rd(centre, template), wait, Found)
 
     def inp(self, centre: str, template: Term) -> Union[Found, NoTuple]:
         """Takes the oldest tuple that matches, if there is one."""
@@ -103,6 +103,20 @@ class Session:
         """Reads the oldest tuple that matches, if there is one."""
         return expect(self._ask(request.rdp(centre, template)), Found, NoTuple)
 
+    @overload
+    def no(self, centre: str, template: Term, wait: Literal[True] = True) -> Absent: ...
+
+    @overload
+    def no(self, centre: str, template: Term, wait: bool) -> Union[Absent, Pending]: ...
+
+    def no(self, centre: str, template: Term, wait: bool = True) -> Union[Absent, Pending]:
+        """Waits until no tuple matches; without `wait` it may be pending, as `in_`."""
+        return self._finish(request.no(centre, template), wait, Absent)
+
+    def nop(self, centre: str, template: Term) -> Union[Absent, Found]:
+        """Whether no tuple matches: `Absent`, or the oldest that does, which stays."""
+        return expect(self._ask(request.nop(centre, template)), Absent, Found)
+
     def set_spec(self, centre: str, text: str) -> Done:
         """Replaces the centre's reactions by those of the text."""
         return expect(self._ask(request.set_spec(centre, text)), Done)
@@ -111,13 +125,13 @@ class Session:
         """The centre's reactions, as a text."""
         return expect(self._ask(request.get_spec(centre)), Spec)
 
-    def poll(self) -> Union[Found, Pending]:
-        """The tuple of the call that is pending, if it has come."""
-        return expect(self._ask(request.POLL), Found, Pending)
+    def poll(self) -> Union[Found, Absent, Pending]:
+        """The reply of the call that is pending, if it has come."""
+        return expect(self._ask(request.POLL), Found, Absent, Pending)
 
-    def wait(self) -> Found:
-        """The tuple of the call that is pending, when it comes."""
-        return expect(self._ask(request.WAIT), Found)
+    def wait(self) -> Union[Found, Absent]:
+        """The reply of the call that is pending, when it comes."""
+        return expect(self._ask(request.WAIT), Found, Absent)
 
     def quit(self) -> Bye:
         """Ends the session."""
@@ -167,9 +181,11 @@ class Session:
     def _ask(self, asked: Request) -> Reply:
         return self.gather([asked])[0]
 
-    def _finish(self, asked: Request, wait: bool) -> Union[Found, Pending]:
-        reply = expect(self._ask(asked), Found, Pending)
-        return self.wait() if wait and isinstance(reply, Pending) else reply
+    def _finish(self, asked: Request, wait: bool, kind: Type[R]) -> Union[R, Pending]:
+        reply = expect(self._ask(asked), kind, Pending)
+        if wait and isinstance(reply, Pending):
+            return expect(self._ask(request.WAIT), kind)
+        return reply
 
     def _send(self, data: bytes) -> None:
         if self.closed:

@@ -49,6 +49,7 @@ pub enum Verb {
     In,
     Inp,
     Rdp,
+    No,
 }
 
 /// The call of a term.
@@ -58,6 +59,7 @@ pub fn call(verb: Verb, term: Term) -> Result<Op, BenchFault> {
         Verb::In => Ok(Op::In(asked(term)?)),
         Verb::Inp => Ok(Op::Inp(asked(term)?)),
         Verb::Rdp => Ok(Op::Rdp(asked(term)?)),
+        Verb::No => Ok(Op::No(asked(term)?)),
     }
 }
 

@@ -4,7 +4,7 @@ use crate::fault::BenchFault;
 use std::alloc::Global;
 use tc_term::Term;
 
-/// What a round is: two calls, or one. The size is of what the centre holds besides.
+/// What a round is: one call, two or three. The size is of what the centre holds besides.
 #[derive(Clone, Copy)]
 pub enum Case {
     /// `out(p(k))` and `inp(p(k))`, behind so many entries of history.
@@ -15,6 +15,10 @@ pub enum Case {
     Same,
     /// The same beside requests for `v(k)`.
     Other,
+    /// `out(w(1))`, `no(w(1))`, which waits, and `inp(w(1))`, beside requests for `v(k)`.
+    Gone,
+    /// The same beside requests for the absence of `v(k)`, each of which is there.
+    Absent,
     /// `inp(p(k,V))` and `out(p(k,k))` among tuples of that functor.
     First,
     /// `inp(p(X,Y))`, which takes the oldest, and `out(p(0,0))`, among tuples of that functor.
@@ -52,12 +56,14 @@ reaction(out_r(s(N)),(N > 0,in_r(s(N)),M is N - 1,out_r(s(M)))).";
 
 impl Case {
     /// All cases.
-    pub fn all() -> [Case; 14] {
+    pub fn all() -> [Case; 16] {
         [
             Case::Pair,
             Case::Ten,
             Case::Same,
             Case::Other,
+            Case::Gone,
+            Case::Absent,
             Case::First,
             Case::Oldest,
             Case::Names,
@@ -78,6 +84,8 @@ impl Case {
             Case::Ten => "ten",
             Case::Same => "same",
             Case::Other => "other",
+            Case::Gone => "gone",
+            Case::Absent => "absent",
             Case::First => "first",
             Case::Oldest => "oldest",
             Case::Names => "names",
@@ -113,11 +121,12 @@ impl Case {
     /// How many tuples its centre begins with, where it has this size.
     pub fn tuples(self, size: u32) -> u32 {
         match self {
-            Case::First | Case::Oldest | Case::Names | Case::Held => size,
+            Case::First | Case::Oldest | Case::Names | Case::Held | Case::Absent => size,
             Case::Unasked | Case::Missing => size.saturating_mul(10),
             Case::Table => 3,
             Case::Counter => 1,
-            Case::Pair | Case::Ten | Case::Same | Case::Other | Case::Cascade | Case::Outs => 0,
+            Case::Pair | Case::Ten | Case::Same | Case::Other | Case::Gone => 0,
+            Case::Cascade | Case::Outs => 0,
         }
     }
 
@@ -128,6 +137,7 @@ impl Case {
             Case::Held => Ok(pair(alloc, int(k), Term::Int(0))?),
             Case::Counter => Ok(one(alloc, b"count", Term::Int(0))?),
             Case::Table => chopstick(alloc, k),
+            Case::Absent => self.request(alloc, k),
             _ => Ok(pair(alloc, int(k), int(k))?),
         }
     }
@@ -136,7 +146,16 @@ impl Case {
     pub fn requests(self, size: u32) -> u32 {
         match self {
             Case::Same | Case::Other | Case::Unasked | Case::Missing => size,
+            Case::Gone | Case::Absent => size,
             _ => 0,
+        }
+    }
+
+    /// What its requests want.
+    pub fn request_verb(self) -> Verb {
+        match self {
+            Case::Absent => Verb::No,
+            _ => Verb::In,
         }
     }
 
@@ -144,7 +163,9 @@ impl Case {
     pub fn request(self, alloc: Global, k: u32) -> Result<Term, BenchFault> {
         match self {
             Case::Same => Ok(one(alloc, b"w", int(k.saturating_add(2)))?),
-            Case::Other => Ok(one(alloc, b"v", int(k.saturating_add(2)))?),
+            Case::Other | Case::Gone | Case::Absent => {
+                Ok(one(alloc, b"v", int(k.saturating_add(2)))?)
+            }
             _ => Ok(pair(alloc, Term::Int(-1), int(k))?),
         }
     }
@@ -161,6 +182,7 @@ impl Case {
     pub fn first_verb(self) -> Verb {
         match self {
             Case::Pair | Case::Ten | Case::Unasked | Case::Cascade | Case::Outs => Verb::Out,
+            Case::Gone | Case::Absent => Verb::Out,
             Case::Same | Case::Other | Case::Counter | Case::Table => Verb::In,
             Case::First | Case::Oldest | Case::Missing => Verb::Inp,
             Case::Names | Case::Held => Verb::Rdp,
@@ -173,15 +195,24 @@ impl Case {
             Case::Pair | Case::Ten | Case::Cascade => Some(Verb::Inp),
             Case::Same | Case::Other | Case::First | Case::Oldest => Some(Verb::Out),
             Case::Counter | Case::Table => Some(Verb::Out),
+            Case::Gone | Case::Absent => Some(Verb::No),
             Case::Names | Case::Unasked | Case::Missing | Case::Held | Case::Outs => None,
         }
     }
 
-    /// The terms of both, where they are the same in each round.
+    /// What a round asks last, if anything: for what it has asked first.
+    pub fn third_verb(self) -> Option<Verb> {
+        match self {
+            Case::Gone | Case::Absent => Some(Verb::Inp),
+            _ => None,
+        }
+    }
+
+    /// The terms of the first two, where they are the same in each round.
     pub fn texts(self) -> (&'static [u8], &'static [u8]) {
         match self {
             Case::Ten => (b"p(1,a,f(b,2),g(c),3,4)", b"p(1,X,f(Y,2),g(c),Z,4)"),
-            Case::Same | Case::Other => (b"w(1)", b"w(1)"),
+            Case::Same | Case::Other | Case::Gone | Case::Absent => (b"w(1)", b"w(1)"),
             Case::Oldest => (b"p(X,Y)", b"p(0,0)"),
             Case::Missing => (b"p(-2,X)", b"p"),
             Case::Counter => (b"count(X)", b"count(1)"),

@@ -1,6 +1,6 @@
 //! A centre, and calls of its agents.
 
-use crate::builders::{Verb, call, tuple};
+use crate::builders::{call, tuple};
 use crate::cases::Case;
 use crate::fault::BenchFault;
 use std::alloc::Global;
@@ -19,7 +19,7 @@ pub fn centre_of(alloc: Global, case: Case, size: u32) -> Result<Core, BenchFaul
     let agents = agents(alloc)?;
     let mut core = found(alloc, agents, case.budget(), clauses, tuples)?;
     for k in 0..case.requests(size) {
-        let op = call(Verb::In, case.request(alloc, k)?)?;
+        let op = call(case.request_verb(), case.request(alloc, k)?)?;
         ask(alloc, &mut core, 2, op)?;
     }
     Ok(core)

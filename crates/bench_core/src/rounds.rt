@@ -104,7 +104,7 @@ fn call_all(alloc: Global, desk: &mut Desk, ops: Vec<(u32, Op)>) -> Result<(), B
 
 // The calls of so many rounds from a place on, in turn of the first two agents.
 fn build(alloc: Global, plan: &Plan, from: u32, count: u32) -> Result<Vec<(u32, Op)>, BenchFault> {
-    let mut ops = Vec::with_capacity(alloc, 2 * BATCH as usize)?;
+    let mut ops = Vec::with_capacity(alloc, 3 * BATCH as usize)?;
     for k in 0..count {
         let round = from.saturating_add(k);
         let op = call(plan.case.first_verb(), first(alloc, plan, round)?)?;
@@ -112,6 +112,10 @@ fn build(alloc: Global, plan: &Plan, from: u32, count: u32) -> Result<Vec<(u32, 
         if let Some(verb) = plan.case.second_verb() {
             let op = call(verb, second(alloc, plan, round)?)?;
             append(&mut ops, (1, op))?;
+        }
+        if let Some(verb) = plan.case.third_verb() {
+            let op = call(verb, first(alloc, plan, round)?)?;
+            append(&mut ops, (0, op))?;
         }
     }
     Ok(ops)

@@ -9,7 +9,7 @@ ghost use Rattle.tc_asks.specs.Progress.{HasTakenIn};
 use std::alloc::Global;
 use std::test::Fail;
 use tc_asks::{Asker, asker_stays_fit};
-use tc_desk::{LogResult, LogRow};
+use tc_desk::{LogResult, LogRow, Refusal};
 use tc_lists::NoMemory;
 use tc_model::{Ask, Reply, Script, ScriptItem};
 use tc_term::{Ground, Name, Term};
@@ -30,6 +30,14 @@ fn came(number: i64) -> Result<LogResult, Fail>
 {
     let tuple = Ground::of(Term::Int(number)).ok().ok_or("a tuple")?;
     Ok(LogResult::Replied(Reply::Tuple(tuple)))
+}
+
+// The reply that this number is there.
+fn found(number: i64) -> Result<LogResult, Fail>
+    ensures { IfOk result (λ found. is_pending found ≡ false) }
+{
+    let tuple = Ground::of(Term::Int(number)).ok().ok_or("a tuple")?;
+    Ok(LogResult::Replied(Reply::Found(tuple)))
 }
 
 // The operand of what is asked next, after the last ask has come to this.
@@ -63,9 +71,8 @@ fn after(
 // The operand of an ask.
 fn operand(ask: Ask) -> Option<Term> {
     match ask {
-        Ask::Out(t) | Ask::In(t) | Ask::Rd(t) | Ask::Inp(t) | Ask::Rdp(t) | Ask::SetSpec(t) => {
-            Some(t)
-        }
+        Ask::Out(t) | Ask::In(t) | Ask::Rd(t) | Ask::Inp(t) | Ask::Rdp(t) => Some(t),
+        Ask::No(t) | Ask::Nop(t) | Ask::SetSpec(t) => Some(t),
         Ask::GetSpec => None,
     }
 }
@@ -96,5 +103,34 @@ fn values_are_those_of_the_same_script(rt: HostRuntime) -> Result<(), Fail> {
     let done = LogResult::Replied(Reply::Done);
     let next = after(alloc, &mut asker, &scripts, &mut log, done)?;
     assert!(rt; next == None);
+    Ok(())
+}
+
+#[test]
+fn absence_and_what_is_found_give_no_value(rt: HostRuntime) -> Result<(), Fail> {
+    let alloc = rt.alloc();
+    let mut items = and(Vec::new(alloc), Ask::Nop(Term::Var(0)))?;
+    items = and(items, Ask::Out(Term::Var(0)))?;
+    items = and(items, Ask::No(Term::Var(0)))?;
+    items = and(items, Ask::In(Term::Var(0)))?;
+    items = and(items, Ask::Nop(Term::Var(0)))?;
+    items = and(items, Ask::No(Term::Var(0)))?;
+    let scripts = [Script::new(1, items)];
+    let mut log = Vec::new(alloc);
+    let mut asker = Asker::new(alloc, &scripts)?;
+
+    let next = after(alloc, &mut asker, &scripts, &mut log, found(7)?)?;
+    assert!(rt; next == Some(Term::Var(0)));
+    let refused = LogResult::Refused(Refusal::NotGround);
+    let next = after(alloc, &mut asker, &scripts, &mut log, refused)?;
+    assert!(rt; next == Some(Term::Var(0)));
+    let absent = LogResult::Replied(Reply::Absent);
+    let next = after(alloc, &mut asker, &scripts, &mut log, absent)?;
+    assert!(rt; next == Some(Term::Var(0)));
+    // A tuple that came does, and what is found behind it changes nothing.
+    let next = after(alloc, &mut asker, &scripts, &mut log, came(8)?)?;
+    assert!(rt; next == Some(Term::Int(8)));
+    let next = after(alloc, &mut asker, &scripts, &mut log, found(9)?)?;
+    assert!(rt; next == Some(Term::Int(8)));
     Ok(())
 }

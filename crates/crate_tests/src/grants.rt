@@ -35,3 +35,17 @@ fn the_first_grant_permits(rt: HostRuntime) -> Result<(), Fail> {
     assert_eq!(rt; roles.grants().len(), 4);
     Ok(())
 }
+
+#[test]
+fn absence_has_grants_of_its_own(rt: HostRuntime) -> Result<(), Fail> {
+    let mut roles = Roles::new(rt.alloc());
+    roles.add(grant(0, 1, Primitive::Rdp))?;
+    roles.add(grant(0, 1, Primitive::No))?;
+    roles.add(grant(0, 2, Primitive::Nop))?;
+    assert_eq!(rt; roles.permits(0, 1, Primitive::No), Some(2));
+    assert_eq!(rt; roles.permits(0, 1, Primitive::Nop), None);
+    assert_eq!(rt; roles.permits(0, 2, Primitive::Nop), Some(3));
+    assert_eq!(rt; roles.permits(0, 2, Primitive::No), None);
+    assert_eq!(rt; roles.permits(0, 2, Primitive::SetSpec), None);
+    Ok(())
+}

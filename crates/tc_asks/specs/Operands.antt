@@ -4,7 +4,8 @@ use Rattle.tc_term.specs.Tree.{Tree, Atomic, Fits, is_ground}
 use Rattle.tc_term.specs.TreeView.{tree_of}
 use Rattle.tc_term.specs.Variables.{IsTemplate, renumbered}
 use Rattle.tc_model.specs.declared.asks.Ask.{Ask}
-use Rattle.tc_model.specs.declared.asks.Ask.TheVariants.{Out, In, Rd, Inp, Rdp, SetSpec, GetSpec}
+use Rattle.tc_model.specs.declared.asks.Ask.TheVariants.{Out, In, Rd, Inp, Rdp, No, Nop}
+use Rattle.tc_model.specs.declared.asks.Ask.TheVariants.{SetSpec, GetSpec}
 use Rattle.tc_desk.specs.Operands.{Operand, Faulty, IsBadText, OpOf}
 use Rattle.tc_desk.specs.Operands as operand
 use Rattle.tc_desk.specs.declared.rows.Refusal.{Refusal}
@@ -30,10 +31,13 @@ TakesMemory (In t) = IsUnnumbered (tree_of t)
 TakesMemory (Rd t) = IsUnnumbered (tree_of t)
 TakesMemory (Inp t) = IsUnnumbered (tree_of t)
 TakesMemory (Rdp t) = IsUnnumbered (tree_of t)
+TakesMemory (No t) = IsUnnumbered (tree_of t)
+TakesMemory (Nop t) = IsUnnumbered (tree_of t)
 TakesMemory (SetSpec t) = IsAtom (tree_of t)
 TakesMemory GetSpec = ⊥
 
--- the fault is that of the ask's operand; or memory has run out, while a text was read or a template numbered
+-- the fault is that of the ask's operand; or memory has run out, while a text was read or a
+-- template numbered
 abbrev pub IsFaultOf : Ask → OperandFault → Type 0
 IsFaultOf ask TooBig = OpOf ask operand.TooBig
 IsFaultOf ask NotGround = OpOf ask operand.NotGround

@@ -25,6 +25,8 @@ pub(crate) fn filled_ask(alloc: Global, bindings: &Bindings, ask: &Ask) -> Resul
         Ask::Rd(t) => Ok(Ask::Rd(bindings.fill(alloc, t)?)),
         Ask::Inp(t) => Ok(Ask::Inp(bindings.fill(alloc, t)?)),
         Ask::Rdp(t) => Ok(Ask::Rdp(bindings.fill(alloc, t)?)),
+        Ask::No(t) => Ok(Ask::No(bindings.fill(alloc, t)?)),
+        Ask::Nop(t) => Ok(Ask::Nop(bindings.fill(alloc, t)?)),
         Ask::SetSpec(t) => Ok(Ask::SetSpec(bindings.fill(alloc, t)?)),
         Ask::GetSpec => Ok(Ask::GetSpec),
     }

@@ -81,6 +81,8 @@ fn answer_of(alloc: Global, ask: Ask) -> Result<Op, OperandFault>
         Ask::Rd(t) => Ok(Op::Rd(template_of(t)?)),
         Ask::Inp(t) => Ok(Op::Inp(template_of(t)?)),
         Ask::Rdp(t) => Ok(Op::Rdp(template_of(t)?)),
+        Ask::No(t) => Ok(Op::No(template_of(t)?)),
+        Ask::Nop(t) => Ok(Op::Nop(template_of(t)?)),
         Ask::SetSpec(t) => Ok(Op::SetSpec(clauses_of(alloc, t)?)),
         Ask::GetSpec => Ok(Op::GetSpec),
     }

@@ -33,7 +33,7 @@ pub(crate) fn tell(bindings: &mut Bindings, ask: &Ask, came: &LogResult) -> Resu
     Ok(())
 }
 
-// The template of an ask, if it has one.
+// The template of an ask that asks for a tuple.
 fn template_in(ask: &Ask) -> Option<&Term>
     ensures some { IfSome result (λ t. (r : Reply)
         → told_of ask.now r ≡ told (tree_of t.now) r) }
@@ -42,6 +42,7 @@ fn template_in(ask: &Ask) -> Option<&Term>
 {
     match ask {
         Ask::In(t) | Ask::Rd(t) | Ask::Inp(t) | Ask::Rdp(t) => Some(t),
+        Ask::No(_) | Ask::Nop(_) => None,
         Ask::Out(_) | Ask::SetSpec(_) | Ask::GetSpec => None,
     }
 }

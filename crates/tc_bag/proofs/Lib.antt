@@ -8,3 +8,4 @@ pub mod Searching
 pub mod Logged
 pub mod Stocks
 pub mod Walks
+pub mod Begun

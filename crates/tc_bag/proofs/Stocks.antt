@@ -45,12 +45,12 @@ without-later : (age : ℕ) (b : Bool) (r : Row) (rs : List Row) → (r.age == a
 without-later age true r rs other = ap (λ c. cond c rs (r ∷ without_age age rs)) other
 without-later age false r rs other = refl
 
-at-first : (age : ℕ) (b : Bool) (r : Row) (rs : List Row) → (r.age == age) ≡ true → All (IsOther age) rs
+pub at-first : (age : ℕ) (b : Bool) (r : Row) (rs : List Row) → (r.age == age) ≡ true → All (IsOther age) rs
     → tuple_at age (front_row b r rs) ≡ cond b (Some r.tuple) None
 at-first age true r rs same others = ap (λ c. cond c (Some r.tuple) (tuple_at age rs)) same
 at-first age false r rs same others = tuple_at-none age rs others
 
-at-later : (age : ℕ) (b : Bool) (r : Row) (rs : List Row) → (r.age == age) ≡ false
+pub at-later : (age : ℕ) (b : Bool) (r : Row) (rs : List Row) → (r.age == age) ≡ false
     → tuple_at age (front_row b r rs) ≡ tuple_at age rs
 at-later age true r rs other = ap (λ c. cond c (Some r.tuple) (tuple_at age rs)) other
 at-later age false r rs other = refl

@@ -1,6 +1,6 @@
 -- Rows in places, as slots.
-use Rattle.std.specs.Prelude.{ℕ, ◌≡◌, ◌<◌, ◌≤◌, ◌==◌, ◌++◌, if◌then◌else◌, Bool, IsTrue, List}
-use Rattle.std.specs.Prelude.{[], ◌∷◌, length, filter_map, All, Option, Some, None, is_some}
+use Rattle.std.specs.Prelude.{ℕ, ◌≡◌, ◌<◌, ◌≤◌, ◌==◌, ◌++◌, nat_lt, if◌then◌else◌, Bool, IsTrue}
+use Rattle.std.specs.Prelude.{List, [], ◌∷◌, length, filter_map, All, Option, Some, None, is_some}
 use Rattle.std.specs.Option.{option_map}
 use Rattle.tc_term.specs.Tree.{Tree}
 use Rattle.tc_bag.specs.declared.index.Index.{Index}
@@ -32,6 +32,11 @@ there_in p = if p.taken == 0 then p.tuple else None
 abbrev pub slot_at : ℕ → List Slot → Option Slot
 slot_at age [] = None
 slot_at age (s ∷ ss) = if s.age == age then Some s else slot_at age ss
+
+-- the tuple of the first slot of this age, where that is below the next age
+abbrev pub tuple_older : ℕ → ℕ → List Slot → Option Tree
+tuple_older next age slots =
+    if nat_lt age next then option_map (λ s. s.tuple) (slot_at age slots) else None
 
 -- the ages of places rise
 abbrev pub AgesRise : List Place → Type 0

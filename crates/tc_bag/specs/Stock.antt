@@ -1,6 +1,6 @@
 -- A bag as contracts see it.
-use Rattle.std.specs.Prelude.{ℕ, ◌+◌, ◌<◌, ◌≤◌, ◌==◌, if◌then◌else◌, List, []}
-use Rattle.std.specs.Prelude.{◌∷◌, ◌++◌, map, All, Contains, Option, Some, None}
+use Rattle.std.specs.Prelude.{ℕ, ◌+◌, ◌<◌, ◌≤◌, ◌==◌, ◌⊎◌, if◌then◌else◌, List, []}
+use Rattle.std.specs.Prelude.{◌∷◌, ◌++◌, map, slice_index_or, All, Contains, Option, Some, None}
 use Rattle.tc_lists.specs.Marks.{with_mark}
 use Rattle.tc_term.specs.Tree.{Tree}
 use Rattle.tc_bag.specs.declared.key.Key.{Key}
@@ -78,3 +78,12 @@ saved_of s = record { rows = s.now; next = s.next }
 -- with one more mark
 abbrev pub marked : Stock → Stock
 marked s = record s { saved = with_mark s.saved (saved_of s) }
+
+-- the rows that were there at the first mark; where there is none, those that are there
+abbrev pub begun : Stock → List Row
+begun s = (slice_index_or s.saved 0 (saved_of s)).rows
+
+-- each row that was there at the first mark is there, or its age is among these
+abbrev pub HasGone : List ℕ → Stock → Type 0
+HasGone ages s =
+    (row : Row) → Contains (begun s) row → Contains s.now row ⊎ Contains ages row.age

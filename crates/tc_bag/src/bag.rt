@@ -55,6 +55,7 @@ impl Bag {
     ghost use Rattle.tc_bag.specs.Lent.{lent_key, lent_tree};
     ghost use Rattle.tc_bag.specs.Stock.{row, tuples_of, AgesRiseBelow, IsCandidate, IsCandidateLike};
     ghost use Rattle.tc_bag.specs.Stock.{tuple_at, without_age, with_tuple, saved_of, marked};
+    ghost use Rattle.tc_bag.specs.Stock.{begun, HasGone};
 
     /// No tuple and no mark. The first tuple that is put has the age 0.
     pub fn new(alloc: Global) -> Bag
@@ -161,6 +162,29 @@ impl Bag {
         ensures { option_copied result ≡ tuple_at age self.now.now }
     {
         self.rows.get(age)
+    }
+
+    /// The ages of the tuples that were taken since the first mark, in the order of the takes; none
+    /// where there is no mark. Takes no time.
+    pub fn taken(&self) -> &[u64]
+        ensures gone { HasGone result.now self.now }
+        ensures unmarked { self.now.saved ≡ [] → result.now ≡ [] }
+    {
+        &self.log
+    }
+
+    /// The tuple of this age, where it was there at the first mark, or where there is no mark, is
+    /// there. Takes O(log tuples) time.
+    pub fn get_begun(&self, age: u64) -> Option<&Ground>
+        ensures begun { option_copied result ≡ tuple_at age (begun self.now) }
+
+        // What tells that the tuple is that of its row.
+        ensures rises { AgesRiseBelow (begun self.now) self.now.next }
+    {
+        match self.marks.first() {
+            None => self.rows.get(age),
+            Some(first) => self.rows.get_older(age, first.next),
+        }
     }
 
     /// How many tuples are there. Takes O(1) time where there is no mark, else O(rows).

@@ -57,6 +57,7 @@ impl Rows {
     ghost use Rattle.tc_bag.specs.Slots.{Slot, slot, InOrder, IsThereLike, is_there, IsYoungest};
     ghost use Rattle.tc_bag.specs.Slots.{is_older, is_not_of, stays, taken_at, revived_at};
     ghost use Rattle.tc_bag.specs.Slots.{with_taken, tuple_there, tuples_there};
+    ghost use Rattle.tc_bag.specs.Places.{tuple_older};
 
     /// No row.
     pub(crate) fn new(alloc: Global) -> Rows
@@ -96,6 +97,17 @@ impl Rows {
         ensures { option_copied result ≡ tuple_there age self.now }
     {
         self.places.find(age)?.there()
+    }
+
+    /// The tuple of this age, where that is below `next`, also where its row was taken.
+    pub(crate) fn get_older(&self, age: u64, next: u64) -> Option<&Ground>
+        ensures { option_copied result ≡ tuple_older next age self.now }
+    {
+        if age < next {
+            tuple_in(self.places.find(age))
+        } else {
+            None
+        }
     }
 
     /// The first row that is there, is not older than `from`, agrees with the key and has this

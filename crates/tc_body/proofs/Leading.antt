@@ -6,21 +6,15 @@ use Rattle.tc_term.specs.Tree.{Tree}
 use Rattle.tc_term.specs.Variables.{raised, var_bound}
 use Rattle.tc_term.specs.Equations.{Equations, Solvable}
 use Rattle.tc_bag.specs.Stock.{Stock, tuples_of}
-use Rattle.tc_model.specs.Choices.{Choice, TheFirst}
+use Rattle.tc_model.specs.Choices.{TheFirst}
 use Rattle.tc_model.specs.Events.{Occurrence, Setting}
 use Rattle.tc_model.specs.Reactions.{Rule}
-use Rattle.tc_model.specs.Goals.{Scene, Moment, Move, IsStep, Leads, moved}
+use Rattle.tc_model.specs.Goals.{Scene, Moment, Leads}
 use Rattle.tc_model.specs.Bodies.{scene_of, beginning, IsFailed}
 use Rattle.tc_model.specs.declared.items.Effect.{Effect}
 use Rattle.tc_model.specs.declared.goals.Goal.{Goal}
+use Rattle.tc_goals.proofs.Leading.{leads_push}
 use Rattle.tc_body.specs.Moments.{IsDone, moment_of}
-
-leads_push : (choice : Choice) (scene : Scene) (gs : List Goal) (g : Goal) (m k : Moment) (move : Move)
-    → Leads choice scene gs m k → IsStep choice scene g k move → Leads choice scene (gs ++ g ∷ []) m (moved move k)
-leads_push choice scene [] g m k move leads step =
-    subst (λ (q : Moment). (mv : Move) × IsStep choice scene g q mv × (moved move k ≡ moved mv q)) leads (move, step, refl)
-leads_push choice scene (h ∷ gs) g m k move leads step =
-    (leads.0, leads.1, leads_push choice scene gs g (moved leads.0 m) k move leads.2 step)
 
 leads_done : (scene : Scene) (gs : List Goal) (g : Goal) (m k n : Moment)
     → Leads TheFirst scene gs m k → IsDone scene g k n → Leads TheFirst scene (gs ++ g ∷ []) m n

@@ -1,5 +1,3 @@
-pub mod Plain
-pub mod Values
 pub mod Steps
 pub mod Leading
 pub mod Outcomes

@@ -1,22 +1,20 @@
 -- What one goal does, as the program finds it.
-use Rattle.std.proofs.Common.{◌≡◌, ℤ, Bool, false, IsTrue, List, [], ◌∷◌, ◌++◌, refl, sym, ap, subst, ◌∙◌, Ok, Err, IfOk, Result}
+use Rattle.std.proofs.Common.{◌≡◌, Bool, false, IsTrue, List, [], ◌∷◌, ◌++◌, refl, sym, ap, subst, ◌∙◌, Ok, Err, IfOk, Result}
 use Rattle.std.proofs.lemmas.List.{map-append}
 use Rattle.tc_lists.specs.Firsts.{NoneOf, IsFirst}
-use Rattle.tc_term.specs.Tree.{Tree, Number}
+use Rattle.tc_term.specs.Tree.{Tree}
 use Rattle.tc_term.specs.TreeView.{tree_of}
-use Rattle.tc_term.specs.Arithmetic.{holds}
 use Rattle.tc_term.specs.Equations.{Equations, Solvable, HasValue, Matches, with_pair}
 use Rattle.tc_term.specs.declared.terms.Term.{Term}
-use Rattle.tc_term.specs.declared.comparison.Cmp.{Cmp}
 use Rattle.tc_bag.specs.Stock.{Row, Stock, tuples_of, without_age}
 use Rattle.tc_model.specs.Choices.{TheFirst}
 use Rattle.tc_model.specs.Tuples.{without_first}
-use Rattle.tc_model.specs.Goals.{Scene, Nothing, Equates, Puts, Takes, Reads, IsStuck, Does, moved, width, Evaluates}
+use Rattle.tc_model.specs.Goals.{Scene, Nothing, Puts, Takes, Reads, IsStuck, Does, width}
 use Rattle.tc_model.specs.declared.items.Effect.{Effect}
 use Rattle.tc_model.specs.declared.goals.Goal.{Goal}
-use Rattle.tc_model.specs.declared.goals.Goal.TheVariants.{OutR, InR, RdR, NoR, Is, Compare}
+use Rattle.tc_model.specs.declared.goals.Goal.TheVariants.{OutR, InR, RdR, NoR}
 use Rattle.tc_model.proofs.Removals.{without-first}
-use Rattle.tc_body.specs.Moments.{moment_of, IsDone, HasPut, HasTaken, HasRead, EvaluatesIn}
+use Rattle.tc_body.specs.Moments.{moment_of, IsDone, HasPut, HasTaken, HasRead}
 
 module _ (scene : Scene) (s : Equations) (b : Stock) (es : List Effect) (w : s.vars ≡ width scene) (before : Solvable s.vars s.pairs) where
   starts : Solvable (width scene) s.pairs
@@ -26,19 +24,6 @@ module _ (scene : Scene) (s : Equations) (b : Stock) (es : List Effect) (w : s.v
   pub still_done : (g : Goal) → Does TheFirst scene g (moment_of s b es) Nothing
       → IsDone scene g (moment_of s b es) (moment_of s b es)
   still_done g does = record { move = Nothing; step = record { before = starts; does = does; behind = starts }; leads = refl }
-
-  -- a goal that adds an equation
-  pub equates_done : (g : Goal) (x y : Tree) (t : Equations) → Does TheFirst scene g (moment_of s b es) (Equates x y)
-      → t ≡ with_pair s x y → Solvable t.vars t.pairs → IsDone scene g (moment_of s b es) (moment_of t b es)
-  equates_done g x y t does e behind = record {
-    move = Equates x y;
-    step = record {
-      before = starts;
-      does = does;
-      behind = subst (λ n. Solvable n (s.pairs ++ (x, y) ∷ [])) w (subst (λ (q : Equations). Solvable q.vars q.pairs) e behind);
-    };
-    leads = ap (λ (q : Equations). moment_of q b es) e;
-  }
 
   pub put_done : (t : Term) (c : Stock) (fs : List Effect) → HasPut s (tree_of t) b c es fs
       → IsDone scene (OutR t) (moment_of s b es) (moment_of s c fs)
@@ -95,12 +80,6 @@ module _ (scene : Scene) (s : Equations) (b : Stock) (es : List Effect) (w : s.v
       subst (λ (r : Equations). IsDone scene (NoR t) (moment_of s b es) (moment_of r b es)) (sym e)
       (still_done (NoR t) (subst (λ n. NoneOf (Matches n s.pairs (tree_of t)) (tuples_of b.now)) w none, refl))
 
-  evaluates : (t : Term) (i : ℤ) → EvaluatesIn s (tree_of t) i → Evaluates scene (moment_of s b es) (tree_of t) i
-  evaluates t i h = record { value = h.value; is = subst (λ n. HasValue n s.pairs (tree_of t) h.value) w h.is; evaluates = h.evaluates }
-
-  evaluates_back : (t : Term) (i : ℤ) → Evaluates scene (moment_of s b es) (tree_of t) i → EvaluatesIn s (tree_of t) i
-  evaluates_back t i h = record { value = h.value; is = subst (λ n. HasValue n s.pairs (tree_of t) h.value) (sym w) h.is; evaluates = h.evaluates }
-
   -- the same for the answer of a call, which may be want of memory
   pub put_yes : {E : Type 0} (t : Term) (c : Stock) (fs : List Effect) (r : Result Bool E)
       → IfOk r (λ y. IsTrue y → HasPut s (tree_of t) b c es fs)
@@ -131,44 +110,3 @@ module _ (scene : Scene) (s : Equations) (b : Stock) (es : List Effect) (w : s.v
       → IfOk r (λ y. y ≡ false → IsStuck scene (NoR t) (moment_of s b es))
   absent_no t (Ok y) h = λ e move step. h e (subst (λ n. NoneOf (Matches n s.pairs (tree_of t)) (tuples_of b.now)) (sym w) step.does.0)
   absent_no t (Err e) h = h
-
-  pub equates_yes : {E : Type 0} (g : Goal) (x y : Tree) (q : Equations) (r : Result Bool E)
-      → Does TheFirst scene g (moment_of s b es) (Equates x y) → Solvable q.vars q.pairs
-      → IfOk r (λ z. IsTrue z → q ≡ with_pair s x y)
-      → IfOk r (λ z. IsTrue z → IsDone scene g (moment_of s b es) (moment_of q b es))
-  equates_yes g x y q (Ok z) does behind h = λ e. equates_done g x y q does (h e) behind
-  equates_yes g x y q (Err e) does behind h = h
-
-  pub assign_yes : {E : Type 0} (x t : Term) (q : Equations) (r : Result Bool E) → Solvable q.vars q.pairs
-      → IfOk r (λ z. IsTrue z → (i : ℤ) × EvaluatesIn s (tree_of t) i × (q ≡ with_pair s (tree_of x) (Number i)))
-      → IfOk r (λ z. IsTrue z → IsDone scene (Is x t) (moment_of s b es) (moment_of q b es))
-  assign_yes x t q (Ok z) behind h = λ e.
-      let d = h e in
-      equates_done (Is x t) (tree_of x) (Number d.0) q (d.0, evaluates t d.0 d.1, refl) d.2 behind
-  assign_yes x t q (Err e) behind h = h
-
-  pub assign_no : {E : Type 0} (x t : Term) (r : Result Bool E)
-      → IfOk r (λ z. z ≡ false → (i : ℤ) → EvaluatesIn s (tree_of t) i → Solvable s.vars (s.pairs ++ (tree_of x, Number i) ∷ []) → ⊥)
-      → IfOk r (λ z. z ≡ false → IsStuck scene (Is x t) (moment_of s b es))
-  assign_no x t (Ok z) h = λ e move step.
-      let d = step.does in
-      h e d.0 (evaluates_back t d.0 d.1)
-      (subst (λ n. Solvable n (s.pairs ++ (tree_of x, Number d.0) ∷ [])) (sym w)
-      (subst (λ m. Solvable (width scene) (moved m (moment_of s b es)).pairs) d.2 step.behind))
-  assign_no x t (Err e) h = h
-
-  pub compare_yes : {E : Type 0} (op : Cmp) (x t : Term) (r : Result Bool E)
-      → IfOk r (λ z. IsTrue z → (i : ℤ) × (j : ℤ) × EvaluatesIn s (tree_of x) i × EvaluatesIn s (tree_of t) j × IsTrue (holds op i j))
-      → IfOk r (λ z. IsTrue z → IsDone scene (Compare op x t) (moment_of s b es) (moment_of s b es))
-  compare_yes op x t (Ok z) h = λ e.
-      let d = h e in
-      still_done (Compare op x t) (d.0, d.1, evaluates x d.0 d.2, evaluates t d.1 d.3, d.4, refl)
-  compare_yes op x t (Err e) h = h
-
-  pub compare_no : {E : Type 0} (op : Cmp) (x t : Term) (r : Result Bool E)
-      → IfOk r (λ z. z ≡ false → (i j : ℤ) → EvaluatesIn s (tree_of x) i → EvaluatesIn s (tree_of t) j → IsTrue (holds op i j) → ⊥)
-      → IfOk r (λ z. z ≡ false → IsStuck scene (Compare op x t) (moment_of s b es))
-  compare_no op x t (Ok z) h = λ e move step.
-      let d = step.does in
-      h e d.0 d.1 (evaluates_back x d.0 d.2) (evaluates_back t d.1 d.3) d.4
-  compare_no op x t (Err e) h = h

@@ -1,26 +1,23 @@
 //! One goal of a body.
-ghost use Rattle.std.specs.Prelude.{◌≡◌, ◌≤◌, ◌<◌, ◌+◌, ◌++◌, ◌∷◌, [], ℤ, length};
+ghost use Rattle.std.specs.Prelude.{◌≡◌, ◌≤◌, ◌<◌, ◌+◌, ◌++◌, ◌∷◌, [], length};
 ghost use Rattle.std.specs.Prelude.{IfOk, OnOk, IsTrue, false, All};
-ghost use Rattle.tc_term.specs.Tree.{Atomic, Number};
 ghost use Rattle.tc_term.specs.TreeView.{tree_of};
-ghost use Rattle.tc_term.specs.Arithmetic.{holds};
-ghost use Rattle.tc_term.specs.Variables.{var_bound, raised};
-ghost use Rattle.tc_term.specs.Equations.{Solvable, with_pair};
+ghost use Rattle.tc_term.specs.Variables.{var_bound};
+ghost use Rattle.tc_term.specs.Equations.{Solvable};
 ghost use Rattle.tc_model.specs.Goals.{IsStuck};
-ghost use Rattle.tc_model.specs.Events.{op_name};
 ghost use Rattle.tc_model.specs.Within.{terms_of, HasVarsBelow};
 ghost use Rattle.tc_bag.specs.Stock.{AddsYounger};
-ghost use Rattle.tc_body.specs.Moments.{scene, moment_of, IsDone, CannotEqual};
+ghost use Rattle.tc_goals.specs.Moments.{scene};
+ghost use Rattle.tc_body.specs.Moments.{moment_of, IsDone};
 ghost use Rattle.tc_body.specs.Moments.{HasPut, HasNoValue, HasTaken, HasRead, HasNoMatch};
-ghost use Rattle.tc_body.specs.Moments.{EvaluatesIn, IsNumberOf};
 
 use std::alloc::Global;
-use tc_arith::{compare, eval};
 use tc_bag::{Bag, Key};
+use tc_goals::succeeds;
 use tc_lists::NoMemory;
-use tc_model::{Context, Effect, Event, EventOp, Goal, Phase, Sign};
+use tc_model::{Context, Effect, Event, Goal};
 use tc_search::oldest_match;
-use tc_term::{Cmp, Name, Pattern, Term};
+use tc_term::Term;
 use tc_unify::{Part, Store};
 
 /// Does one goal of a body with so many variables, and tells whether it could.
@@ -66,19 +63,7 @@ pub fn step(
         Goal::InR(t) => take_oldest(alloc, t, on, store, bag, effects),
         Goal::RdR(t) => read_oldest(alloc, t, on, store, bag, effects),
         Goal::NoR(t) => is_absent(alloc, t, store, bag),
-        Goal::Pre => Ok(e.phase() == Phase::Pre),
-        Goal::Post => Ok(e.phase() == Phase::Post),
-        Goal::Success => Ok(e.sign() == Sign::Success),
-        Goal::Failure => Ok(e.sign() == Sign::Failure),
-        Goal::True => Ok(true),
-        Goal::Agent(t) => equate_name(alloc, store, t, context.agent()),
-        Goal::Centre(t) => equate_name(alloc, store, t, context.centre()),
-        Goal::Operation(t) => equate_op(alloc, store, t, e.op()),
-        Goal::Tuple(t) => equate_event(store, t, e.term(), vars),
-        Goal::Equal(s, t) => store.equate(s, t),
-        Goal::Differ(s, t) => Ok(!store.equate(s, t)?),
-        Goal::Is(s, t) => assign(store, s, t),
-        Goal::Compare(op, s, t) => do_compare(store, *op, s, t),
+        _ => succeeds(alloc, goal, vars, e, context, store),
     }
 }
 
@@ -209,124 +194,4 @@ fn is_absent(alloc: Global, t: &Term, store: &mut Store, bag: &Bag) -> Result<bo
         Some(_) => Ok(false),
         None => Ok(true),
     }
-}
-
-// Adds the equation of a term and a name.
-fn equate_name(alloc: Global, store: &mut Store, t: &Term, name: &Name) -> Result<bool, NoMemory>
-    requires left { var_bound (tree_of t.now) ≤ store.old.vars }
-    requires solvable { Solvable store.old.vars store.old.pairs }
-    ensures added { IfOk result (λ y. IsTrue y
-        → store.new ≡ with_pair store.old (tree_of t.now) (Atomic name.now)) }
-    ensures refused { IfOk result (λ y. y ≡ false
-        → CannotEqual store.old (tree_of t.now) (Atomic name.now)) }
-    ensures vars { store.new.vars ≡ store.old.vars }
-    ensures solvable { Solvable store.new.vars store.new.pairs }
-{
-    let atom = Term::Atom(name.copy(alloc)?);
-    let added = store.equate(t, &atom)?;
-    Ok(added)
-}
-
-// Adds the equation of a term and the name of an operation.
-fn equate_op(alloc: Global, store: &mut Store, t: &Term, op: EventOp) -> Result<bool, NoMemory>
-    requires left { var_bound (tree_of t.now) ≤ store.old.vars }
-    requires solvable { Solvable store.old.vars store.old.pairs }
-    ensures added { IfOk result (λ y. IsTrue y
-        → store.new ≡ with_pair store.old (tree_of t.now) (Atomic (op_name op))) }
-    ensures refused { IfOk result (λ y. y ≡ false
-        → CannotEqual store.old (tree_of t.now) (Atomic (op_name op))) }
-    ensures vars { store.new.vars ≡ store.old.vars }
-    ensures solvable { Solvable store.new.vars store.new.pairs }
-{
-    let name = Name::new(alloc, op.name())?;
-    let added = equate_name(alloc, store, t, &name)?;
-    Ok(added)
-}
-
-// Adds the equation of a term and the event's.
-fn equate_event(store: &mut Store, t: &Term, e: &Pattern, vars: u32) -> Result<bool, NoMemory>
-    requires left { var_bound (tree_of t.now) ≤ vars }
-    requires width { store.old.vars ≡ vars + var_bound e.now }
-    ensures added { IfOk result (λ y. IsTrue y
-        → store.new ≡ with_pair store.old (tree_of t.now) (raised vars e.now)) }
-    ensures refused { IfOk result (λ y. y ≡ false
-        → CannotEqual store.old (tree_of t.now) (raised vars e.now)) }
-    ensures vars { store.new.vars ≡ store.old.vars }
-    ensures solvable { Solvable store.new.vars store.new.pairs }
-{
-    let left = Part { term: t, shift: 0 };
-    let right = Part {
-        term: e.term(),
-        shift: vars,
-    };
-    let added = store.add(left, right)?;
-    Ok(added)
-}
-
-// The number to which a term's value evaluates.
-fn number(store: &Store, t: &Term) -> Result<Option<i64>, NoMemory>
-    requires { var_bound (tree_of t.now) ≤ store.now.vars }
-    ensures { IfOk result (IsNumberOf store.now (tree_of t.now)) }
-{
-    let part = Part { term: t, shift: 0 };
-    let Some(value) = store.value(part)? else {
-        return Ok(None);
-    };
-    Ok(eval(&value))
-}
-
-// Adds the equation of a term and a number.
-fn equate_number(store: &mut Store, s: &Term, i: i64) -> Result<bool, NoMemory>
-    requires { var_bound (tree_of s.now) ≤ store.old.vars }
-    ensures added { IfOk result (λ y. IsTrue y
-        → store.new ≡ with_pair store.old (tree_of s.now) (Number i)) }
-    ensures refused { IfOk result (λ y. y ≡ false
-        → CannotEqual store.old (tree_of s.now) (Number i)) }
-    ensures vars { store.new.vars ≡ store.old.vars }
-    ensures solvable { Solvable store.new.vars store.new.pairs }
-{
-    let number = Term::Int(i);
-    let added = store.equate(s, &number)?;
-    Ok(added)
-}
-
-// Adds the equation of a term and the number to which another evaluates.
-fn assign(store: &mut Store, s: &Term, t: &Term) -> Result<bool, NoMemory>
-    requires left { var_bound (tree_of s.now) ≤ store.old.vars }
-    requires right { var_bound (tree_of t.now) ≤ store.old.vars }
-    requires solvable { Solvable store.old.vars store.old.pairs }
-    ensures assigned { IfOk result (λ y. IsTrue y
-        → (i : ℤ) × EvaluatesIn store.old (tree_of t.now) i
-        × (store.new ≡ with_pair store.old (tree_of s.now) (Number i))) }
-    ensures refused { IfOk result (λ y. y ≡ false
-        → (i : ℤ) → EvaluatesIn store.old (tree_of t.now) i
-        → CannotEqual store.old (tree_of s.now) (Number i)) }
-    ensures vars { store.new.vars ≡ store.old.vars }
-    ensures solvable { Solvable store.new.vars store.new.pairs }
-{
-    let Some(i) = number(store, t)? else {
-        return Ok(false);
-    };
-    let added = equate_number(store, s, i)?;
-    Ok(added)
-}
-
-// Whether a comparison holds of what two terms evaluate to.
-fn do_compare(store: &Store, op: Cmp, s: &Term, t: &Term) -> Result<bool, NoMemory>
-    requires left { var_bound (tree_of s.now) ≤ store.now.vars }
-    requires right { var_bound (tree_of t.now) ≤ store.now.vars }
-    ensures holds { IfOk result (λ y. IsTrue y → (i : ℤ) × (j : ℤ)
-        × EvaluatesIn store.now (tree_of s.now) i × EvaluatesIn store.now (tree_of t.now) j
-        × IsTrue (holds op i j)) }
-    ensures fails { IfOk result (λ y. y ≡ false → (i j : ℤ)
-        → EvaluatesIn store.now (tree_of s.now) i → EvaluatesIn store.now (tree_of t.now) j
-        → IsTrue (holds op i j) → ⊥) }
-{
-    let Some(i) = number(store, s)? else {
-        return Ok(false);
-    };
-    let Some(j) = number(store, t)? else {
-        return Ok(false);
-    };
-    Ok(compare(op, i, j))
 }

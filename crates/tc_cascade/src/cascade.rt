@@ -1,5 +1,5 @@
 //! A cascade: all that an event triggers, and what that triggers in turn.
-ghost use Rattle.std.specs.Prelude.{◌≡◌, ◌≤◌, ◌+◌, ◌*◌, ◌∷◌, [], length, IfOk, OnOk};
+ghost use Rattle.std.specs.Prelude.{◌≡◌, ◌≤◌, ◌+◌, ◌*◌, ◌∷◌, ◌++◌, [], length, IfOk, OnOk};
 ghost use Rattle.tc_model.specs.Triggers.{IsClause};
 ghost use Rattle.tc_model.specs.declared.limits.TheConstants.{MOST_BUDGET, MOST_GOALS};
 ghost use Rattle.tc_bag.specs.Stock.{AddsYounger, Stock, marked};
@@ -68,7 +68,7 @@ pub fn run(
         let reaction = clause_at(spec.clauses(), clause);
         let (item, events) = execute(alloc, store, reaction, 1, clause, event, context, bag)?;
         triggered.pass();
-        items.push(item)?;
+        append(&mut items, item)?;
         add_all(
             alloc,
             store,
@@ -96,6 +96,17 @@ pub fn keep_or_undo(end: &Result<Cascade, NoMemory>, bag: &mut Bag)
         Ok(Cascade::Whole(_)) => bag.keep(),
         Ok(Cascade::Over(_)) | Err(_) => bag.undo(),
     }
+}
+
+// Appends an item. A first one gets no more room than it takes, since most cascades have no second.
+fn append(items: &mut Vec<Item>, item: Item) -> Result<(), NoMemory>
+    ensures { OnOk result (items.new.items ≡ items.old.items ++ item ∷ []) }
+{
+    if items.is_empty() {
+        items.reserve_exact(1)?;
+    }
+    items.push(item)?;
+    Ok(())
 }
 
 // The clause of this number, counted from 1.

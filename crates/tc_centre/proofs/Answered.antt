@@ -1,23 +1,26 @@
 -- The answer to the request that is next is legal, and leads to what is held then.
-use Rattle.std.proofs.Common.{◌≡◌, ◌++◌, ◌+◌, ◌*◌, ◌<◌, ◌≤◌, ℕ, List, [], ◌∷◌, Contains, Some, suc, length, take, drop, slice_get, refl, sym, ap, subst, ◌∙◌, arith}
+use Rattle.std.proofs.Common.{◌≡◌, ◌++◌, ◌+◌, ◌*◌, ◌<◌, ◌≤◌, ℕ, List, [], ◌∷◌, Contains, Option, Some, None, suc, length, take, drop, slice_get, refl, sym, ap, subst, ◌∙◌, arith}
 use Rattle.std.specs.List.{remove}
 use Rattle.std.proofs.lemmas.Option.{same_Some, slice_get_within, slice_get-get_or, get_or_from_slice_get}
 use Rattle.std.proofs.lemmas.List.Edits.{length-remove}
 use Rattle.std.proofs.lemmas.List.Elements.{All-contains, Contains-append_right}
 use Rattle.tc_lists.specs.Firsts.{IsFirst}
 use Rattle.tc_lists.proofs.Parts.{split_slice_get}
+use Rattle.tc_term.specs.Tree.{Tree}
 use Rattle.tc_bag.specs.Stock.{Row, tuples_of}
-use Rattle.tc_pending.specs.Answers.{IsNextAnswer}
+use Rattle.tc_pending.specs.Answers.{IsNextAnswer, IsAnsweredBy, HasOldest}
 use Rattle.tc_model.specs.Calls.{IsCallOf}
 use Rattle.tc_model.specs.Choices.{AnyOne, TheFirst}
 use Rattle.tc_model.specs.Entries.{weight}
 use Rattle.tc_model.specs.Reactions.{Rule}
-use Rattle.tc_model.specs.State.{State, Origin, IsAnswerable, IsMatch, opening, with_answered, after_entry, after_history}
+use Rattle.tc_model.specs.State.{State, Origin, IsAnswerable, IsMatch, IsThere, SomeMatches, opening, with_answered, after_entry, after_history}
 use Rattle.tc_model.specs.Run.{IsLegal, IsRun, HasCall}
 use Rattle.tc_model.specs.Tables.{IsGiven}
 use Rattle.tc_model.specs.Waiting.{AreWaiting}
 use Rattle.tc_model.specs.declared.calls.CallId.{CallId}
 use Rattle.tc_model.specs.declared.calls.Request.{Request}
+use Rattle.tc_model.specs.declared.calls.Wants.{Wants}
+use Rattle.tc_model.specs.declared.calls.Wants.TheVariants.{Take, Look, Absence}
 use Rattle.tc_model.specs.declared.items.Item.{Item}
 use Rattle.tc_model.specs.declared.outcomes.Outcome.{Outcome}
 use Rattle.tc_model.specs.declared.entries.Entry.{Entry}
@@ -48,6 +51,26 @@ run-agent origin history id run has =
     called-agent origin (take k history) (after_history (opening origin) (take k history)) id has.entry
     (run k has.entry at) has.call
 
+-- the tuple of an age that is the oldest to match is there
+some-oldest : (rows : List Row) (t : Tree) (age : ℕ) → HasOldest rows t age → SomeMatches (tuples_of rows) t
+some-oldest rows t age oldest =
+    let first : IsFirst (IsMatch t) (tuples_of rows) oldest.tuple = oldest.found.first in
+    record {
+      tuple = oldest.tuple;
+      stands = subst (λ ts. Contains ts oldest.tuple) (sym first.split)
+          (Contains-append_right first.before (oldest.tuple ∷ first.behind) oldest.tuple (0, omega arith, refl));
+      matches = first.has;
+    }
+
+-- where a request is answered, what it wants is there
+answered-there : (rows : List Row) (w : Wants) (t : Tree) (age : Option ℕ) → IsAnsweredBy rows w t age → IsThere w (tuples_of rows) t
+answered-there rows Take t (Some age) answer = some-oldest rows t age answer
+answered-there rows Look t (Some age) answer = some-oldest rows t age answer
+answered-there rows Absence t None answer = answer
+answered-there rows Take t None answer = absurd answer
+answered-there rows Look t None answer = absurd answer
+answered-there rows Absence t (Some age) answer = absurd answer
+
 module _ (origin : Origin) (history : List Entry) (clauses : List Rule) (rows : List Row) (n : ℕ) (requests : List Request)
     (h : IsHeld origin history clauses rows n requests) where
   waiting : AreWaiting history requests
@@ -63,7 +86,7 @@ module _ (origin : Origin) (history : List Entry) (clauses : List Rule) (rows : 
       (place, slice_get_within requests place r stands, get_or_from_slice_get requests place r r stands))
 
   -- a request was answered, as the steps of an answer tell it
-  pub answered : (longer : List Entry) (left : List Row) (m : ℕ) (fewer : List Request) (place age : ℕ) (r : Request)
+  pub answered : (longer : List Entry) (left : List Row) (m : ℕ) (fewer : List Request) (place : ℕ) (age : Option ℕ) (r : Request)
       (id : CallId) (result : Outcome) (items : List Item)
       → IsNextAnswer rows requests place age → slice_get requests place ≡ Some r → r.id ≡ id
       → IsGiven TheFirst origin (held clauses rows requests) r result items
@@ -73,14 +96,9 @@ module _ (origin : Origin) (history : List Entry) (clauses : List Rule) (rows : 
   answered longer left m fewer place age r id result items next stands of given leads gone grown ages =
       let s : State = held clauses rows requests in
       let same : next.request ≡ r = same_Some next.request r (sym next.stands ∙ stands) in
-      let first : IsFirst (IsMatch next.request.template) (tuples_of rows) next.tuple = next.found.first in
       let answerable : IsAnswerable (tuples_of rows) r =
-      subst (IsAnswerable (tuples_of rows)) same (record {
-        tuple = next.tuple;
-        stands = subst (λ ts. Contains ts next.tuple) (sym first.split)
-            (Contains-append_right first.before (next.tuple ∷ first.behind) next.tuple (0, omega arith, refl));
-        matches = first.has;
-      }) in
+      subst (IsAnswerable (tuples_of rows)) same
+      (answered-there rows next.request.wants next.request.template age next.answer) in
       let legal : IsLegal TheFirst origin history s (Gave id result items) =
       record {
         request = r;

@@ -1,6 +1,7 @@
 pub mod Budgets
 pub mod Entries
 pub mod Given
+pub mod Searched
 pub mod Answered
 pub mod FreshReplies
 pub mod Room

@@ -1,7 +1,7 @@
 -- What a centre holds between two entries of its history.
 use Rattle.std.specs.Prelude.{◌≡◌, ℕ, ◌+◌, ◌*◌, ◌≤◌, List, [], ◌∷◌}
 use Rattle.std.specs.Prelude.{◌++◌, All, length, take}
-use Rattle.tc_bag.specs.Stock.{Row, AddsYounger, tuples_of}
+use Rattle.tc_bag.specs.Stock.{Row, Stock, AddsYounger, begun, saved_of, tuples_of}
 use Rattle.tc_model.specs.Entries.{weight}
 use Rattle.tc_model.specs.Reactions.{Rule}
 use Rattle.tc_model.specs.Typed.{IsTypedCall}
@@ -126,16 +126,21 @@ pub record KeepsOld (old new : Holdings) : Type 0 where
 abbrev pub known_of : Holdings → Known
 known_of h = record { requests = length h.pending.now; age = h.bag.next }
 
--- it is known of these rows and requests, and is about none that are to come
-pub record IsKnownOf (known : Known) (rows : List Row) (next : ℕ) (requests : List Request)
-    : Type 0 where
-  pub none : IsKnown known rows requests
+-- it is known of these rows and requests, and of the rows at the first mark, and is about none that
+-- are to come
+pub record IsKnownOf
+    (known : Known) (begun rows : List Row) (next : ℕ) (requests : List Request) : Type 0 where
+  pub none : IsKnown known begun rows requests
   pub age : known.age ≤ next
   pub count : known.requests ≤ length requests
 
 -- it is known of rows and requests as they are then
 abbrev pub Knows : Known → Holdings → Type 0
-Knows known h = IsKnownOf known h.bag.now h.bag.next h.pending.now
+Knows known h = IsKnownOf known (begun h.bag) h.bag.now h.bag.next h.pending.now
+
+-- one mark is set, and the bag is as it was then
+abbrev pub IsJustMarked : Stock → Type 0
+IsJustMarked bag = bag.saved ≡ saved_of bag ∷ []
 
 -- where the calls are typed, they stay so
 abbrev pub KeepsTyped : Holdings → Holdings → Type 0

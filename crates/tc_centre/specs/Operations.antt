@@ -10,14 +10,14 @@ use Rattle.tc_model.specs.Tables.{IsServed, IsGiven, setting_of}
 use Rattle.tc_model.specs.Tuples.{after_items}
 use Rattle.tc_model.specs.declared.calls.CallId.{CallId}
 use Rattle.tc_model.specs.declared.calls.Op.{Op}
-use Rattle.tc_model.specs.declared.calls.Op.TheVariants.{Out, In, Rd, Inp, Rdp}
+use Rattle.tc_model.specs.declared.calls.Op.TheVariants.{Out, In, Rd, Inp, Rdp, No, Nop}
 use Rattle.tc_model.specs.declared.calls.Request.{Request}
 use Rattle.tc_model.specs.declared.calls.Wants.{Wants}
-use Rattle.tc_model.specs.declared.calls.Wants.TheVariants.{Take, Look}
+use Rattle.tc_model.specs.declared.calls.Wants.TheVariants.{Take, Look, Absence}
 use Rattle.tc_model.specs.declared.items.Item.{Item}
 use Rattle.tc_model.specs.declared.limits.TheConstants.{MOST_GOALS}
 use Rattle.tc_model.specs.declared.outcomes.Outcome.{Outcome}
-use Rattle.tc_model.specs.declared.outcomes.Outcome.TheVariants.{Took, NoTuple}
+use Rattle.tc_model.specs.declared.outcomes.Outcome.TheVariants.{Took, NoTuple, Absent, Found}
 use Rattle.tc_bag.specs.Stock.{AddsYounger}
 use Rattle.tc_centre.specs.Held.{origin_of, held, state_held, Grows, IsAtRest}
 use Rattle.tc_centre.specs.Held.{KeepsHeld, KeepsOld, KeepsTyped}
@@ -42,13 +42,19 @@ abbrev pub op_of : TupleOp → Op
 op_of (tuples.Put tuple) = Out tuple
 op_of (tuples.Request Take template) = In template
 op_of (tuples.Request Look template) = Rd template
+op_of (tuples.Request Absence template) = No template
 op_of (tuples.Search Take template) = Inp template
 op_of (tuples.Search Look template) = Rdp template
+op_of (tuples.Search Absence template) = Nop template
 
--- what a search tells that has found this
-abbrev pub outcome_of : Option Tree → Outcome
-outcome_of (Some tuple) = Took tuple
-outcome_of None = NoTuple
+-- what a search tells that has found this, or nothing
+abbrev pub outcome_of : Wants → Option Tree → Outcome
+outcome_of Take (Some tuple) = Took tuple
+outcome_of Take None = NoTuple
+outcome_of Look (Some tuple) = Took tuple
+outcome_of Look None = NoTuple
+outcome_of Absence (Some tuple) = Found tuple
+outcome_of Absence None = Absent
 
 -- the next age has risen by 1 at most, and by the most goals of a reaction for each of the items
 abbrev pub RisesBy : List Item → Holdings → Holdings → Type 0

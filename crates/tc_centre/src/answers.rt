@@ -6,7 +6,7 @@ use thiserror::Error;
 #[derive(Drop)]
 pub enum Answer {
     Replied(Reply),
-    /// The call waits for a tuple.
+    /// The call waits for what it wants.
     Pending,
 }
 

@@ -110,11 +110,13 @@ impl Core {
     }
 
     /// Serves a call: appends its entry, and then answers the requests that can be answered, the
-    /// oldest first, each with the oldest tuple that matches.
+    /// oldest first, each with the oldest tuple that matches, or where it wants absence, once none
+    /// does.
     ///
     /// Where the history is too heavy for another call, it is refused. Takes the time of one search
     /// among the tuples where one is asked for, some nanoseconds for each request that waits where
-    /// a tuple is put, and that of the answers, however long the history is.
+    /// a tuple is put, that of one search for each request that wants the absence of a tuple that
+    /// was taken, and that of the answers, however long the history is.
     pub fn turn(&mut self, alloc: Global, id: CallId, op: Op) -> Result<Answer, TurnFault>
         requires { IsNext self.old.origin self.old.history id }
         ensures served { IfOk result (Serves self.old self.new id op) }

@@ -1,6 +1,6 @@
 //! Operations on the tuples and the requests of a centre, with their reactions.
-ghost use Rattle.std.specs.Prelude.{◌≡◌, ◌<◌, ◌++◌, ◌∷◌, [], length, remove};
-ghost use Rattle.std.specs.Prelude.{IfOk, OnOk};
+ghost use Rattle.std.specs.Prelude.{◌≡◌, ◌<◌, ◌++◌, ◌∷◌, [], length};
+ghost use Rattle.std.specs.Prelude.{IfOk, None, OnOk, Some};
 ghost use Rattle.tc_pending.specs.Answers.{IsNextAnswer};
 ghost use Rattle.tc_centre.specs.Held.{KeepsAround, HoldsRun};
 ghost use Rattle.tc_centre.specs.declared.operations.TupleOp.{TupleOp};
@@ -36,8 +36,10 @@ impl TupleOp {
             TupleOp::Put(tuple) => Op::Out(tuple),
             TupleOp::Request(Wants::Take, template) => Op::In(template),
             TupleOp::Request(Wants::Look, template) => Op::Rd(template),
+            TupleOp::Request(Wants::Absence, template) => Op::No(template),
             TupleOp::Search(Wants::Take, template) => Op::Inp(template),
             TupleOp::Search(Wants::Look, template) => Op::Rdp(template),
+            TupleOp::Search(Wants::Absence, template) => Op::Nop(template),
         }
     }
 }
@@ -96,8 +98,8 @@ pub fn request(
     }
 }
 
-/// Takes the oldest tuple that matches, or looks at it, with the reactions to that, or to the
-/// failure where none matches. The tuple is back where they went over the budget.
+/// Looks for the oldest tuple that matches, which is taken or stays, with the reactions to what was
+/// found. A tuple that was taken is back where they went over the budget.
 pub fn search(
     alloc: Global,
     held: &mut Holdings,
@@ -121,25 +123,44 @@ pub fn search(
         &mut held.bag,
     )?;
     match cascade {
-        Cascade::Whole(items) => Ok((outcome_of(found), items)),
+        Cascade::Whole(items) => Ok((outcome_of(wants, found), items)),
         Cascade::Over(items) => Ok((Outcome::Over(Phase::Post, found), items)),
     }
 }
 
-/// Answers the request at a place with the tuple of an age, with the reactions to that, and removes
-/// it. Tells whose request it is, the outcome, and what the reactions did; where they went over the
-/// budget, the tuples are as before.
+/// Gives the tuple of an age to the request at a place, or with no age tells it that none matches,
+/// with the reactions to that. Tells whose request it is, the outcome, and what the reactions did;
+/// where they went over the budget, the tuples are as before. The request is left where it is.
 pub fn answer(
+    alloc: Global,
+    held: &mut Holdings,
+    place: usize,
+    age: Option<u64>,
+) -> Result<(CallId, Outcome, Seq<Item>), NoMemory>
+    requires run { HoldsRun held.old }
+    requires next { IsNextAnswer held.old.bag.now held.old.pending.now place age }
+    ensures gives { IfOk result (λ x. Gives place held.old held.new x.0 x.1 x.2) }
+    ensures keeps { KeepsAround held.old held.new }
+    ensures requests { held.new.pending ≡ held.old.pending }
+{
+    match age {
+        Some(age) => give_tuple(alloc, held, place, age),
+        None => tell_absence(alloc, held, place),
+    }
+}
+
+// Gives the tuple of an age to the request at a place.
+fn give_tuple(
     alloc: Global,
     held: &mut Holdings,
     place: usize,
     age: u64,
 ) -> Result<(CallId, Outcome, Seq<Item>), NoMemory>
     requires run { HoldsRun held.old }
-    requires next { IsNextAnswer held.old.bag.now held.old.pending.now place age }
+    requires next { IsNextAnswer held.old.bag.now held.old.pending.now place (Some age) }
     ensures gives { IfOk result (λ x. Gives place held.old held.new x.0 x.1 x.2) }
     ensures keeps { KeepsAround held.old held.new }
-    ensures requests { OnOk result (held.new.pending.now ≡ remove held.old.pending.now place) }
+    ensures requests { held.new.pending ≡ held.old.pending }
 {
     let request = &held.pending.list()[place];
     let id = request.id;
@@ -153,10 +174,37 @@ pub fn answer(
         age,
         &mut held.bag,
     )?;
-    held.pending.remove(place);
     match cascade {
         Cascade::Whole(items) => Ok((id, Outcome::Took(tuple), items)),
         Cascade::Over(items) => Ok((id, Outcome::Over(Phase::Post, Some(tuple)), items)),
+    }
+}
+
+// Tells the request at a place that no tuple matches.
+fn tell_absence(
+    alloc: Global,
+    held: &mut Holdings,
+    place: usize,
+) -> Result<(CallId, Outcome, Seq<Item>), NoMemory>
+    requires run { HoldsRun held.old }
+    requires next { IsNextAnswer held.old.bag.now held.old.pending.now place None }
+    ensures gives { IfOk result (λ x. Gives place held.old held.new x.0 x.1 x.2) }
+    ensures keeps { KeepsAround held.old held.new }
+    ensures requests { held.new.pending ≡ held.old.pending }
+{
+    let request = &held.pending.list()[place];
+    let id = request.id;
+    let regime = regime(&held.founding, &held.spec, request.id);
+    let cascade = tc_phases::tell_absence(
+        alloc,
+        &mut held.store,
+        &regime,
+        &request.template,
+        &mut held.bag,
+    )?;
+    match cascade {
+        Cascade::Whole(items) => Ok((id, Outcome::Absent, items)),
+        Cascade::Over(items) => Ok((id, Outcome::Over(Phase::Post, None), items)),
     }
 }
 
@@ -193,12 +241,14 @@ fn append(
     })
 }
 
-// What a search tells that has found this.
-fn outcome_of(found: Option<Ground>) -> Outcome
-    ensures { result ≡ outcome_of found }
+// What a search tells that has found this, or nothing.
+fn outcome_of(wants: Wants, found: Option<Ground>) -> Outcome
+    ensures { result ≡ outcome_of wants found }
 {
-    match found {
-        Some(tuple) => Outcome::Took(tuple),
-        None => Outcome::NoTuple,
+    match (wants, found) {
+        (Wants::Take | Wants::Look, Some(tuple)) => Outcome::Took(tuple),
+        (Wants::Take | Wants::Look, None) => Outcome::NoTuple,
+        (Wants::Absence, Some(tuple)) => Outcome::Found(tuple),
+        (Wants::Absence, None) => Outcome::Absent,
     }
 }

@@ -78,6 +78,8 @@ fn reply_for(alloc: Global, outcome: &Outcome) -> Result<Option<Reply>, NoMemory
         Outcome::Done => Ok(Some(Reply::Done)),
         Outcome::Took(tuple) => Ok(Some(Reply::Tuple(tuple.copy(alloc)?))),
         Outcome::NoTuple => Ok(Some(Reply::NoTuple)),
+        Outcome::Absent => Ok(Some(Reply::Absent)),
+        Outcome::Found(tuple) => Ok(Some(Reply::Found(tuple.copy(alloc)?))),
         Outcome::Pending => Ok(None),
         Outcome::Spec(text) => Ok(Some(Reply::Spec(Seq::new(text.items().to_vec(alloc)?)))),
         Outcome::Over(phase, _) => Ok(Some(Reply::OverBudget(*phase))),

@@ -1,12 +1,12 @@
 //! Serving a call: its entry, and then the answers to requests that can be given.
-ghost use Rattle.std.specs.Prelude.{◌≡◌, ◌<◌, length, remove, IfOk, OnOk, OnErr};
+ghost use Rattle.std.specs.Prelude.{◌≡◌, ◌≢◌, ◌<◌, [], length, remove, IfOk, OnOk, OnErr};
 ghost use Rattle.tc_bag.specs.Stock.{AddsYounger};
 ghost use Rattle.tc_pending.specs.Answers.{IsNextAnswer};
 ghost use Rattle.tc_model.specs.Reactions.{clauses_text};
 ghost use Rattle.tc_model.specs.Replies.{reply_in};
 ghost use Rattle.tc_model.specs.Typed.{IsTypedId};
 ghost use Rattle.tc_model.specs.declared.calls.Op.{Op};
-ghost use Rattle.tc_centre.specs.Held.{HoldsRun, IsAtRest, Knows, MayServe, known_of};
+ghost use Rattle.tc_centre.specs.Held.{HoldsRun, IsAtRest, IsJustMarked, Knows, MayServe, known_of};
 ghost use Rattle.tc_centre.specs.Held.{IsSame, KeepsHeld, KeepsAround, KeepsTyped};
 ghost use Rattle.tc_centre.specs.Held.{Answers, Calls, Grows};
 ghost use Rattle.tc_centre.specs.Operations.{op_of, Performs, HasServed};
@@ -27,6 +27,7 @@ use tc_spec::{Spec, print_spec};
 /// Where memory ends, all is as before.
 pub fn serve(alloc: Global, held: &mut Holdings, id: CallId, op: Op) -> Result<Answer, NoMemory>
     requires may { MayServe id held.old }
+    requires unmarked { held.old.bag.saved ≡ [] }
     ensures served { IfOk result (HasServed id op held.old held.new) }
     ensures same { OnErr result (IsSame held.old held.new) }
 {
@@ -36,6 +37,8 @@ pub fn serve(alloc: Global, held: &mut Holdings, id: CallId, op: Op) -> Result<A
         Op::Rd(template) => on_tuples(alloc, held, id, TupleOp::Request(Wants::Look, template)),
         Op::Inp(template) => on_tuples(alloc, held, id, TupleOp::Search(Wants::Take, template)),
         Op::Rdp(template) => on_tuples(alloc, held, id, TupleOp::Search(Wants::Look, template)),
+        Op::No(template) => on_tuples(alloc, held, id, TupleOp::Request(Wants::Absence, template)),
+        Op::Nop(template) => on_tuples(alloc, held, id, TupleOp::Search(Wants::Absence, template)),
         Op::SetSpec(clauses) => {
             let spec = Spec::of(alloc, clauses.copy(alloc)?)?;
             set_spec(alloc, held, id, clauses, spec)
@@ -52,6 +55,7 @@ fn on_tuples(
     op: TupleOp,
 ) -> Result<Answer, NoMemory>
     requires may { MayServe id held.old }
+    requires unmarked { held.old.bag.saved ≡ [] }
     ensures served { IfOk result (HasServed id (op_of op) held.old held.new) }
     ensures same { OnErr result (IsSame held.old held.new) }
 {
@@ -84,6 +88,7 @@ fn serve_call(
     op: TupleOp,
 ) -> Result<Answer, NoMemory>
     requires may { MayServe id held.old }
+    requires marked { IsJustMarked held.old.bag }
     ensures rest { OnOk result (IsAtRest held.new) }
     ensures grown { OnOk result
         (Grows id (op_of op) held.old.history.items held.new.history.items) }
@@ -108,6 +113,7 @@ fn serve_call(
 // Serves a call and appends its entry.
 fn call(alloc: Global, held: &mut Holdings, id: CallId, op: TupleOp) -> Result<(), NoMemory>
     requires may { MayServe id held.old }
+    requires marked { IsJustMarked held.old.bag }
     ensures run { OnOk result (HoldsRun held.new) }
     ensures known { OnOk result (Knows (known_of held.old) held.new) }
     ensures called { OnOk result
@@ -149,10 +155,11 @@ fn perform(
     }
 }
 
-// Answers the requests that can be answered, the oldest first, until none is left. Only requests
-// and tuples that are not known yet are looked at.
+// Answers the requests that can be answered, the oldest first, until none is left. Of requests and
+// tuples that are known, only those requests are looked at that want the absence of one that went.
 fn answer_all(alloc: Global, held: &mut Holdings, mut known: Known) -> Result<(), NoMemory>
     requires run { HoldsRun held.old }
+    requires marked { held.old.bag.saved ≢ [] }
     requires known { Knows known held.old }
     ensures rest { OnOk result (IsAtRest held.new) }
     ensures answers { OnOk result (Answers held.old.history.items held.new.history.items) }
@@ -167,8 +174,14 @@ fn answer_all(alloc: Global, held: &mut Holdings, mut known: Known) -> Result<()
     Ok(())
 }
 
-// Answers the request at a place with the tuple of an age, and appends the entry of that.
-fn answer_one(alloc: Global, held: &mut Holdings, place: usize, age: u64) -> Result<(), NoMemory>
+// Answers the request at a place, with the tuple of an age or with absence, removes it, and
+// appends the entry of that.
+fn answer_one(
+    alloc: Global,
+    held: &mut Holdings,
+    place: usize,
+    age: Option<u64>,
+) -> Result<(), NoMemory>
     requires run { HoldsRun held.old }
     requires next { IsNextAnswer held.old.bag.now held.old.pending.now place age }
     ensures run { OnOk result (HoldsRun held.new) }
@@ -181,6 +194,7 @@ fn answer_one(alloc: Global, held: &mut Holdings, place: usize, age: u64) -> Res
     ensures typed { OnOk result (KeepsTyped held.old held.new) }
 {
     let (id, outcome, items) = answer(alloc, held, place, age)?;
+    held.pending.remove(place);
     held.history.push(Entry::Gave { id, outcome, items })?;
     Ok(())
 }

@@ -6,7 +6,7 @@ use Rattle.tc_term.specs.TreeView.{tree_of}
 use Rattle.tc_model.specs.Asks.{operand_of}
 use Rattle.tc_model.specs.Within.{HasVarsBelow}
 use Rattle.tc_model.specs.declared.asks.Ask.{Ask}
-use Rattle.tc_model.specs.declared.asks.Ask.TheVariants.{Out, In, Rd, Inp, Rdp, SetSpec, GetSpec}
+use Rattle.tc_model.specs.declared.asks.Ask.TheVariants.{Out, In, Rd, Inp, Rdp, No, Nop, SetSpec, GetSpec}
 use Rattle.tc_model.proofs.Rules.{HasVarsBelow-one, HasVarsBelow-first, HasVarsBelow-second}
 use Rattle.tc_model.specs.Lines.{ask_term, line_term}
 use Rattle.tc_config.specs.Forms.{lines_term}
@@ -18,6 +18,8 @@ operand-within vars (In t) h = HasVarsBelow-one vars (codes "in") (tree_of t) h
 operand-within vars (Rd t) h = HasVarsBelow-one vars (codes "rd") (tree_of t) h
 operand-within vars (Inp t) h = HasVarsBelow-one vars (codes "inp") (tree_of t) h
 operand-within vars (Rdp t) h = HasVarsBelow-one vars (codes "rdp") (tree_of t) h
+operand-within vars (No t) h = HasVarsBelow-one vars (codes "no") (tree_of t) h
+operand-within vars (Nop t) h = HasVarsBelow-one vars (codes "nop") (tree_of t) h
 operand-within vars (SetSpec t) h = HasVarsBelow-one vars (codes "set_spec") (tree_of t) h
 operand-within vars GetSpec h = tt
 

@@ -1,5 +1,6 @@
 -- What is wrong with a clause, and in which order it is told.
-use Rattle.std.specs.Prelude.{◌≡◌, ◌<◌, ◌≤◌, ◌+◌, ℕ, false, Any, Contains, List, Some, length, slice_get}
+use Rattle.std.specs.Prelude.{◌≡◌, ◌<◌, ◌≤◌, ◌+◌, ℕ, false, Any, Contains, List, Some, length}
+use Rattle.std.specs.Prelude.{slice_get}
 use Rattle.tc_term.specs.Tree.{Tree, is_ground}
 use Rattle.tc_term.specs.TreeView.{tree_of}
 use Rattle.tc_model.specs.Reactions.{Rule}
@@ -14,9 +15,11 @@ use Rattle.tc_config.specs.declared.configs.CentreConf.{CentreConf}
 use Rattle.tc_config.specs.declared.faults.ConfigCause.{ConfigCause}
 use Rattle.tc_config.specs.declared.faults.ConfigCause.TheVariants as cause
 use Rattle.tc_config.specs.declared.forms.Form.{Form}
-use Rattle.tc_config.specs.declared.forms.Form.TheVariants.{Centre, Tuple, Spec, Role, Grant, Agent, Script}
+use Rattle.tc_config.specs.declared.forms.Form.TheVariants.{Centre, Tuple, Spec, Role, Grant, Agent}
+use Rattle.tc_config.specs.declared.forms.Form.TheVariants.{Script}
 use Rattle.tc_model.specs.declared.lines.Line.{Line}
-use Rattle.tc_config.specs.declared.limits.TheConstants.{MOST_CENTRES, MOST_ROLES, MOST_AGENTS, MOST_ITEMS}
+use Rattle.tc_config.specs.declared.limits.TheConstants.{MOST_CENTRES, MOST_ROLES, MOST_AGENTS}
+use Rattle.tc_config.specs.declared.limits.TheConstants.{MOST_ITEMS}
 
 -- the same grant stands already
 pub record IsGranted (c : Configuration) (role centre : List ℕ) (primitive : Primitive)

@@ -9,7 +9,8 @@ use Rattle.tc_model.specs.declared.scripts.ScriptItem.{ScriptItem}
 use Rattle.tc_policy.specs.declared.grants.Grant.{Grant}
 use Rattle.tc_config.specs.declared.configs.AgentConf.{AgentConf}
 use Rattle.tc_config.specs.declared.configs.CentreConf.{CentreConf}
-use Rattle.tc_config.specs.declared.limits.TheConstants.{MOST_CENTRES, MOST_ROLES, MOST_AGENTS, MOST_ITEMS}
+use Rattle.tc_config.specs.declared.limits.TheConstants.{MOST_CENTRES, MOST_ROLES, MOST_AGENTS}
+use Rattle.tc_config.specs.declared.limits.TheConstants.{MOST_ITEMS}
 
 -- centres, the names of roles, what the roles may do, and agents; each place is counted from 0
 pub record Configuration : Type 0 where

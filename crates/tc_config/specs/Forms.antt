@@ -7,7 +7,8 @@ use Rattle.tc_model.specs.Lines.{line_term}
 use Rattle.tc_model.specs.Reactions.{of_one, of_two}
 use Rattle.tc_model.specs.declared.limits.TheConstants.{MOST_BUDGET}
 use Rattle.tc_config.specs.declared.forms.Form.{Form}
-use Rattle.tc_config.specs.declared.forms.Form.TheVariants.{Centre, Tuple, Spec, Role, Grant, Agent, Script}
+use Rattle.tc_config.specs.declared.forms.Form.TheVariants.{Centre, Tuple, Spec, Role, Grant, Agent}
+use Rattle.tc_config.specs.declared.forms.Form.TheVariants.{Script}
 use Rattle.tc_model.specs.declared.lines.Line.{Line}
 
 -- a list of items that ends in `[]`

@@ -14,7 +14,8 @@ use Rattle.tc_config.specs.Names.{place_of}
 use Rattle.tc_config.specs.declared.configs.AgentConf.{AgentConf}
 use Rattle.tc_config.specs.declared.configs.CentreConf.{CentreConf}
 use Rattle.tc_config.specs.declared.forms.Form.{Form}
-use Rattle.tc_config.specs.declared.forms.Form.TheVariants.{Centre, Tuple, Spec, Role, Grant, Agent, Script}
+use Rattle.tc_config.specs.declared.forms.Form.TheVariants.{Centre, Tuple, Spec, Role, Grant, Agent}
+use Rattle.tc_config.specs.declared.forms.Form.TheVariants.{Script}
 use Rattle.tc_model.specs.declared.lines.Line.{Line}
 use Rattle.tc_config.specs.declared.limits.TheConstants.{USUAL_BUDGET}
 

@@ -7,8 +7,9 @@ ghost use Rattle.tc_config.specs.Configurations.{Configuration};
 ghost use Rattle.tc_config.specs.Good.{IsGood};
 ghost use Rattle.tc_config.specs.Texts.{IsRefused, Spells};
 ghost use Rattle.tc_config.specs.declared.faults.ConfigCause.{ConfigCause};
-ghost use Rattle.tc_config.specs.declared.limits.TheConstants.{MOST_AGENTS, MOST_BYTES, MOST_CENTRES};
-ghost use Rattle.tc_config.specs.declared.limits.TheConstants.{MOST_ITEMS, MOST_ROLES, USUAL_BUDGET};
+ghost use Rattle.tc_config.specs.declared.limits.TheConstants.{MOST_AGENTS, MOST_BYTES};
+ghost use Rattle.tc_config.specs.declared.limits.TheConstants.{MOST_CENTRES, MOST_ITEMS};
+ghost use Rattle.tc_config.specs.declared.limits.TheConstants.{MOST_ROLES, USUAL_BUDGET};
 
 /// A text spells one configuration at most.
 pub fn configuration_of_a_text_is_unique()

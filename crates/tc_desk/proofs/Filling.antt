@@ -11,7 +11,7 @@ use Rattle.tc_term.proofs.TreeTerms.{term_of, term_of-tree_of}
 use Rattle.tc_model.specs.Asks.{primitive_of}
 use Rattle.tc_model.specs.Scripts.{Lines}
 use Rattle.tc_model.specs.declared.asks.Ask.{Ask}
-use Rattle.tc_model.specs.declared.asks.Ask.TheVariants.{Out, In, Rd, Inp, Rdp, SetSpec, GetSpec}
+use Rattle.tc_model.specs.declared.asks.Ask.TheVariants.{Out, In, Rd, Inp, Rdp, No, Nop, SetSpec, GetSpec}
 use Rattle.tc_desk.specs.Asks.{ScriptStep, steps_of, equations, AreValues, with_values, IsFilled, IsAsk}
 use Rattle.tc_desk.specs.declared.rows.LogResult.{LogResult}
 
@@ -38,6 +38,8 @@ filled values (In t) = In (term_of (with_values values (tree_of t)))
 filled values (Rd t) = Rd (term_of (with_values values (tree_of t)))
 filled values (Inp t) = Inp (term_of (with_values values (tree_of t)))
 filled values (Rdp t) = Rdp (term_of (with_values values (tree_of t)))
+filled values (No t) = No (term_of (with_values values (tree_of t)))
+filled values (Nop t) = Nop (term_of (with_values values (tree_of t)))
 filled values (SetSpec t) = SetSpec (term_of (with_values values (tree_of t)))
 filled values GetSpec = GetSpec
 
@@ -50,6 +52,8 @@ IsFilled-filled values (In t) (In u) h = ap In (term-filled u (with_values value
 IsFilled-filled values (Rd t) (Rd u) h = ap Rd (term-filled u (with_values values (tree_of t)) h)
 IsFilled-filled values (Inp t) (Inp u) h = ap Inp (term-filled u (with_values values (tree_of t)) h)
 IsFilled-filled values (Rdp t) (Rdp u) h = ap Rdp (term-filled u (with_values values (tree_of t)) h)
+IsFilled-filled values (No t) (No u) h = ap No (term-filled u (with_values values (tree_of t)) h)
+IsFilled-filled values (Nop t) (Nop u) h = ap Nop (term-filled u (with_values values (tree_of t)) h)
 IsFilled-filled values (SetSpec t) (SetSpec u) h = ap SetSpec (term-filled u (with_values values (tree_of t)) h)
 IsFilled-filled values GetSpec GetSpec h = refl
 IsFilled-filled values written ask h = absurd h
@@ -60,6 +64,8 @@ filled-primitive values (In t) = refl
 filled-primitive values (Rd t) = refl
 filled-primitive values (Inp t) = refl
 filled-primitive values (Rdp t) = refl
+filled-primitive values (No t) = refl
+filled-primitive values (Nop t) = refl
 filled-primitive values (SetSpec t) = refl
 filled-primitive values GetSpec = refl
 

@@ -12,17 +12,18 @@ use Rattle.tc_model.specs.Choices.{AnyOne}
 use Rattle.tc_model.specs.Replies.{reply_of, reply_in, outcome_in, outcome_given, or_given}
 use Rattle.tc_model.specs.Run.{HasCall, IsAnswered, IsFirstRun, IsLegal, IsRun}
 use Rattle.tc_model.specs.State.{State, Origin, opening, without_request, reached_by, after_call, after_entry, after_history}
-use Rattle.tc_model.specs.Tables.{IsServed, IsGiven}
+use Rattle.tc_model.specs.Tables.{IsServed, IsGivenTuple, IsToldAbsence, IsGivenFor}
 use Rattle.tc_model.specs.declared.asks.Ask.{Ask}
 use Rattle.tc_model.specs.declared.asks.Ask.TheVariants as ask
 use Rattle.tc_model.specs.declared.calls.CallId.{CallId}
 use Rattle.tc_model.specs.declared.calls.Op.{Op}
-use Rattle.tc_model.specs.declared.calls.Op.TheVariants.{Out, In, Rd, Inp, Rdp, SetSpec, GetSpec}
+use Rattle.tc_model.specs.declared.calls.Op.TheVariants.{Out, In, Rd, Inp, Rdp, No, Nop, SetSpec, GetSpec}
 use Rattle.tc_model.specs.declared.calls.Request.{Request}
-use Rattle.tc_model.specs.declared.calls.Wants.TheVariants.{Take, Look}
+use Rattle.tc_model.specs.declared.calls.Wants.{Wants}
+use Rattle.tc_model.specs.declared.calls.Wants.TheVariants.{Take, Look, Absence}
 use Rattle.tc_model.specs.declared.items.Item.{Item}
 use Rattle.tc_model.specs.declared.outcomes.Outcome.{Outcome}
-use Rattle.tc_model.specs.declared.outcomes.Outcome.TheVariants.{Done, Took, NoTuple, Pending, Spec, Over}
+use Rattle.tc_model.specs.declared.outcomes.Outcome.TheVariants.{Done, Took, NoTuple, Absent, Found, Pending, Spec, Over}
 use Rattle.tc_model.specs.declared.outcomes.Reply.{Reply}
 use Rattle.tc_model.specs.declared.outcomes.Reply.TheVariants as reply
 use Rattle.tc_model.specs.declared.entries.Entry.{Entry}
@@ -31,7 +32,7 @@ use Rattle.tc_model.proofs.Histories.{same_id-self, reply_in-IsPrefix}
 use Rattle.tc_model.proofs.NextEntry.{same_id-true, HasCall-other, reply_in-called}
 use Rattle.tc_model.proofs.Runs.{EachEntry-IsPrefix, EachEntry-keeps, IsRun-first, after_history-push}
 use Rattle.tc_model.proofs.WaitingCalls.{pending-answered}
-use Rattle.tc_desk.specs.Fits.{FitsPut, FitsRequest, FitsSearch, FitsReplacing, FitsReading, FitsReply, MayWait}
+use Rattle.tc_desk.specs.Fits.{FitsPut, FitsRequest, FitsSearch, FitsAbsence, FitsTest, FitsReplacing, FitsReading, FitsReply, MayWait}
 use Rattle.tc_desk.specs.Operands.{Operand, OpOf, Sound, TooBig, NotGround, Faulty}
 use Rattle.tc_desk.specs.Served.{IsCalled}
 
@@ -42,83 +43,71 @@ FitsOp (In t) r = FitsRequest t r
 FitsOp (Rd t) r = FitsRequest t r
 FitsOp (Inp t) r = FitsSearch t r
 FitsOp (Rdp t) r = FitsSearch t r
+FitsOp (No t) r = FitsAbsence r
+FitsOp (Nop t) r = FitsTest t r
 FitsOp (SetSpec clauses) r = FitsReplacing r
 FitsOp GetSpec r = FitsReading r
 
--- the operation may have to wait for a tuple of this template
-abbrev pub WaitsFor : Op → Tree → Type 0
-WaitsFor (In t) u = u ≡ t
-WaitsFor (Rd t) u = u ≡ t
-WaitsFor (Out t) u = ⊥
-WaitsFor (Inp t) u = ⊥
-WaitsFor (Rdp t) u = ⊥
-WaitsFor (SetSpec clauses) u = ⊥
-WaitsFor GetSpec u = ⊥
+-- the reply fits a request
+abbrev pub FitsWants : Wants → Tree → Reply → Type 0
+FitsWants Take t r = FitsRequest t r
+FitsWants Look t r = FitsRequest t r
+FitsWants Absence t r = FitsAbsence r
+
+-- the operation waits by a request that wants this of this template
+abbrev pub WaitsFor : Op → Wants → Tree → Type 0
+WaitsFor (In t) Take u = u ≡ t
+WaitsFor (Rd t) Look u = u ≡ t
+WaitsFor (No t) Absence u = u ≡ t
+WaitsFor op wants u = ⊥
 
 -- the operation may have to wait
 abbrev pub MayWaitOp : Op → Type 0
 MayWaitOp (In t) = Unit {0}
 MayWaitOp (Rd t) = Unit {0}
-MayWaitOp (Out t) = ⊥
-MayWaitOp (Inp t) = ⊥
-MayWaitOp (Rdp t) = ⊥
-MayWaitOp (SetSpec clauses) = ⊥
-MayWaitOp GetSpec = ⊥
+MayWaitOp (No t) = Unit {0}
+MayWaitOp op = ⊥
 
 module _ (origin : Origin) (s : State) (id : CallId) (items : List Item) (r : Reply) where
   -- the reply to a call that was served at once
   served-fits : (op : Op) (result : Outcome) → IsServed AnyOne origin s id op result items → reply_of result ≡ Some r → FitsOp op r
   served-fits (Out t) Done served e = subst FitsPut (same_Some reply.Done r e) tt
   served-fits (Out t) (Over phase tuple) served e = subst FitsPut (same_Some (reply.OverBudget phase) r e) tt
-  served-fits (Out t) (Took u) served e = absurd served
-  served-fits (Out t) NoTuple served e = absurd served
-  served-fits (Out t) Pending served e = absurd served
-  served-fits (Out t) (Spec text) served e = absurd served
   served-fits (In t) (Over phase tuple) served e = subst (FitsRequest t) (same_Some (reply.OverBudget phase) r e) tt
   served-fits (In t) Pending served e = absurd (none-some r e)
-  served-fits (In t) Done served e = absurd served
-  served-fits (In t) (Took u) served e = absurd served
-  served-fits (In t) NoTuple served e = absurd served
-  served-fits (In t) (Spec text) served e = absurd served
   served-fits (Rd t) (Over phase tuple) served e = subst (FitsRequest t) (same_Some (reply.OverBudget phase) r e) tt
   served-fits (Rd t) Pending served e = absurd (none-some r e)
-  served-fits (Rd t) Done served e = absurd served
-  served-fits (Rd t) (Took u) served e = absurd served
-  served-fits (Rd t) NoTuple served e = absurd served
-  served-fits (Rd t) (Spec text) served e = absurd served
   served-fits (Inp t) (Took u) served e = subst (FitsSearch t) (same_Some (reply.Tuple u) r e) served.0.1
   served-fits (Inp t) NoTuple served e = subst (FitsSearch t) (same_Some reply.NoTuple r e) tt
   served-fits (Inp t) (Over phase tuple) served e = subst (FitsSearch t) (same_Some (reply.OverBudget phase) r e) tt
-  served-fits (Inp t) Done served e = absurd served
-  served-fits (Inp t) Pending served e = absurd served
-  served-fits (Inp t) (Spec text) served e = absurd served
   served-fits (Rdp t) (Took u) served e = subst (FitsSearch t) (same_Some (reply.Tuple u) r e) served.0.1
   served-fits (Rdp t) NoTuple served e = subst (FitsSearch t) (same_Some reply.NoTuple r e) tt
   served-fits (Rdp t) (Over phase tuple) served e = subst (FitsSearch t) (same_Some (reply.OverBudget phase) r e) tt
-  served-fits (Rdp t) Done served e = absurd served
-  served-fits (Rdp t) Pending served e = absurd served
-  served-fits (Rdp t) (Spec text) served e = absurd served
+  served-fits (No t) (Over phase tuple) served e = subst FitsAbsence (same_Some (reply.OverBudget phase) r e) tt
+  served-fits (No t) Pending served e = absurd (none-some r e)
+  served-fits (Nop t) Absent served e = subst (FitsTest t) (same_Some reply.Absent r e) tt
+  served-fits (Nop t) (Found u) served e = subst (FitsTest t) (same_Some (reply.Found u) r e) served.0.1
+  served-fits (Nop t) (Over phase tuple) served e = subst (FitsTest t) (same_Some (reply.OverBudget phase) r e) tt
   served-fits (SetSpec clauses) Done served e = subst FitsReplacing (same_Some reply.Done r e) tt
-  served-fits (SetSpec clauses) (Took u) served e = absurd served
-  served-fits (SetSpec clauses) NoTuple served e = absurd served
-  served-fits (SetSpec clauses) Pending served e = absurd served
-  served-fits (SetSpec clauses) (Spec text) served e = absurd served
-  served-fits (SetSpec clauses) (Over phase tuple) served e = absurd served
   served-fits GetSpec (Spec text) served e = subst FitsReading (same_Some (reply.Spec text) r e) tt
-  served-fits GetSpec Done served e = absurd served
-  served-fits GetSpec (Took u) served e = absurd served
-  served-fits GetSpec NoTuple served e = absurd served
-  served-fits GetSpec Pending served e = absurd served
-  served-fits GetSpec (Over phase tuple) served e = absurd served
+  served-fits _ _ served e = absurd served
+
+  tuple-fits : (q : Request) (result : Outcome) → IsGivenTuple AnyOne origin s q result items → reply_of result ≡ Some r → FitsRequest q.template r
+  tuple-fits q (Took u) given e = subst (FitsRequest q.template) (same_Some (reply.Tuple u) r e) given.0.1
+  tuple-fits q (Over phase tuple) given e = subst (FitsRequest q.template) (same_Some (reply.OverBudget phase) r e) tt
+  tuple-fits q _ given e = absurd given
+
+  absence-fits : (q : Request) (result : Outcome) → IsToldAbsence AnyOne origin s q result items → reply_of result ≡ Some r → FitsAbsence r
+  absence-fits q Absent given e = subst FitsAbsence (same_Some reply.Absent r e) tt
+  absence-fits q (Over phase tuple) given e = subst FitsAbsence (same_Some (reply.OverBudget phase) r e) tt
+  absence-fits q _ given e = absurd given
 
   -- the reply to a request that waited
-  given-fits : (q : Request) (result : Outcome) → IsGiven AnyOne origin s q result items → reply_of result ≡ Some r → FitsRequest q.template r
-  given-fits q (Took u) given e = subst (FitsRequest q.template) (same_Some (reply.Tuple u) r e) given.0.1
-  given-fits q (Over phase tuple) given e = subst (FitsRequest q.template) (same_Some (reply.OverBudget phase) r e) tt
-  given-fits q Done given e = absurd given
-  given-fits q NoTuple given e = absurd given
-  given-fits q Pending given e = absurd given
-  given-fits q (Spec text) given e = absurd given
+  given-fits : (wants : Wants) (q : Request) (result : Outcome) → IsGivenFor AnyOne origin s wants q result items → reply_of result ≡ Some r
+      → FitsWants wants q.template r
+  given-fits Take q result given e = tuple-fits q result given e
+  given-fits Look q result given e = tuple-fits q result given e
+  given-fits Absence q result given e = absence-fits q result given e
 
 -- a call that has no reply at once waits
 served-waits : (origin : Origin) (s : State) (id : CallId) (items : List Item) (op : Op) (result : Outcome)
@@ -126,23 +115,22 @@ served-waits : (origin : Origin) (s : State) (id : CallId) (items : List Item) (
 served-waits origin s id items op Done served e = absurd (none-some reply.Done (sym e))
 served-waits origin s id items op (Took u) served e = absurd (none-some (reply.Tuple u) (sym e))
 served-waits origin s id items op NoTuple served e = absurd (none-some reply.NoTuple (sym e))
+served-waits origin s id items op Absent served e = absurd (none-some reply.Absent (sym e))
+served-waits origin s id items op (Found u) served e = absurd (none-some (reply.Found u) (sym e))
 served-waits origin s id items op (Spec text) served e = absurd (none-some (reply.Spec text) (sym e))
 served-waits origin s id items op (Over phase tuple) served e = absurd (none-some (reply.OverBudget phase) (sym e))
 served-waits origin s id items (In t) Pending served e = tt
 served-waits origin s id items (Rd t) Pending served e = tt
-served-waits origin s id items (Out t) Pending served e = absurd served
-served-waits origin s id items (Inp t) Pending served e = absurd served
-served-waits origin s id items (Rdp t) Pending served e = absurd served
-served-waits origin s id items (SetSpec clauses) Pending served e = absurd served
-served-waits origin s id items GetSpec Pending served e = absurd served
+served-waits origin s id items (No t) Pending served e = tt
+served-waits origin s id items _ Pending served e = absurd served
 
--- the history has the call of the request, which waits for its template
+-- the history has the call of the request, which waits by it
 record Asked (history : List Entry) (q : Request) : Type 0 where
   op : Op
   result : Outcome
   items : List Item
   stands : Contains history (Called q.id op result items)
-  waits : WaitsFor op q.template
+  waits : WaitsFor op q.wants q.template
 
 Asked-longer : (history more : List Entry) (q : Request) → Asked history q → Asked (history ++ more) q
 Asked-longer history more q h = record {
@@ -170,6 +158,7 @@ module _ (history : List Entry) (id : CallId) (items : List Item) (s : State) wh
   reached-asked (Out t) result all = all
   reached-asked (Inp t) result all = all
   reached-asked (Rdp t) result all = all
+  reached-asked (Nop t) result all = all
   reached-asked (SetSpec clauses) result all = all
   reached-asked GetSpec result all = all
   reached-asked (In t) result all =
@@ -182,6 +171,11 @@ module _ (history : List Entry) (id : CallId) (items : List Item) (s : State) wh
       let q : Request = record { id = id; wants = Look; template = t } in
       let asked : Asked (history ++ e ∷ []) q = record { op = Rd t; result = result; items = items; stands = Contains-push history e; waits = refl } in
       All-push (Asked (history ++ e ∷ [])) s.pending q all asked
+  reached-asked (No t) result all =
+      let e : Entry = Called id (No t) result items in
+      let q : Request = record { id = id; wants = Absence; template = t } in
+      let asked : Asked (history ++ e ∷ []) q = record { op = No t; result = result; items = items; stands = Contains-push history e; waits = refl } in
+      All-push (Asked (history ++ e ∷ [])) s.pending q all asked
 
   call-asked : (op : Op) (result : Outcome) → All (Asked (history ++ Called id op result items ∷ [])) s.pending
       → All (Asked (history ++ Called id op result items ∷ [])) (after_call id op result items s).pending
@@ -189,6 +183,8 @@ module _ (history : List Entry) (id : CallId) (items : List Item) (s : State) wh
   call-asked op Done all = reached-asked op Done all
   call-asked op (Took u) all = reached-asked op (Took u) all
   call-asked op NoTuple all = reached-asked op NoTuple all
+  call-asked op Absent all = reached-asked op Absent all
+  call-asked op (Found u) all = reached-asked op (Found u) all
   call-asked op Pending all = reached-asked op Pending all
   call-asked op (Spec text) all = reached-asked op (Spec text) all
 
@@ -200,7 +196,7 @@ entry-asked history s (Gave id result items) all =
     subst (All P) (sym (pending-answered id result items s)) (without-all P id s.pending all)
 entry-asked history s (Looked id asked told) all = all
 
--- in a run each request that waits is of a call that waits for its template
+-- in a run each request that waits is of a call that waits by it
 asked-run : (origin : Origin) (history : List Entry) → IsRun origin history → All (Asked history) (after_history (opening origin) history).pending
 asked-run origin history run =
     let begin : State = opening origin in
@@ -263,6 +259,8 @@ told-or_given i op Pending items es id r same e = told-given (Called i op Pendin
 told-or_given i op Done items es id r same e = told-called i op Done items es id r same e
 told-or_given i op (Took u) items es id r same e = told-called i op (Took u) items es id r same e
 told-or_given i op NoTuple items es id r same e = told-called i op NoTuple items es id r same e
+told-or_given i op Absent items es id r same e = told-called i op Absent items es id r same e
+told-or_given i op (Found u) items es id r same e = told-called i op (Found u) items es id r same e
 told-or_given i op (Spec text) items es id r same e = told-called i op (Spec text) items es id r same e
 told-or_given i op (Over phase tuple) items es id r same e = told-called i op (Over phase tuple) items es id r same e
 
@@ -320,14 +318,11 @@ module _ (origin : Origin) (history : List Entry) (run : IsRun origin history) (
   take-run : (k : ℕ) → IsRun origin (take k history)
   take-run k = EachEntry-IsPrefix (IsLegal AnyOne origin) (opening origin) (take k history) history (drop k history, take-append-drop k history) run
 
-  waits-fits : (op : Op) (t : Tree) (r : Reply) → WaitsFor op t → FitsRequest t r → FitsOp op r
-  waits-fits (In u) t r waits fits = subst (λ v. FitsRequest v r) waits fits
-  waits-fits (Rd u) t r waits fits = subst (λ v. FitsRequest v r) waits fits
-  waits-fits (Out u) t r waits fits = absurd waits
-  waits-fits (Inp u) t r waits fits = absurd waits
-  waits-fits (Rdp u) t r waits fits = absurd waits
-  waits-fits (SetSpec clauses) t r waits fits = absurd waits
-  waits-fits GetSpec t r waits fits = absurd waits
+  waits-fits : (op : Op) (wants : Wants) (t : Tree) (r : Reply) → WaitsFor op wants t → FitsWants wants t r → FitsOp op r
+  waits-fits (In u) Take t r waits fits = subst (λ v. FitsRequest v r) waits fits
+  waits-fits (Rd u) Look t r waits fits = subst (λ v. FitsRequest v r) waits fits
+  waits-fits (No u) Absence t r waits fits = fits
+  waits-fits _ _ t r waits fits = absurd waits
 
   module _ (op : Op) (result : Outcome) (items : List Item) (stands : Contains history (Called id op result items)) where
     gave-fits : (r : Reply) (told : Outcome) (more : List Item) → Contains history (Gave id told more) → reply_of told ≡ Some r → FitsOp op r
@@ -344,7 +339,7 @@ module _ (origin : Origin) (history : List Entry) (run : IsRun origin history) (
         subst (λ es. Contains es (Called id asked.op asked.result asked.items)) (take-append-drop j history)
         (Contains-append_left so_far (drop j history) (Called id asked.op asked.result asked.items) early) in
         subst (λ o. FitsOp o r) (called-once asked.op op asked.result result asked.items items whole stands)
-        (waits-fits asked.op q.template r asked.waits (given-fits origin s id more r q told legal.given e))
+        (waits-fits asked.op q.wants q.template r asked.waits (given-fits origin s id more r q.wants q told legal.given e))
 
     pub reply-fits : (r : Reply) → reply_in history id ≡ Some r → FitsOp op r
     reply-fits r e =
@@ -392,6 +387,8 @@ fits-ask (ask.In t) op r is fits = subst (λ o. FitsOp o r) is.1 fits
 fits-ask (ask.Rd t) op r is fits = subst (λ o. FitsOp o r) is.1 fits
 fits-ask (ask.Inp t) op r is fits = subst (λ o. FitsOp o r) is.1 fits
 fits-ask (ask.Rdp t) op r is fits = subst (λ o. FitsOp o r) is.1 fits
+fits-ask (ask.No t) op r is fits = subst (λ o. FitsOp o r) is.1 fits
+fits-ask (ask.Nop t) op r is fits = subst (λ o. FitsOp o r) is.1 fits
 fits-ask (ask.SetSpec t) op r is fits = subst (λ o. FitsOp o r) is.1.is fits
 fits-ask ask.GetSpec op r is fits = subst (λ o. FitsOp o r) (sound-same op GetSpec is) fits
 
@@ -399,8 +396,10 @@ waits-ask : (a : Ask) (op : Op) → OpOf a (Sound op) → MayWaitOp op → MayWa
 waits-ask (ask.Out t) op is waits = subst MayWaitOp is.2 waits
 waits-ask (ask.In t) op is waits = tt
 waits-ask (ask.Rd t) op is waits = tt
+waits-ask (ask.No t) op is waits = tt
 waits-ask (ask.Inp t) op is waits = subst MayWaitOp is.1 waits
 waits-ask (ask.Rdp t) op is waits = subst MayWaitOp is.1 waits
+waits-ask (ask.Nop t) op is waits = subst MayWaitOp is.1 waits
 waits-ask (ask.SetSpec t) op is waits = subst MayWaitOp is.1.is waits
 waits-ask ask.GetSpec op is waits = subst MayWaitOp (sound-same op GetSpec is) waits
 

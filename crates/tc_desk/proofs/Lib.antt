@@ -5,3 +5,4 @@ pub mod Growing
 pub mod Fitting
 pub mod Logs
 pub mod Typing
+pub mod Sends

@@ -3,7 +3,7 @@ use Rattle.std.proofs.Common.{◌≡◌, true, false, IsTrue, refl, ap, subst, s
 use Rattle.tc_term.specs.Tree.{Tree, Variable, Atomic, Number, Compound, is_ground}
 use Rattle.tc_term.specs.TreeView.{tree_of}
 use Rattle.tc_model.specs.declared.asks.Ask.{Ask}
-use Rattle.tc_model.specs.declared.asks.Ask.TheVariants.{Out, In, Rd, Inp, Rdp, SetSpec, GetSpec}
+use Rattle.tc_model.specs.declared.asks.Ask.TheVariants.{Out, In, Rd, Inp, Rdp, No, Nop, SetSpec, GetSpec}
 use Rattle.tc_model.specs.declared.calls.Op.{Op}
 use Rattle.tc_model.specs.declared.calls.Op.TheVariants as op
 use Rattle.tc_model.specs.declared.faults.BadSpec.{BadSpec}
@@ -82,5 +82,7 @@ one_operand (In t) o p h k = one_template op.In (tree_of t) o p h k
 one_operand (Rd t) o p h k = one_template op.Rd (tree_of t) o p h k
 one_operand (Inp t) o p h k = one_template op.Inp (tree_of t) o p h k
 one_operand (Rdp t) o p h k = one_template op.Rdp (tree_of t) o p h k
+one_operand (No t) o p h k = one_template op.No (tree_of t) o p h k
+one_operand (Nop t) o p h k = one_template op.Nop (tree_of t) o p h k
 one_operand (SetSpec t) o p h k = one_text_of (tree_of t) o p h k
 one_operand GetSpec o p h k = h ∙ sym k

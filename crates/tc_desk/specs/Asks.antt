@@ -9,7 +9,8 @@ use Rattle.tc_term.specs.Variables.{instance}
 use Rattle.tc_term.specs.Equations.{Equation, HasValue}
 use Rattle.tc_model.specs.Scripts.{Lines}
 use Rattle.tc_model.specs.declared.asks.Ask.{Ask}
-use Rattle.tc_model.specs.declared.asks.Ask.TheVariants.{Out, In, Rd, Inp, Rdp, SetSpec, GetSpec}
+use Rattle.tc_model.specs.declared.asks.Ask.TheVariants.{Out, In, Rd, Inp, Rdp, No, Nop}
+use Rattle.tc_model.specs.declared.asks.Ask.TheVariants.{SetSpec, GetSpec}
 use Rattle.tc_model.specs.declared.outcomes.Reply.{Reply}
 use Rattle.tc_model.specs.declared.outcomes.Reply.TheVariants as reply
 use Rattle.tc_model.specs.declared.scripts.ScriptItem.{ScriptItem}
@@ -41,16 +42,20 @@ abbrev pub told : Tree → Reply → List Equation
 told t (reply.Tuple u) = (t, u) ∷ []
 told t reply.Done = []
 told t reply.NoTuple = []
+told t reply.Absent = []
+told t (reply.Found u) = []
 told t (reply.Spec text) = []
 told t (reply.OverBudget phase) = []
 
--- the same of an ask: one that has a template, as it is written
+-- the same of an ask: one that asks for a tuple, by its template as it is written
 abbrev pub told_of : Ask → Reply → List Equation
 told_of (Out t) r = []
 told_of (In t) r = told (tree_of t) r
 told_of (Rd t) r = told (tree_of t) r
 told_of (Inp t) r = told (tree_of t) r
 told_of (Rdp t) r = told (tree_of t) r
+told_of (No t) r = []
+told_of (Nop t) r = []
 told_of (SetSpec t) r = []
 told_of GetSpec r = []
 
@@ -93,6 +98,8 @@ IsFilled values (In t) (In u) = tree_of u ≡ with_values values (tree_of t)
 IsFilled values (Rd t) (Rd u) = tree_of u ≡ with_values values (tree_of t)
 IsFilled values (Inp t) (Inp u) = tree_of u ≡ with_values values (tree_of t)
 IsFilled values (Rdp t) (Rdp u) = tree_of u ≡ with_values values (tree_of t)
+IsFilled values (No t) (No u) = tree_of u ≡ with_values values (tree_of t)
+IsFilled values (Nop t) (Nop u) = tree_of u ≡ with_values values (tree_of t)
 IsFilled values (SetSpec t) (SetSpec u) = tree_of u ≡ with_values values (tree_of t)
 IsFilled values GetSpec GetSpec = Unit {0}
 IsFilled values written filled = ⊥

@@ -7,7 +7,7 @@ use Rattle.tc_desk.specs.declared.rows.LogRow.{LogRow}
 use Rattle.tc_desk.specs.declared.rows.LogResult.{LogResult}
 use Rattle.tc_desk.specs.declared.rows.LogResult.TheVariants.{Replied, Pending, Refused, Polled}
 
--- whether the ask waits for a tuple
+-- whether the ask waits
 abbrev pub is_pending : LogResult → Bool
 is_pending (Replied reply) = false
 is_pending Pending = true

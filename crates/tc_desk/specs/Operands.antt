@@ -5,7 +5,8 @@ use Rattle.tc_term.specs.TreeView.{tree_of}
 use Rattle.tc_term.specs.Variables.{IsTemplate, renumbered}
 use Rattle.tc_model.specs.Reactions.{Rule}
 use Rattle.tc_model.specs.declared.asks.Ask.{Ask}
-use Rattle.tc_model.specs.declared.asks.Ask.TheVariants.{Out, In, Rd, Inp, Rdp, SetSpec, GetSpec}
+use Rattle.tc_model.specs.declared.asks.Ask.TheVariants.{Out, In, Rd, Inp, Rdp, No, Nop}
+use Rattle.tc_model.specs.declared.asks.Ask.TheVariants.{SetSpec, GetSpec}
 use Rattle.tc_model.specs.declared.calls.Op.{Op}
 use Rattle.tc_model.specs.declared.calls.Op.TheVariants as op
 use Rattle.tc_model.specs.declared.faults.BadSpec.{BadSpec}
@@ -63,5 +64,7 @@ OpOf (In t) o = TemplateOf op.In (tree_of t) o
 OpOf (Rd t) o = TemplateOf op.Rd (tree_of t) o
 OpOf (Inp t) o = TemplateOf op.Inp (tree_of t) o
 OpOf (Rdp t) o = TemplateOf op.Rdp (tree_of t) o
+OpOf (No t) o = TemplateOf op.No (tree_of t) o
+OpOf (Nop t) o = TemplateOf op.Nop (tree_of t) o
 OpOf (SetSpec t) o = TextOf (tree_of t) o
 OpOf GetSpec o = o ≡ Sound op.GetSpec

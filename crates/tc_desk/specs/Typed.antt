@@ -5,7 +5,8 @@ use Rattle.tc_term.specs.Tree.{Tree, Variable, Atomic, Number, Compound, Trees, 
 use Rattle.tc_term.specs.TreeView.{tree_of}
 use Rattle.tc_model.specs.Typed.{Is32, Is64, AreBytes, IsTypedReply}
 use Rattle.tc_model.specs.declared.asks.Ask.{Ask}
-use Rattle.tc_model.specs.declared.asks.Ask.TheVariants.{Out, In, Rd, Inp, Rdp, SetSpec, GetSpec}
+use Rattle.tc_model.specs.declared.asks.Ask.TheVariants.{Out, In, Rd, Inp, Rdp, No, Nop}
+use Rattle.tc_model.specs.declared.asks.Ask.TheVariants.{SetSpec, GetSpec}
 use Rattle.tc_desk.specs.declared.rows.LogRow.{LogRow}
 use Rattle.tc_desk.specs.declared.rows.LogResult.{LogResult}
 use Rattle.tc_desk.specs.declared.rows.LogResult.TheVariants.{Replied, Pending, Refused, Polled}
@@ -31,6 +32,8 @@ IsTypedAsk (In t) = IsTypedTree (tree_of t)
 IsTypedAsk (Rd t) = IsTypedTree (tree_of t)
 IsTypedAsk (Inp t) = IsTypedTree (tree_of t)
 IsTypedAsk (Rdp t) = IsTypedTree (tree_of t)
+IsTypedAsk (No t) = IsTypedTree (tree_of t)
+IsTypedAsk (Nop t) = IsTypedTree (tree_of t)
 IsTypedAsk (SetSpec t) = IsTypedTree (tree_of t)
 IsTypedAsk GetSpec = Unit {0}
 

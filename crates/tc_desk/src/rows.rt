@@ -44,7 +44,7 @@ pub enum Refusal {
 #[derive(Drop)]
 pub enum LogResult {
     Replied(Reply),
-    /// It waits for a tuple.
+    /// It waits for a tuple, or until none matches.
     Pending,
     Refused(Refusal),
     /// The agent asked what became of its pending ask; `None` says that it was still pending.
@@ -62,7 +62,7 @@ pub struct LogRow {
 }
 
 impl LogRow {
-    /// Whether the row's ask waits for a tuple.
+    /// Whether the row's ask waits.
     pub fn is_pending(&self) -> bool
         ensures { result ≡ is_pending self.now.result }
     {

@@ -38,8 +38,8 @@ fn ask_fits(ask: &Option<Ask>)
     ensures { IfSome ask.now IsTypedAsk }
 {
     match ask {
-        Some(Ask::Out(t) | Ask::In(t) | Ask::Rd(t) | Ask::Inp(t) | Ask::Rdp(t) | Ask::SetSpec(t)) =>
-            term_fits(t),
+        Some(Ask::Out(t) | Ask::In(t) | Ask::Rd(t) | Ask::Inp(t) | Ask::Rdp(t)) => term_fits(t),
+        Some(Ask::No(t) | Ask::Nop(t) | Ask::SetSpec(t)) => term_fits(t),
         Some(Ask::GetSpec) | None => {}
     }
 }

@@ -12,7 +12,8 @@ use Rattle.tc_model.specs.declared.asks.Primitive.{Primitive}
 use Rattle.tc_model.specs.declared.asks.Primitive.TheVariants as primitive
 use Rattle.tc_model.specs.declared.calls.CallId.{CallId}
 use Rattle.tc_model.specs.declared.calls.Op.{Op}
-use Rattle.tc_model.specs.declared.calls.Op.TheVariants.{Out, In, Rd, Inp, Rdp, SetSpec, GetSpec}
+use Rattle.tc_model.specs.declared.calls.Op.TheVariants.{Out, In, Rd, Inp, Rdp, No, Nop}
+use Rattle.tc_model.specs.declared.calls.Op.TheVariants.{SetSpec, GetSpec}
 use Rattle.tc_model.specs.declared.entries.Entry.{Entry}
 use Rattle.tc_model.specs.declared.entries.Entry.TheVariants.{Called, Gave, Looked}
 use Rattle.tc_model.specs.declared.events.Phase.{Phase}
@@ -41,13 +42,15 @@ use Rattle.tc_histtext.specs.declared.versions.Version.TheVariants.{One, Two}
 abbrev pub applied_text : Primitive → List ℕ → List ℕ
 applied_text p operand = joined (primitive_name p ∷ codes "(" ∷ operand ∷ codes ")" ∷ [])
 
--- an operation
+-- an operation; `no` and `nop` stand in texts of version 2 alone
 abbrev pub op_text : Op → List ℕ
 op_text (Out t) = applied_text primitive.Out (canonical t)
 op_text (In t) = applied_text primitive.In (canonical t)
 op_text (Rd t) = applied_text primitive.Rd (canonical t)
 op_text (Inp t) = applied_text primitive.Inp (canonical t)
 op_text (Rdp t) = applied_text primitive.Rdp (canonical t)
+op_text (No t) = applied_text primitive.No (canonical t)
+op_text (Nop t) = applied_text primitive.Nop (canonical t)
 op_text (SetSpec clauses) = applied_text primitive.SetSpec (quoted (clauses_text clauses))
 op_text GetSpec = primitive_name primitive.GetSpec
 
@@ -61,20 +64,24 @@ abbrev pub chosen_text : Option Tree → List ℕ
 chosen_text None = []
 chosen_text (Some t) = codes " " ++ canonical t
 
--- the outcome of an entry
+-- the outcome of an entry; `absent` and `found` stand in texts of version 2 alone
 abbrev pub outcome_text : Outcome → List ℕ
 outcome_text outcome.Done = codes "done"
 outcome_text (outcome.Took t) = codes "tuple " ++ canonical t
 outcome_text outcome.NoTuple = codes "none"
+outcome_text outcome.Absent = codes "absent"
+outcome_text (outcome.Found t) = codes "found " ++ canonical t
 outcome_text outcome.Pending = codes "pending"
 outcome_text (outcome.Spec text) = codes "spec " ++ quoted text
 outcome_text (outcome.Over phase tuple) = over_text phase ++ chosen_text tuple
 
--- a reply
+-- a reply; `absent` and `found` stand in texts of version 2 alone
 abbrev pub reply_text : Reply → List ℕ
 reply_text reply.Done = codes "done"
 reply_text (reply.Tuple t) = codes "tuple " ++ canonical t
 reply_text reply.NoTuple = codes "none"
+reply_text reply.Absent = codes "absent"
+reply_text (reply.Found t) = codes "found " ++ canonical t
 reply_text (reply.Spec text) = codes "spec " ++ quoted text
 reply_text (reply.OverBudget phase) = over_text phase
 

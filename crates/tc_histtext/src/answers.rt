@@ -36,6 +36,8 @@ pub(crate) fn write_outcome(
         Outcome::Done => into.extend_from_slice(b"done"),
         Outcome::Took(tuple) => write_tuple(alloc, b"tuple ", tuple, into),
         Outcome::NoTuple => into.extend_from_slice(b"none"),
+        Outcome::Absent => into.extend_from_slice(b"absent"),
+        Outcome::Found(tuple) => write_tuple(alloc, b"found ", tuple, into),
         Outcome::Pending => into.extend_from_slice(b"pending"),
         Outcome::Spec(text) => write_spec(alloc, text.items(), into),
         Outcome::Over(phase, tuple) => write_over(alloc, *phase, tuple, into),
@@ -66,6 +68,8 @@ pub(crate) fn write_reply(alloc: Global, reply: &Reply, into: &mut Vec<u8>) -> R
         Reply::Done => into.extend_from_slice(b"done"),
         Reply::Tuple(tuple) => write_tuple(alloc, b"tuple ", tuple, into),
         Reply::NoTuple => into.extend_from_slice(b"none"),
+        Reply::Absent => into.extend_from_slice(b"absent"),
+        Reply::Found(tuple) => write_tuple(alloc, b"found ", tuple, into),
         Reply::Spec(text) => write_spec(alloc, text.items(), into),
         Reply::OverBudget(phase) => into.extend_from_slice(over(*phase)),
     }

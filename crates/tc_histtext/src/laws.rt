@@ -1,13 +1,22 @@
 //! What can be printed, and how texts grow, for callers to cite.
-ghost use Rattle.std.specs.Prelude.{◌≡◌, ◌<◌, ◌++◌, ◌∷◌, [], ℕ, List, All};
+ghost use Rattle.std.specs.Prelude.{◌≡◌, ◌≢◌, ◌<◌, ◌++◌, ◌∷◌, [], ℕ, List, All, AllPairs};
 ghost use Rattle.std.specs.Prelude.{length};
+ghost use Rattle.tc_lists.specs.AtFront.{AlwaysTakes, IsReadAgain};
 ghost use Rattle.tc_model.specs.Calls.{id_of};
+ghost use Rattle.tc_model.specs.Entries.{IsWellFormed};
 ghost use Rattle.tc_model.specs.Run.{IsRun};
 ghost use Rattle.tc_model.specs.State.{Origin};
+ghost use Rattle.tc_model.specs.Typed.{IsTyped};
 ghost use Rattle.tc_model.specs.declared.entries.Entry.{Entry};
 ghost use Rattle.tc_desk.specs.declared.rows.LogRow.{LogRow};
+ghost use Rattle.tc_histtext.specs.Items.{HasItemLine, item_at};
+ghost use Rattle.tc_histtext.specs.Lines.{HasLines, HaveLines};
+ghost use Rattle.tc_histtext.specs.Operations.{IsWrittenIn, op_at, written_text};
+ghost use Rattle.tc_histtext.specs.Outcomes.{IsOutcomeIn, IsToldIn, ended, ended_text, outcome_at};
+ghost use Rattle.tc_histtext.specs.Outcomes.{told_at};
 ghost use Rattle.tc_histtext.specs.Text.{agent_heading, centre_heading, entry_text, histories_text};
-ghost use Rattle.tc_histtext.specs.Text.{history_text, log_text, logs_text, row_text};
+ghost use Rattle.tc_histtext.specs.Text.{history_text, log_text, logs_text, outcome_text, row_text};
+ghost use Rattle.tc_histtext.specs.Text.{item_text, run_text, told_text};
 ghost use Rattle.tc_histtext.specs.declared.versions.Version.{Version};
 
 /// Each entry of a run can be printed: its agent is one of the centre's.
@@ -37,4 +46,38 @@ pub fn text_grows_by_parts()
         (log : List LogRow) → length names ≡ length logs
         → logs_text v (names ++ name ∷ []) (logs ++ log ∷ [])
         ≡ logs_text v names logs ++ log_text v name log }
+{}
+
+/// A text tells its version and its histories: two different lists of histories, of these centres
+/// and of agents whose names differ, never have the same text, whatever their logs are.
+pub fn texts_tell_their_histories()
+    ensures one { (v w : Version) (centres agents : List (List ℕ))
+        (histories others : List (List Entry)) (logs more : List (List LogRow))
+        → AllPairs ◌≢◌ agents
+        → HaveLines centres agents histories → HaveLines centres agents others
+        → run_text v centres agents histories logs ≡ run_text w centres agents others more
+        → (v ≡ w) × (histories ≡ others) }
+    ensures lines { (agents : List (List ℕ)) (e : Entry) → IsTyped e → IsWellFormed e
+        → (id_of e).agent < length agents → HasLines agents e }
+{}
+
+/// Parts of lines at the front of bytes: what is read has a text in this version, which stands
+/// there; and what is written is read again, an outcome and what an agent is told up to the end of
+/// the line.
+pub fn parts_of_lines_are_read_again()
+    ensures op { (v : Version) → AlwaysTakes (IsWrittenIn v) written_text (op_at v) }
+    ensures op_again { (v : Version) → IsReadAgain (IsWrittenIn v) written_text (op_at v) }
+    ensures outcome { (v : Version) → AlwaysTakes (IsOutcomeIn v) outcome_text (outcome_at v) }
+    ensures outcome_again { (v : Version)
+        → IsReadAgain (IsOutcomeIn v) (ended_text outcome_text) (ended (outcome_at v)) }
+    ensures told { (v : Version) → AlwaysTakes (IsToldIn v) told_text (told_at v) }
+    ensures told_again { (v : Version)
+        → IsReadAgain (IsToldIn v) (ended_text told_text) (ended (told_at v)) }
+{}
+
+/// The lines of reactions at the front of bytes: what is read has a line, which stands there; and
+/// what is written is read again.
+pub fn items_are_read_again()
+    ensures item { AlwaysTakes HasItemLine item_text item_at }
+    ensures again { IsReadAgain HasItemLine item_text item_at }
 {}

@@ -4,6 +4,11 @@
 //! The parts, one behind another, are the text of a run, so a caller may write it away in pieces as
 //! it grows. An operation, a reply, a result and a refusal can be printed alone too.
 //!
+//! A text tells its histories: no two lists of them share one (`texts_tell_their_histories`). What
+//! is read of a line is a function on lists, in specs/Words to specs/Items, for each version; the
+//! files that are named read_.. have its code, so far for operations, outcomes, replies and
+//! reactions.
+//!
 //! ```
 //! let mut text = Vec::new(alloc);
 //! print_version(Version::One, &mut text)?;
@@ -25,14 +30,22 @@ mod headings;
 mod items;
 mod laws;
 mod operations;
+mod read_items;
+mod read_operations;
+mod read_outcomes;
+mod read_words;
 mod rows;
 mod versions;
 
 pub use answers::print_reply;
 pub use entries::print_entry;
 pub use headings::{Heading, print_end, print_heading, print_version};
-pub use laws::{entries_of_runs_have_agents, text_grows_by_parts};
+pub use laws::{
+    entries_of_runs_have_agents, items_are_read_again, parts_of_lines_are_read_again,
+    text_grows_by_parts, texts_tell_their_histories,
+};
 pub use operations::print_op;
+pub use read_operations::WrittenOp;
 pub use rows::{print_refusal, print_result, print_row};
 pub use versions::Version;
 

@@ -36,6 +36,8 @@ pub(crate) fn write_op(alloc: Global, op: &Op, into: &mut Vec<u8>) -> Result<(),
         Op::Rd(template) => write_applied(alloc, Primitive::Rd, template.term(), into),
         Op::Inp(template) => write_applied(alloc, Primitive::Inp, template.term(), into),
         Op::Rdp(template) => write_applied(alloc, Primitive::Rdp, template.term(), into),
+        Op::No(template) => write_applied(alloc, Primitive::No, template.term(), into),
+        Op::Nop(template) => write_applied(alloc, Primitive::Nop, template.term(), into),
         Op::SetSpec(clauses) => write_replaced(alloc, clauses, into),
         Op::GetSpec => into.extend_from_slice(Primitive::GetSpec.name()),
     }

@@ -9,19 +9,21 @@ use Rattle.tc_model.specs.Goals.{Scene, Moment, Move, moved, Does, IsStep, Leads
 use Rattle.tc_model.specs.Bodies.{scene_of, beginning, IsBody}
 use Rattle.tc_model.specs.Cascades.{Wave, IsTried, Cascades, Begins, IsWhole, IsOver}
 use Rattle.tc_model.specs.State.{State, Origin, IsAnswerable}
-use Rattle.tc_model.specs.Tables.{IsServed, IsGiven, IsChosenTuple}
+use Rattle.tc_model.specs.Tables.{IsServed, IsGivenTuple, IsToldAbsence, IsGivenFor, IsChosenTuple}
 use Rattle.tc_model.specs.Run.{IsLegal}
 use Rattle.tc_model.specs.declared.calls.CallId.{CallId}
 use Rattle.tc_model.specs.declared.calls.Op.{Op}
-use Rattle.tc_model.specs.declared.calls.Op.TheVariants.{Out, In, Rd, Inp, Rdp, SetSpec, GetSpec}
+use Rattle.tc_model.specs.declared.calls.Op.TheVariants.{Out, In, Rd, Inp, Rdp, No, Nop, SetSpec, GetSpec}
 use Rattle.tc_model.specs.declared.calls.Request.{Request}
+use Rattle.tc_model.specs.declared.calls.Wants.{Wants}
+use Rattle.tc_model.specs.declared.calls.Wants.TheVariants.{Take, Look, Absence}
 use Rattle.tc_model.specs.declared.events.Phase.TheVariants.{Pre, Post}
 use Rattle.tc_model.specs.declared.goals.Goal.{Goal}
 use Rattle.tc_model.specs.declared.goals.Goal.TheVariants.{InR, RdR}
 use Rattle.tc_model.specs.declared.items.Item.{Item}
 use Rattle.tc_model.specs.declared.items.Item.TheVariants.{Fired, Failed}
 use Rattle.tc_model.specs.declared.outcomes.Outcome.{Outcome}
-use Rattle.tc_model.specs.declared.outcomes.Outcome.TheVariants.{Done, Took, NoTuple, Pending, Spec, Over}
+use Rattle.tc_model.specs.declared.outcomes.Outcome.TheVariants.{Done, Took, NoTuple, Absent, Found, Pending, Spec, Over}
 use Rattle.tc_model.specs.declared.entries.Entry.{Entry}
 use Rattle.tc_model.specs.declared.entries.Entry.TheVariants.{Called, Gave, Looked}
 use Rattle.std.proofs.Common.{Some, None}
@@ -133,19 +135,37 @@ module _ (origin : Origin) (s : State) where
   any_served id (Inp t) (Over Post None) items h = (h.0, any_over _ s.clauses origin.budget _ _ items h.1)
   any_served id (Rdp t) NoTuple items h = (h.0, any_whole _ s.clauses origin.budget _ _ items h.1)
   any_served id (Rdp t) (Over Post None) items h = (h.0, any_over _ s.clauses origin.budget _ _ items h.1)
+  any_served id (Nop t) Absent items h = (h.0, any_whole _ s.clauses origin.budget _ _ items h.1)
+  any_served id (Nop t) (Over Post None) items h = (h.0, any_over _ s.clauses origin.budget _ _ items h.1)
+  any_served id (Nop t) (Found u) items h = (any_found t u h.0, any_whole _ s.clauses origin.budget _ _ items h.1)
+  any_served id (Nop t) (Over Post (Some u)) items h = (any_found t u h.0, any_over _ s.clauses origin.budget _ _ items h.1)
   any_served id (In t) Pending items h = any_whole _ s.clauses origin.budget _ _ items h
   any_served id (In t) (Over Pre None) items h = any_over _ s.clauses origin.budget _ _ items h
   any_served id (Rd t) Pending items h = any_whole _ s.clauses origin.budget _ _ items h
   any_served id (Rd t) (Over Pre None) items h = any_over _ s.clauses origin.budget _ _ items h
+  any_served id (No t) Pending items h = any_whole _ s.clauses origin.budget _ _ items h
+  any_served id (No t) (Over Pre None) items h = any_over _ s.clauses origin.budget _ _ items h
   any_served id (SetSpec clauses) Done items h = h
   any_served id GetSpec (Spec text) items h = h
   any_served id _ _ items h = absurd h
 
-  any_given : (r : Request) (result : Outcome) (items : List Item)
-      → IsGiven TheFirst origin s r result items → IsGiven AnyOne origin s r result items
-  any_given r (Took u) items h = (any_found r.template u h.0, any_whole _ s.clauses origin.budget _ _ items h.1)
-  any_given r (Over Post (Some u)) items h = (any_found r.template u h.0, any_over _ s.clauses origin.budget _ _ items h.1)
-  any_given r _ items h = absurd h
+  any_tuple : (r : Request) (result : Outcome) (items : List Item)
+      → IsGivenTuple TheFirst origin s r result items → IsGivenTuple AnyOne origin s r result items
+  any_tuple r (Took u) items h = (any_found r.template u h.0, any_whole _ s.clauses origin.budget _ _ items h.1)
+  any_tuple r (Over Post (Some u)) items h = (any_found r.template u h.0, any_over _ s.clauses origin.budget _ _ items h.1)
+  any_tuple r _ items h = absurd h
+
+  any_absence : (r : Request) (result : Outcome) (items : List Item)
+      → IsToldAbsence TheFirst origin s r result items → IsToldAbsence AnyOne origin s r result items
+  any_absence r Absent items h = (h.0, any_whole _ s.clauses origin.budget _ _ items h.1)
+  any_absence r (Over Post None) items h = (h.0, any_over _ s.clauses origin.budget _ _ items h.1)
+  any_absence r _ items h = absurd h
+
+  any_given : (wants : Wants) (r : Request) (result : Outcome) (items : List Item)
+      → IsGivenFor TheFirst origin s wants r result items → IsGivenFor AnyOne origin s wants r result items
+  any_given Take r result items h = any_tuple r result items h
+  any_given Look r result items h = any_tuple r result items h
+  any_given Absence r result items h = any_absence r result items h
 
   pub any_legal : (history : List Entry) (e : Entry)
       → IsLegal TheFirst origin history s e → IsLegal AnyOne origin history s e
@@ -154,6 +174,6 @@ module _ (origin : Origin) (s : State) where
     request = h.request;
     chosen = any_chosen (IsAnswerable s.tuples) s.pending h.request h.chosen;
     asked = h.asked;
-    given = any_given h.request result items h.given;
+    given = any_given h.request.wants h.request result items h.given;
   }
   any_legal history (Looked id asked reply) h = h

@@ -21,14 +21,15 @@ use Rattle.tc_model.specs.Cascades.{Wave, IsTried, Cascades, IsWhole, IsOver}
 use Rattle.tc_model.specs.State.{State, Origin, IsOrigin, IsTypedState, IsMatch, opening, after_taking, after_history}
 use Rattle.tc_model.specs.Calls.{IsCallOf, call_of}
 use Rattle.tc_model.specs.Replies.{reply_of, outcome_given, or_given, outcome_in, reply_in}
-use Rattle.tc_model.specs.Tables.{IsServed, IsGiven, setting_of}
+use Rattle.tc_model.specs.Tables.{IsServed, IsGivenTuple, IsToldAbsence, IsGivenFor, setting_of}
 use Rattle.tc_model.specs.Run.{IsLegal, IsFirstRun}
 use Rattle.tc_model.specs.Calls.{same_id}
 use Rattle.tc_model.specs.declared.calls.CallId.{CallId}
 use Rattle.tc_model.specs.declared.calls.Op.{Op}
-use Rattle.tc_model.specs.declared.calls.Op.TheVariants.{Out, In, Rd, Inp, Rdp, SetSpec, GetSpec}
+use Rattle.tc_model.specs.declared.calls.Op.TheVariants.{Out, In, Rd, Inp, Rdp, No, Nop, SetSpec, GetSpec}
 use Rattle.tc_model.specs.declared.calls.Request.{Request}
-use Rattle.tc_model.specs.declared.calls.Wants.TheVariants.{Take}
+use Rattle.tc_model.specs.declared.calls.Wants.{Wants}
+use Rattle.tc_model.specs.declared.calls.Wants.TheVariants.{Take, Look, Absence}
 use Rattle.tc_model.specs.declared.events.Phase.TheVariants.{Pre, Post}
 use Rattle.tc_model.specs.declared.goals.Goal.{Goal}
 use Rattle.tc_model.specs.declared.goals.Goal.TheVariants as goal
@@ -200,25 +201,43 @@ module _ (origin : Origin) (s : State) (typed : IsTypedState s) where
   served-typed id (Inp t) (outcome.Over Post None) items op h = over id _ _ items h.1 typed.tuples
   served-typed id (Rdp t) outcome.NoTuple items op h = whole id _ _ items h.1 typed.tuples
   served-typed id (Rdp t) (outcome.Over Post None) items op h = over id _ _ items h.1 typed.tuples
+  served-typed id (Nop t) outcome.Absent items op h = whole id _ _ items h.1 typed.tuples
+  served-typed id (Nop t) (outcome.Over Post None) items op h = over id _ _ items h.1 typed.tuples
+  served-typed id (Nop t) (outcome.Found u) items op h = whole id _ _ items h.1 typed.tuples
+  served-typed id (Nop t) (outcome.Over Post (Some u)) items op h = over id _ _ items h.1 typed.tuples
   served-typed id (In t) outcome.Pending items op h = whole id _ _ items h typed.tuples
   served-typed id (In t) (outcome.Over Pre None) items op h = over id _ _ items h typed.tuples
   served-typed id (Rd t) outcome.Pending items op h = whole id _ _ items h typed.tuples
   served-typed id (Rd t) (outcome.Over Pre None) items op h = over id _ _ items h typed.tuples
+  served-typed id (No t) outcome.Pending items op h = whole id _ _ items h typed.tuples
+  served-typed id (No t) (outcome.Over Pre None) items op h = over id _ _ items h typed.tuples
   served-typed id (SetSpec clauses) outcome.Done items op h = subst (All IsTypedItem) (sym h) (All-nil IsTypedItem)
   served-typed id GetSpec (outcome.Spec text) items op h = subst (All IsTypedItem) (sym h.1) (All-nil IsTypedItem)
   served-typed id _ _ items op h = absurd h
 
-  given-typed : (r : Request) (result : Outcome) (items : List Item)
-      → IsGiven TheFirst origin s r result items → IsTypedOutcome result × All IsTypedItem items
-  given-typed r (outcome.Took u) items h = (
+  tuple-typed : (r : Request) (result : Outcome) (items : List Item)
+      → IsGivenTuple TheFirst origin s r result items → IsTypedOutcome result × All IsTypedItem items
+  tuple-typed r (outcome.Took u) items h = (
     first-typed (IsMatch r.template) s.tuples u typed.tuples h.0,
     whole r.id _ _ items h.1 (after_taking-typed r.wants u s.tuples typed.tuples),
   )
-  given-typed r (outcome.Over Post (Some u)) items h = (
+  tuple-typed r (outcome.Over Post (Some u)) items h = (
     first-typed (IsMatch r.template) s.tuples u typed.tuples h.0,
     over r.id _ _ items h.1 (after_taking-typed r.wants u s.tuples typed.tuples),
   )
-  given-typed r _ items h = absurd h
+  tuple-typed r _ items h = absurd h
+
+  absence-typed : (r : Request) (result : Outcome) (items : List Item)
+      → IsToldAbsence TheFirst origin s r result items → IsTypedOutcome result × All IsTypedItem items
+  absence-typed r outcome.Absent items h = (tt, whole r.id _ _ items h.1 typed.tuples)
+  absence-typed r (outcome.Over Post None) items h = (tt, over r.id _ _ items h.1 typed.tuples)
+  absence-typed r _ items h = absurd h
+
+  given-typed : (wants : Wants) (r : Request) (result : Outcome) (items : List Item)
+      → IsGivenFor TheFirst origin s wants r result items → IsTypedOutcome result × All IsTypedItem items
+  given-typed Take r result items h = tuple-typed r result items h
+  given-typed Look r result items h = tuple-typed r result items h
+  given-typed Absence r result items h = absence-typed r result items h
 
 -- the outcomes of a typed history are typed
 outcome_given-typed : (history : List Entry) (id : CallId) → All IsTyped history → IsTypedOutcome (outcome_given history id)
@@ -237,6 +256,8 @@ or_given-typed outcome.Pending given here there = there
 or_given-typed outcome.Done given here there = here
 or_given-typed (outcome.Took u) given here there = here
 or_given-typed outcome.NoTuple given here there = here
+or_given-typed outcome.Absent given here there = here
+or_given-typed (outcome.Found u) given here there = here
 or_given-typed (outcome.Spec text) given here there = here
 or_given-typed (outcome.Over phase tuple) given here there = here
 
@@ -259,6 +280,8 @@ reply_of-typed : (result : Outcome) → IsTypedOutcome result → IfSome (reply_
 reply_of-typed outcome.Done h = tt
 reply_of-typed (outcome.Took u) h = h
 reply_of-typed outcome.NoTuple h = tt
+reply_of-typed outcome.Absent h = tt
+reply_of-typed (outcome.Found u) h = h
 reply_of-typed outcome.Pending h = tt
 reply_of-typed (outcome.Spec text) h = h
 reply_of-typed (outcome.Over phase tuple) h = tt
@@ -281,7 +304,7 @@ legal-typed origin history s (Gave id result items) typed all legal call =
     let r : Request = legal.request in
     let asked : IsTypedRequest r =
     All-contains IsTypedRequest s.pending r typed.pending (IsFirst-contains _ s.pending r legal.chosen) in
-    let given = given-typed origin s typed r result items legal.given in
+    let given = given-typed origin s typed r.wants r result items legal.given in
     (subst IsTypedId legal.asked asked.id, given.0, given.1)
 legal-typed origin history s (Looked id asked told) typed all legal call =
     let is = legal.2 in

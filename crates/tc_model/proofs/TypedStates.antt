@@ -10,10 +10,10 @@ use Rattle.tc_model.specs.State.{State, Origin, IsOrigin, IsTypedState, opening,
 use Rattle.tc_model.specs.State.{after_taking, after_search, unless_over, reached_by, after_answer, after_entry, after_history}
 use Rattle.tc_model.specs.declared.calls.CallId.{CallId}
 use Rattle.tc_model.specs.declared.calls.Op.{Op}
-use Rattle.tc_model.specs.declared.calls.Op.TheVariants.{Out, In, Rd, Inp, Rdp, SetSpec, GetSpec}
+use Rattle.tc_model.specs.declared.calls.Op.TheVariants.{Out, In, Rd, Inp, Rdp, No, Nop, SetSpec, GetSpec}
 use Rattle.tc_model.specs.declared.calls.Request.{Request}
 use Rattle.tc_model.specs.declared.calls.Wants.{Wants}
-use Rattle.tc_model.specs.declared.calls.Wants.TheVariants.{Take, Look}
+use Rattle.tc_model.specs.declared.calls.Wants.TheVariants.{Take, Look, Absence}
 use Rattle.tc_model.specs.declared.items.Effect.{Effect}
 use Rattle.tc_model.specs.declared.items.Effect.TheVariants.{Put, Took, Read}
 use Rattle.tc_model.specs.declared.items.Item.{Item}
@@ -60,12 +60,15 @@ pub after_taking-typed : (wants : Wants) (tuple : Tree) (tuples : List Tree)
     → All IsTuple tuples → All IsTuple (after_taking wants tuple tuples)
 after_taking-typed Take tuple tuples all = All-without_first IsTuple tuple tuples all
 after_taking-typed Look tuple tuples all = all
+after_taking-typed Absence tuple tuples all = all
 
 after_search-typed : (wants : Wants) (result : Outcome) (tuples : List Tree)
     → All IsTuple tuples → All IsTuple (after_search wants result tuples)
 after_search-typed wants outcome.Done tuples all = all
 after_search-typed wants (outcome.Took u) tuples all = after_taking-typed wants u tuples all
 after_search-typed wants outcome.NoTuple tuples all = all
+after_search-typed wants outcome.Absent tuples all = all
+after_search-typed wants (outcome.Found u) tuples all = all
 after_search-typed wants outcome.Pending tuples all = all
 after_search-typed wants (outcome.Spec text) tuples all = all
 after_search-typed wants (outcome.Over phase tuple) tuples all = all
@@ -75,6 +78,8 @@ unless_over-typed : (result : Outcome) (before reached : State)
 unless_over-typed outcome.Done before reached old new = new
 unless_over-typed (outcome.Took u) before reached old new = new
 unless_over-typed outcome.NoTuple before reached old new = new
+unless_over-typed outcome.Absent before reached old new = new
+unless_over-typed (outcome.Found u) before reached old new = new
 unless_over-typed outcome.Pending before reached old new = new
 unless_over-typed (outcome.Spec text) before reached old new = new
 unless_over-typed (outcome.Over phase tuple) before reached old new = old
@@ -121,6 +126,10 @@ module _ (s : State) (typed : IsTypedState s) where
   reached_by-typed id (Rdp t) result items call asked all =
       with_tuples-typed (after_items items (after_search Look result s.tuples))
       (after_items-typed items (after_search Look result s.tuples) all (after_search-typed Look result s.tuples typed.tuples))
+  reached_by-typed id (No t) result items call asked all =
+      waits-typed id Absence t items all (record { id = call; template = asked })
+  reached_by-typed id (Nop t) result items call asked all =
+      with_tuples-typed (after_items items s.tuples) (after_items-typed items s.tuples all typed.tuples)
   reached_by-typed id (SetSpec clauses) result items call asked all =
       record { tuples = typed.tuples; clauses = asked; pending = typed.pending }
   reached_by-typed id GetSpec result items call asked all = typed

@@ -9,10 +9,10 @@ use Rattle.tc_model.specs.Run.{IsLegal, IsRun}
 use Rattle.tc_model.specs.Waiting.{IsImmediate, NeverWaits, GivesNothing}
 use Rattle.tc_model.specs.declared.calls.CallId.{CallId}
 use Rattle.tc_model.specs.declared.calls.Op.{Op}
-use Rattle.tc_model.specs.declared.calls.Op.TheVariants.{Out, In, Rd, Inp, Rdp, SetSpec, GetSpec}
+use Rattle.tc_model.specs.declared.calls.Op.TheVariants.{Out, In, Rd, Inp, Rdp, No, Nop, SetSpec, GetSpec}
 use Rattle.tc_model.specs.declared.items.Item.{Item}
 use Rattle.tc_model.specs.declared.outcomes.Outcome.{Outcome}
-use Rattle.tc_model.specs.declared.outcomes.Outcome.TheVariants.{Done, Took, NoTuple, Pending, Spec, Over}
+use Rattle.tc_model.specs.declared.outcomes.Outcome.TheVariants.{Done, Took, NoTuple, Absent, Found, Pending, Spec, Over}
 use Rattle.tc_model.specs.declared.entries.Entry.{Entry}
 use Rattle.tc_model.specs.declared.entries.Entry.TheVariants.{Called, Gave, Looked}
 use Rattle.tc_model.proofs.Runs.{after_history-push}
@@ -24,6 +24,8 @@ reached-pending id (In t) result items s immediate = absurd immediate
 reached-pending id (Rd t) result items s immediate = absurd immediate
 reached-pending id (Inp t) result items s immediate = refl
 reached-pending id (Rdp t) result items s immediate = refl
+reached-pending id (No t) result items s immediate = absurd immediate
+reached-pending id (Nop t) result items s immediate = refl
 reached-pending id (SetSpec clauses) result items s immediate = refl
 reached-pending id GetSpec result items s immediate = refl
 
@@ -33,6 +35,8 @@ call-pending id op (Over phase tuple) items s immediate = refl
 call-pending id op Done items s immediate = reached-pending id op Done items s immediate
 call-pending id op (Took u) items s immediate = reached-pending id op (Took u) items s immediate
 call-pending id op NoTuple items s immediate = reached-pending id op NoTuple items s immediate
+call-pending id op Absent items s immediate = reached-pending id op Absent items s immediate
+call-pending id op (Found u) items s immediate = reached-pending id op (Found u) items s immediate
 call-pending id op Pending items s immediate = reached-pending id op Pending items s immediate
 call-pending id op (Spec text) items s immediate = reached-pending id op (Spec text) items s immediate
 

@@ -17,9 +17,9 @@ use Rattle.tc_model.specs.Tables.{IsServed}
 use Rattle.tc_model.specs.Waiting.{HasRequest, AreWaiting}
 use Rattle.tc_model.specs.declared.calls.CallId.{CallId}
 use Rattle.tc_model.specs.declared.calls.Op.{Op}
-use Rattle.tc_model.specs.declared.calls.Op.TheVariants.{Out, In, Rd}
+use Rattle.tc_model.specs.declared.calls.Op.TheVariants.{Out, In, Rd, No}
 use Rattle.tc_model.specs.declared.calls.Request.{Request}
-use Rattle.tc_model.specs.declared.calls.Wants.TheVariants.{Take, Look}
+use Rattle.tc_model.specs.declared.calls.Wants.TheVariants.{Take, Look, Absence}
 use Rattle.tc_model.specs.declared.items.Item.{Item}
 use Rattle.tc_model.specs.declared.outcomes.Outcome.{Outcome}
 use Rattle.tc_model.specs.declared.outcomes.Outcome.TheVariants.{Took, Pending, Over}
@@ -220,13 +220,20 @@ module _ (origin : Origin) (history : List Entry) (s : State) (waiting : AreWait
       let none = reply_in-called history id (Rd t) Pending items next.number in
       waiting-grows history (Called id (Rd t) Pending items) s.pending waiting
       (λ j. HasCall-other history id j next.number) (record { id = id; wants = Look; template = t }) refl none
+  waiting-called_next id (No t) Pending items next served =
+      let none = reply_in-called history id (No t) Pending items next.number in
+      waiting-grows history (Called id (No t) Pending items) s.pending waiting
+      (λ j. HasCall-other history id j next.number) (record { id = id; wants = Absence; template = t }) refl none
   waiting-called_next id _ Pending items next served = absurd served
   waiting-called_next id (In t) (Over phase tuple) items next served =
       waiting-replied id (In t) (Over phase tuple) items next (λ none. absurd (cc))
   waiting-called_next id (Rd t) (Over phase tuple) items next served =
       waiting-replied id (Rd t) (Over phase tuple) items next (λ none. absurd (cc))
+  waiting-called_next id (No t) (Over phase tuple) items next served =
+      waiting-replied id (No t) (Over phase tuple) items next (λ none. absurd (cc))
   waiting-called_next id (In t) _ items next served = absurd served
   waiting-called_next id (Rd t) _ items next served = absurd served
+  waiting-called_next id (No t) _ items next served = absurd served
   waiting-called_next id op result items next served = waiting-replied id op result items next (λ none. absurd (cc))
 
   waiting-answered : (id : CallId) (result : Outcome) (items : List Item)

@@ -7,18 +7,20 @@ use Rattle.tc_model.specs.Events.{Occurrence, Setting}
 use Rattle.tc_model.specs.Reactions.{Rule}
 use Rattle.tc_model.specs.Cascades.{Wave, IsTried, Cascades, IsWhole, IsOver}
 use Rattle.tc_model.specs.State.{State, Origin}
-use Rattle.tc_model.specs.Tables.{IsServed, IsGiven}
+use Rattle.tc_model.specs.Tables.{IsServed, IsGivenTuple, IsToldAbsence, IsGivenFor}
 use Rattle.tc_model.specs.Run.{IsLegal}
 use Rattle.tc_model.specs.Entries.{IsOutcomeWellFormed, IsAnswerOutcome, IsNumbered, IsWellFormed}
 use Rattle.tc_model.specs.declared.calls.CallId.{CallId}
 use Rattle.tc_model.specs.declared.calls.Op.{Op}
-use Rattle.tc_model.specs.declared.calls.Op.TheVariants.{Out, In, Rd, Inp, Rdp, SetSpec, GetSpec}
+use Rattle.tc_model.specs.declared.calls.Op.TheVariants.{Out, In, Rd, Inp, Rdp, No, Nop, SetSpec, GetSpec}
 use Rattle.tc_model.specs.declared.calls.Request.{Request}
+use Rattle.tc_model.specs.declared.calls.Wants.{Wants}
+use Rattle.tc_model.specs.declared.calls.Wants.TheVariants.{Take, Look, Absence}
 use Rattle.tc_model.specs.declared.events.Phase.TheVariants.{Pre, Post}
 use Rattle.tc_model.specs.declared.items.Item.{Item}
 use Rattle.tc_model.specs.declared.items.Item.TheVariants.{Fired, Failed}
 use Rattle.tc_model.specs.declared.outcomes.Outcome.{Outcome}
-use Rattle.tc_model.specs.declared.outcomes.Outcome.TheVariants.{Done, Took, NoTuple, Pending, Spec, Over}
+use Rattle.tc_model.specs.declared.outcomes.Outcome.TheVariants.{Done, Took, NoTuple, Absent, Found, Pending, Spec, Over}
 use Rattle.tc_model.specs.declared.entries.Entry.{Entry}
 use Rattle.tc_model.specs.declared.entries.Entry.TheVariants.{Called, Gave, Looked}
 
@@ -67,21 +69,39 @@ module _ (choice : Choice) (origin : Origin) (s : State) where
   served-well_formed id (Inp t) (Over Post None) items h = (tt, over-numbered choice s.clauses _ origin.budget _ _ items h.1)
   served-well_formed id (Rdp t) NoTuple items h = (tt, whole-numbered choice s.clauses _ origin.budget _ _ items h.1)
   served-well_formed id (Rdp t) (Over Post None) items h = (tt, over-numbered choice s.clauses _ origin.budget _ _ items h.1)
+  served-well_formed id (Nop t) Absent items h = (tt, whole-numbered choice s.clauses _ origin.budget _ _ items h.1)
+  served-well_formed id (Nop t) (Over Post None) items h = (tt, over-numbered choice s.clauses _ origin.budget _ _ items h.1)
+  served-well_formed id (Nop t) (Found u) items h = (tt, whole-numbered choice s.clauses _ origin.budget _ _ items h.1)
+  served-well_formed id (Nop t) (Over Post (Some u)) items h = (tt, over-numbered choice s.clauses _ origin.budget _ _ items h.1)
   served-well_formed id (In t) Pending items h = (tt, whole-numbered choice s.clauses _ origin.budget _ _ items h)
   served-well_formed id (In t) (Over Pre None) items h = (tt, over-numbered choice s.clauses _ origin.budget _ _ items h)
   served-well_formed id (Rd t) Pending items h = (tt, whole-numbered choice s.clauses _ origin.budget _ _ items h)
   served-well_formed id (Rd t) (Over Pre None) items h = (tt, over-numbered choice s.clauses _ origin.budget _ _ items h)
+  served-well_formed id (No t) Pending items h = (tt, whole-numbered choice s.clauses _ origin.budget _ _ items h)
+  served-well_formed id (No t) (Over Pre None) items h = (tt, over-numbered choice s.clauses _ origin.budget _ _ items h)
   served-well_formed id (SetSpec clauses) Done items h = (tt, subst (All IsNumbered) (sym h) (All-nil IsNumbered))
   served-well_formed id GetSpec (Spec text) items h = (tt, subst (All IsNumbered) (sym h.1) (All-nil IsNumbered))
   served-well_formed id _ _ items h = absurd h
 
-  given-well_formed : (r : Request) (result : Outcome) (items : List Item)
-      → IsGiven choice origin s r result items → IsAnswerOutcome result × All IsNumbered items
-  given-well_formed r (Took u) items h = (tt, whole-numbered choice s.clauses _ origin.budget _ _ items h.1)
-  given-well_formed r (Over Post (Some u)) items h = (tt, over-numbered choice s.clauses _ origin.budget _ _ items h.1)
-  given-well_formed r _ items h = absurd h
+  tuple-well_formed : (r : Request) (result : Outcome) (items : List Item)
+      → IsGivenTuple choice origin s r result items → IsAnswerOutcome result × All IsNumbered items
+  tuple-well_formed r (Took u) items h = (tt, whole-numbered choice s.clauses _ origin.budget _ _ items h.1)
+  tuple-well_formed r (Over Post (Some u)) items h = (tt, over-numbered choice s.clauses _ origin.budget _ _ items h.1)
+  tuple-well_formed r _ items h = absurd h
+
+  absence-well_formed : (r : Request) (result : Outcome) (items : List Item)
+      → IsToldAbsence choice origin s r result items → IsAnswerOutcome result × All IsNumbered items
+  absence-well_formed r Absent items h = (tt, whole-numbered choice s.clauses _ origin.budget _ _ items h.1)
+  absence-well_formed r (Over Post None) items h = (tt, over-numbered choice s.clauses _ origin.budget _ _ items h.1)
+  absence-well_formed r _ items h = absurd h
+
+  given-well_formed : (wants : Wants) (r : Request) (result : Outcome) (items : List Item)
+      → IsGivenFor choice origin s wants r result items → IsAnswerOutcome result × All IsNumbered items
+  given-well_formed Take r result items h = tuple-well_formed r result items h
+  given-well_formed Look r result items h = tuple-well_formed r result items h
+  given-well_formed Absence r result items h = absence-well_formed r result items h
 
   pub legal-well_formed : (history : List Entry) (e : Entry) → IsLegal choice origin history s e → IsWellFormed e
   legal-well_formed history (Called id op result items) h = served-well_formed id op result items h.2
-  legal-well_formed history (Gave id result items) h = given-well_formed h.request result items h.given
+  legal-well_formed history (Gave id result items) h = given-well_formed h.request.wants h.request result items h.given
   legal-well_formed history (Looked id asked reply) h = tt

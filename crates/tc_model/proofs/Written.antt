@@ -34,6 +34,8 @@ not_a_primitive name t other (ask.In u) e = other primitive.In (cc)
 not_a_primitive name t other (ask.Rd u) e = other primitive.Rd (cc)
 not_a_primitive name t other (ask.Inp u) e = other primitive.Inp (cc)
 not_a_primitive name t other (ask.Rdp u) e = other primitive.Rdp (cc)
+not_a_primitive name t other (ask.No u) e = other primitive.No (cc)
+not_a_primitive name t other (ask.Nop u) e = other primitive.Nop (cc)
 not_a_primitive name t other (ask.SetSpec u) e = other primitive.SetSpec (cc)
 not_a_primitive name t other ask.GetSpec e = cc
 
@@ -50,7 +52,9 @@ primitive_at name =
     else (if bytes_eq name (primitive_name primitive.Rd) then primitive.Rd
     else (if bytes_eq name (primitive_name primitive.Inp) then primitive.Inp
     else (if bytes_eq name (primitive_name primitive.Rdp) then primitive.Rdp
-    else (if bytes_eq name (primitive_name primitive.SetSpec) then primitive.SetSpec else primitive.GetSpec)))))
+    else (if bytes_eq name (primitive_name primitive.No) then primitive.No
+    else (if bytes_eq name (primitive_name primitive.Nop) then primitive.Nop
+    else (if bytes_eq name (primitive_name primitive.SetSpec) then primitive.SetSpec else primitive.GetSpec)))))))
 
 pub primitive_at-name : (p : Primitive) → primitive_at (primitive_name p) ≡ p
 primitive_at-name primitive.Out = refl
@@ -58,6 +62,8 @@ primitive_at-name primitive.In = refl
 primitive_at-name primitive.Rd = refl
 primitive_at-name primitive.Inp = refl
 primitive_at-name primitive.Rdp = refl
+primitive_at-name primitive.No = refl
+primitive_at-name primitive.Nop = refl
 primitive_at-name primitive.SetSpec = refl
 primitive_at-name primitive.GetSpec = refl
 
@@ -68,6 +74,8 @@ ask_by primitive.In t = ask.In t
 ask_by primitive.Rd t = ask.Rd t
 ask_by primitive.Inp t = ask.Inp t
 ask_by primitive.Rdp t = ask.Rdp t
+ask_by primitive.No t = ask.No t
+ask_by primitive.Nop t = ask.Nop t
 ask_by primitive.SetSpec t = ask.SetSpec t
 ask_by primitive.GetSpec t = ask.GetSpec
 
@@ -82,6 +90,8 @@ ask_at-term (ask.In t) = ap ask.In (term_of-tree_of t)
 ask_at-term (ask.Rd t) = ap ask.Rd (term_of-tree_of t)
 ask_at-term (ask.Inp t) = ap ask.Inp (term_of-tree_of t)
 ask_at-term (ask.Rdp t) = ap ask.Rdp (term_of-tree_of t)
+ask_at-term (ask.No t) = ap ask.No (term_of-tree_of t)
+ask_at-term (ask.Nop t) = ap ask.Nop (term_of-tree_of t)
 ask_at-term (ask.SetSpec t) = ap ask.SetSpec (term_of-tree_of t)
 ask_at-term ask.GetSpec = refl
 

@@ -3,7 +3,8 @@ use Rattle.std.specs.Prelude.{ℕ, List, codes, Option, Some, None}
 use Rattle.tc_term.specs.Tree.{Tree}
 use Rattle.tc_term.specs.TreeView.{tree_of}
 use Rattle.tc_model.specs.declared.asks.Ask.{Ask}
-use Rattle.tc_model.specs.declared.asks.Ask.TheVariants.{Out, In, Rd, Inp, Rdp, SetSpec, GetSpec}
+use Rattle.tc_model.specs.declared.asks.Ask.TheVariants.{Out, In, Rd, Inp, Rdp, No, Nop}
+use Rattle.tc_model.specs.declared.asks.Ask.TheVariants.{SetSpec, GetSpec}
 use Rattle.tc_model.specs.declared.asks.Primitive.{Primitive}
 use Rattle.tc_model.specs.declared.asks.Primitive.TheVariants as primitive
 
@@ -14,6 +15,8 @@ primitive_name primitive.In = codes "in"
 primitive_name primitive.Rd = codes "rd"
 primitive_name primitive.Inp = codes "inp"
 primitive_name primitive.Rdp = codes "rdp"
+primitive_name primitive.No = codes "no"
+primitive_name primitive.Nop = codes "nop"
 primitive_name primitive.SetSpec = codes "set_spec"
 primitive_name primitive.GetSpec = codes "get_spec"
 
@@ -24,6 +27,8 @@ primitive_of (In t) = primitive.In
 primitive_of (Rd t) = primitive.Rd
 primitive_of (Inp t) = primitive.Inp
 primitive_of (Rdp t) = primitive.Rdp
+primitive_of (No t) = primitive.No
+primitive_of (Nop t) = primitive.Nop
 primitive_of (SetSpec t) = primitive.SetSpec
 primitive_of GetSpec = primitive.GetSpec
 
@@ -34,5 +39,7 @@ operand_of (In t) = Some (tree_of t)
 operand_of (Rd t) = Some (tree_of t)
 operand_of (Inp t) = Some (tree_of t)
 operand_of (Rdp t) = Some (tree_of t)
+operand_of (No t) = Some (tree_of t)
+operand_of (Nop t) = Some (tree_of t)
 operand_of (SetSpec t) = Some (tree_of t)
 operand_of GetSpec = None

@@ -43,17 +43,21 @@ IsOutcomeWellFormed (outcome.Over Post tuple) = Unit {0}
 IsOutcomeWellFormed outcome.Done = Unit {0}
 IsOutcomeWellFormed (outcome.Took tuple) = Unit {0}
 IsOutcomeWellFormed outcome.NoTuple = Unit {0}
+IsOutcomeWellFormed outcome.Absent = Unit {0}
+IsOutcomeWellFormed (outcome.Found tuple) = Unit {0}
 IsOutcomeWellFormed outcome.Pending = Unit {0}
 IsOutcomeWellFormed (outcome.Spec text) = Unit {0}
 
--- an answer has the tuple that was chosen for the request; no other outcome is one of an answer
+-- an answer has the tuple that was chosen for the request, or says that none matches; no other
+-- outcome is one of an answer
 abbrev pub IsAnswerOutcome : Outcome → Type 0
 IsAnswerOutcome (outcome.Took tuple) = Unit {0}
-IsAnswerOutcome (outcome.Over Post (Some tuple)) = Unit {0}
-IsAnswerOutcome (outcome.Over Post None) = ⊥
+IsAnswerOutcome outcome.Absent = Unit {0}
+IsAnswerOutcome (outcome.Over Post tuple) = Unit {0}
 IsAnswerOutcome (outcome.Over Pre tuple) = ⊥
 IsAnswerOutcome outcome.Done = ⊥
 IsAnswerOutcome outcome.NoTuple = ⊥
+IsAnswerOutcome (outcome.Found tuple) = ⊥
 IsAnswerOutcome outcome.Pending = ⊥
 IsAnswerOutcome (outcome.Spec text) = ⊥
 

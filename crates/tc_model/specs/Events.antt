@@ -32,16 +32,26 @@ MayOccur op.Inp Post Success = Unit {0}
 MayOccur op.Inp Post Failure = Unit {0}
 MayOccur op.Rdp Post Success = Unit {0}
 MayOccur op.Rdp Post Failure = Unit {0}
+MayOccur op.No Pre Neither = Unit {0}
+MayOccur op.No Post Success = Unit {0}
+MayOccur op.Nop Post Success = Unit {0}
+MayOccur op.Nop Post Failure = Unit {0}
 MayOccur op.OutR Post Success = Unit {0}
 MayOccur op.InR Post Success = Unit {0}
 MayOccur op.RdR Post Success = Unit {0}
 MayOccur operation phase sign = ⊥
 
--- an event of the table; where it succeeded, its term is a tuple
+-- the operation succeeds with a tuple: `no` and `nop` succeed where none matches
+abbrev pub SucceedsWithTuple : EventOp → Type 0
+SucceedsWithTuple op.No = ⊥
+SucceedsWithTuple op.Nop = ⊥
+SucceedsWithTuple operation = Unit {0}
+
+-- an event of the table; where it succeeded with a tuple, this is its term
 pub record IsOccurrence (e : Occurrence) : Type 0 where
   pub allowed : MayOccur e.op e.phase e.sign
   pub term : IsPattern e.term
-  pub tuple : e.sign ≡ Success → IsTrue (is_ground e.term)
+  pub tuple : e.sign ≡ Success → SucceedsWithTuple e.op → IsTrue (is_ground e.term)
 
 -- in whose name reactions run, and at which centre
 pub record Setting : Type 0 where
@@ -53,17 +63,17 @@ pub record IsSetting (setting : Setting) : Type 0 where
   pub agent : length setting.agent ≤ MOST_NAME_BYTES
   pub centre : length setting.centre ≤ MOST_NAME_BYTES
 
--- an operation has succeeded with this tuple
+-- an operation has succeeded with this tuple, or because none matches this template
 abbrev pub success_event : EventOp → Tree → Occurrence
-success_event operation tuple =
-    record { op = operation; term = tuple; phase = Post; sign = Success }
+success_event operation term =
+    record { op = operation; term = term; phase = Post; sign = Success }
 
--- an operation has found no tuple for the template
+-- an operation hasn't found for the template what it asked for: a tuple, or that there is none
 abbrev pub failure_event : EventOp → Tree → Occurrence
 failure_event operation template =
     record { op = operation; term = template; phase = Post; sign = Failure }
 
--- an operation is about to wait for a tuple
+-- an operation is about to wait for a tuple, or for the absence of all that match
 abbrev pub request_event : EventOp → Tree → Occurrence
 request_event operation template =
     record { op = operation; term = template; phase = Pre; sign = Neither }
@@ -81,6 +91,8 @@ op_name op.In = primitive_name primitive.In
 op_name op.Rd = primitive_name primitive.Rd
 op_name op.Inp = primitive_name primitive.Inp
 op_name op.Rdp = primitive_name primitive.Rdp
+op_name op.No = primitive_name primitive.No
+op_name op.Nop = primitive_name primitive.Nop
 op_name op.OutR = codes "out_r"
 op_name op.InR = codes "in_r"
 op_name op.RdR = codes "rd_r"

@@ -14,6 +14,8 @@ abbrev pub reply_of : Outcome → Option Reply
 reply_of outcome.Done = Some reply.Done
 reply_of (outcome.Took tuple) = Some (reply.Tuple tuple)
 reply_of outcome.NoTuple = Some reply.NoTuple
+reply_of outcome.Absent = Some reply.Absent
+reply_of (outcome.Found tuple) = Some (reply.Found tuple)
 reply_of outcome.Pending = None
 reply_of (outcome.Spec text) = Some (reply.Spec text)
 reply_of (outcome.Over phase tuple) = Some (reply.OverBudget phase)
@@ -31,6 +33,8 @@ or_given outcome.Pending given = given
 or_given outcome.Done given = outcome.Done
 or_given (outcome.Took tuple) given = outcome.Took tuple
 or_given outcome.NoTuple given = outcome.NoTuple
+or_given outcome.Absent given = outcome.Absent
+or_given (outcome.Found tuple) given = outcome.Found tuple
 or_given (outcome.Spec text) given = outcome.Spec text
 or_given (outcome.Over phase tuple) given = outcome.Over phase tuple
 

@@ -12,10 +12,11 @@ use Rattle.tc_model.specs.Typed.{AreBytes, IsTypedRequest}
 use Rattle.tc_model.specs.declared.limits.TheConstants.{MOST_NAME_BYTES, MOST_BUDGET, MOST_TUPLES}
 use Rattle.tc_model.specs.declared.calls.CallId.{CallId}
 use Rattle.tc_model.specs.declared.calls.Op.{Op}
-use Rattle.tc_model.specs.declared.calls.Op.TheVariants.{Out, In, Rd, Inp, Rdp, SetSpec, GetSpec}
+use Rattle.tc_model.specs.declared.calls.Op.TheVariants.{Out, In, Rd, Inp, Rdp, No, Nop}
+use Rattle.tc_model.specs.declared.calls.Op.TheVariants.{SetSpec, GetSpec}
 use Rattle.tc_model.specs.declared.calls.Request.{Request}
 use Rattle.tc_model.specs.declared.calls.Wants.{Wants}
-use Rattle.tc_model.specs.declared.calls.Wants.TheVariants.{Take, Look}
+use Rattle.tc_model.specs.declared.calls.Wants.TheVariants.{Take, Look, Absence}
 use Rattle.tc_model.specs.declared.items.Item.{Item}
 use Rattle.tc_model.specs.declared.outcomes.Outcome.{Outcome}
 use Rattle.tc_model.specs.declared.outcomes.Outcome.TheVariants as outcome
@@ -78,11 +79,31 @@ pub record IsTypedState (s : State) : Type 0 where
 abbrev pub IsMatch : Tree → Tree → Type 0
 IsMatch template tuple = Matches (var_bound template) [] template tuple
 
--- some tuple of the list matches the request's template
-pub record IsAnswerable (tuples : List Tree) (request : Request) : Type 0 where
+-- some tuple of the list matches the template
+pub record SomeMatches (tuples : List Tree) (template : Tree) : Type 0 where
   pub tuple : Tree
   pub stands : Contains tuples tuple
-  pub matches : IsMatch request.template tuple
+  pub matches : IsMatch template tuple
+
+-- no tuple of the list matches the template
+abbrev pub NoneMatches : List Tree → Tree → Type 0
+NoneMatches tuples template = NoneOf (IsMatch template) tuples
+
+-- one of the tuples that match is wanted, and not that there is none
+abbrev pub WantsTuple : Wants → Type 0
+WantsTuple Take = Unit {0}
+WantsTuple Look = Unit {0}
+WantsTuple Absence = ⊥
+
+-- what is wanted of the tuples that match the template is there: one of them, or that there is none
+abbrev pub IsThere : Wants → List Tree → Tree → Type 0
+IsThere Take tuples template = SomeMatches tuples template
+IsThere Look tuples template = SomeMatches tuples template
+IsThere Absence tuples template = NoneMatches tuples template
+
+-- what the request wants is there
+abbrev pub IsAnswerable : List Tree → Request → Type 0
+IsAnswerable tuples request = IsThere request.wants tuples request.template
 
 -- no request that waits can be answered
 abbrev pub IsQuiescent : State → Type 0
@@ -102,6 +123,7 @@ wants_of id (r ∷ rs) = if same_id r.id id then r.wants else wants_of id rs
 abbrev pub after_taking : Wants → Tree → List Tree → List Tree
 after_taking Take tuple tuples = without_first tuple tuples
 after_taking Look tuple tuples = tuples
+after_taking Absence tuple tuples = tuples
 
 -- the state with these tuples, or with these clauses
 abbrev pub with_tuples : List Tree → State → State
@@ -125,6 +147,8 @@ with_answered id s = record s { pending = without_request id s.pending }
 abbrev pub after_search : Wants → Outcome → List Tree → List Tree
 after_search wants (outcome.Took u) tuples = after_taking wants u tuples
 after_search wants outcome.NoTuple tuples = tuples
+after_search wants outcome.Absent tuples = tuples
+after_search wants (outcome.Found u) tuples = tuples
 after_search wants outcome.Done tuples = tuples
 after_search wants outcome.Pending tuples = tuples
 after_search wants (outcome.Spec text) tuples = tuples
@@ -136,6 +160,8 @@ unless_over (outcome.Over phase tuple) before reached = before
 unless_over outcome.Done before reached = reached
 unless_over (outcome.Took u) before reached = reached
 unless_over outcome.NoTuple before reached = reached
+unless_over outcome.Absent before reached = reached
+unless_over (outcome.Found u) before reached = reached
 unless_over outcome.Pending before reached = reached
 unless_over (outcome.Spec text) before reached = reached
 
@@ -150,6 +176,9 @@ reached_by id (In t) result items s =
     with_request id Take t (with_tuples (after_items items s.tuples) s)
 reached_by id (Rd t) result items s =
     with_request id Look t (with_tuples (after_items items s.tuples) s)
+reached_by id (No t) result items s =
+    with_request id Absence t (with_tuples (after_items items s.tuples) s)
+reached_by id (Nop t) result items s = with_tuples (after_items items s.tuples) s
 reached_by id (SetSpec clauses) result items s = with_clauses clauses s
 reached_by id GetSpec result items s = s
 

@@ -5,7 +5,8 @@ use Rattle.tc_term.specs.Variables.{IsPattern}
 use Rattle.tc_model.specs.Reactions.{AreClauses}
 use Rattle.tc_model.specs.declared.calls.CallId.{CallId}
 use Rattle.tc_model.specs.declared.calls.Op.{Op}
-use Rattle.tc_model.specs.declared.calls.Op.TheVariants.{Out, In, Rd, Inp, Rdp, SetSpec, GetSpec}
+use Rattle.tc_model.specs.declared.calls.Op.TheVariants.{Out, In, Rd, Inp, Rdp, No, Nop}
+use Rattle.tc_model.specs.declared.calls.Op.TheVariants.{SetSpec, GetSpec}
 use Rattle.tc_model.specs.declared.calls.Request.{Request}
 use Rattle.tc_model.specs.declared.items.Effect.{Effect}
 use Rattle.tc_model.specs.declared.items.Effect.TheVariants.{Put, Took, Read}
@@ -42,6 +43,8 @@ IsTypedOp (In template) = IsPattern template
 IsTypedOp (Rd template) = IsPattern template
 IsTypedOp (Inp template) = IsPattern template
 IsTypedOp (Rdp template) = IsPattern template
+IsTypedOp (No template) = IsPattern template
+IsTypedOp (Nop template) = IsPattern template
 IsTypedOp (SetSpec clauses) = AreClauses clauses
 IsTypedOp GetSpec = Unit {0}
 
@@ -67,6 +70,8 @@ abbrev pub IsTypedOutcome : Outcome → Type 0
 IsTypedOutcome outcome.Done = Unit {0}
 IsTypedOutcome (outcome.Took tuple) = IsTuple tuple
 IsTypedOutcome outcome.NoTuple = Unit {0}
+IsTypedOutcome outcome.Absent = Unit {0}
+IsTypedOutcome (outcome.Found tuple) = IsTuple tuple
 IsTypedOutcome outcome.Pending = Unit {0}
 IsTypedOutcome (outcome.Spec text) = AreBytes text
 IsTypedOutcome (outcome.Over phase tuple) = IfSome tuple IsTuple
@@ -76,6 +81,8 @@ abbrev pub IsTypedReply : Reply → Type 0
 IsTypedReply reply.Done = Unit {0}
 IsTypedReply (reply.Tuple tuple) = IsTuple tuple
 IsTypedReply reply.NoTuple = Unit {0}
+IsTypedReply reply.Absent = Unit {0}
+IsTypedReply (reply.Found tuple) = IsTuple tuple
 IsTypedReply (reply.Spec text) = AreBytes text
 IsTypedReply (reply.OverBudget phase) = Unit {0}
 

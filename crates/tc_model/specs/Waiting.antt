@@ -5,7 +5,8 @@ use Rattle.tc_model.specs.Replies.{reply_in}
 use Rattle.tc_model.specs.Run.{HasCall}
 use Rattle.tc_model.specs.declared.calls.CallId.{CallId}
 use Rattle.tc_model.specs.declared.calls.Op.{Op}
-use Rattle.tc_model.specs.declared.calls.Op.TheVariants.{Out, In, Rd, Inp, Rdp, SetSpec, GetSpec}
+use Rattle.tc_model.specs.declared.calls.Op.TheVariants.{Out, In, Rd, Inp, Rdp, No, Nop}
+use Rattle.tc_model.specs.declared.calls.Op.TheVariants.{SetSpec, GetSpec}
 use Rattle.tc_model.specs.declared.calls.Request.{Request}
 use Rattle.tc_model.specs.declared.entries.Entry.{Entry}
 use Rattle.tc_model.specs.declared.entries.Entry.TheVariants.{Called, Gave, Looked}
@@ -17,6 +18,8 @@ IsImmediate (In t) = ⊥
 IsImmediate (Rd t) = ⊥
 IsImmediate (Inp t) = Unit {0}
 IsImmediate (Rdp t) = Unit {0}
+IsImmediate (No t) = ⊥
+IsImmediate (Nop t) = Unit {0}
 IsImmediate (SetSpec clauses) = Unit {0}
 IsImmediate GetSpec = Unit {0}
 

@@ -16,6 +16,8 @@ pub enum Primitive {
     Rd,
     Inp,
     Rdp,
+    No,
+    Nop,
     SetSpec,
     GetSpec,
 }
@@ -31,6 +33,8 @@ impl Primitive {
             Primitive::Rd => b"rd",
             Primitive::Inp => b"inp",
             Primitive::Rdp => b"rdp",
+            Primitive::No => b"no",
+            Primitive::Nop => b"nop",
             Primitive::SetSpec => b"set_spec",
             Primitive::GetSpec => b"get_spec",
         }
@@ -52,6 +56,10 @@ pub fn primitive_of(name: &[u8]) -> Option<Primitive>
         Some(Primitive::Inp)
     } else if name == Primitive::Rdp.name() {
         Some(Primitive::Rdp)
+    } else if name == Primitive::No.name() {
+        Some(Primitive::No)
+    } else if name == Primitive::Nop.name() {
+        Some(Primitive::Nop)
     } else if name == Primitive::SetSpec.name() {
         Some(Primitive::SetSpec)
     } else if name == Primitive::GetSpec.name() {
@@ -70,6 +78,8 @@ pub enum Ask {
     Rd(Term),
     Inp(Term),
     Rdp(Term),
+    No(Term),
+    Nop(Term),
     SetSpec(Term),
     GetSpec,
 }
@@ -87,6 +97,8 @@ impl Ask {
             Ask::Rd(_) => Primitive::Rd,
             Ask::Inp(_) => Primitive::Inp,
             Ask::Rdp(_) => Primitive::Rdp,
+            Ask::No(_) => Primitive::No,
+            Ask::Nop(_) => Primitive::Nop,
             Ask::SetSpec(_) => Primitive::SetSpec,
             Ask::GetSpec => Primitive::GetSpec,
         }
@@ -102,6 +114,8 @@ impl Ask {
             Ask::Rd(t) => Ok(Ask::Rd(copy_term(alloc, t)?)),
             Ask::Inp(t) => Ok(Ask::Inp(copy_term(alloc, t)?)),
             Ask::Rdp(t) => Ok(Ask::Rdp(copy_term(alloc, t)?)),
+            Ask::No(t) => Ok(Ask::No(copy_term(alloc, t)?)),
+            Ask::Nop(t) => Ok(Ask::Nop(copy_term(alloc, t)?)),
             Ask::SetSpec(t) => Ok(Ask::SetSpec(copy_term(alloc, t)?)),
             Ask::GetSpec => Ok(Ask::GetSpec),
         }

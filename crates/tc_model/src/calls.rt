@@ -28,6 +28,10 @@ pub enum Op {
     Inp(Pattern),
     /// Reads such a tuple, where there is one.
     Rdp(Pattern),
+    /// Waits until no tuple matches the template.
+    No(Pattern),
+    /// Tells whether a tuple matches the template, and which.
+    Nop(Pattern),
     /// Replaces the clauses.
     SetSpec(Clauses),
     /// Asks for the text of the clauses.
@@ -41,6 +45,8 @@ pub enum Wants {
     Take,
     /// One of them, which stays.
     Look,
+    /// That there is none.
+    Absence,
 }
 
 /// A call that waits for what it wants.
@@ -65,6 +71,9 @@ impl Op {
             Op::In(template) | Op::Rd(template) | Op::Inp(template) | Op::Rdp(template) => {
                 let _term = template.term();
             }
+            Op::No(template) | Op::Nop(template) => {
+                let _term = template.term();
+            }
             Op::SetSpec(clauses) => {
                 let _items = clauses.items();
             }
@@ -82,6 +91,8 @@ impl Op {
             Op::Rd(template) => Ok(Op::Rd(template.copy(alloc)?)),
             Op::Inp(template) => Ok(Op::Inp(template.copy(alloc)?)),
             Op::Rdp(template) => Ok(Op::Rdp(template.copy(alloc)?)),
+            Op::No(template) => Ok(Op::No(template.copy(alloc)?)),
+            Op::Nop(template) => Ok(Op::Nop(template.copy(alloc)?)),
             Op::SetSpec(clauses) => Ok(Op::SetSpec(clauses.copy(alloc)?)),
             Op::GetSpec => Ok(Op::GetSpec),
         }

@@ -17,6 +17,8 @@ pub enum EventOp {
     Rd,
     Inp,
     Rdp,
+    No,
+    Nop,
     OutR,
     InR,
     RdR,
@@ -37,6 +39,8 @@ impl EventOp {
             EventOp::Rd => Primitive::Rd.name(),
             EventOp::Inp => Primitive::Inp.name(),
             EventOp::Rdp => Primitive::Rdp.name(),
+            EventOp::No => Primitive::No.name(),
+            EventOp::Nop => Primitive::Nop.name(),
             EventOp::OutR => b"out_r",
             EventOp::InR => b"in_r",
             EventOp::RdR => b"rd_r",
@@ -61,6 +65,10 @@ pub fn event_op_of(name: &Name) -> Option<EventOp>
         Some(EventOp::Inp)
     } else if name == EventOp::Rdp.name() {
         Some(EventOp::Rdp)
+    } else if name == EventOp::No.name() {
+        Some(EventOp::No)
+    } else if name == EventOp::Nop.name() {
+        Some(EventOp::Nop)
     } else if name == EventOp::OutR.name() {
         Some(EventOp::OutR)
     } else if name == EventOp::InR.name() {
@@ -98,6 +106,10 @@ pub enum Sign {
 /// | `inp`, `rdp` | post | failure | the template |
 /// | `in`, `rd` | pre | neither | the template |
 /// | `in`, `rd` | post | success | the tuple |
+/// | `no` | pre | neither | the template |
+/// | `no` | post | success: no tuple matches any more | the template |
+/// | `nop` | post | success: no tuple matches | the template |
+/// | `nop` | post | failure: a tuple matches | the template |
 #[derive(Drop)]
 pub struct Event {
     op: EventOp,

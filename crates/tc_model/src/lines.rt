@@ -90,6 +90,8 @@ fn ask_for(primitive: Primitive, operand: Term) -> Option<Ask>
         Primitive::Rd => Some(Ask::Rd(operand)),
         Primitive::Inp => Some(Ask::Inp(operand)),
         Primitive::Rdp => Some(Ask::Rdp(operand)),
+        Primitive::No => Some(Ask::No(operand)),
+        Primitive::Nop => Some(Ask::Nop(operand)),
         Primitive::SetSpec => Some(Ask::SetSpec(operand)),
         Primitive::GetSpec => None,
     }

@@ -16,6 +16,10 @@ pub enum Reply {
     Tuple(Ground),
     /// No tuple matched.
     NoTuple,
+    /// No tuple matches, as was asked or waited for.
+    Absent,
+    /// A tuple matches, though it was asked that none does.
+    Found(Ground),
     /// The text of the centre's clauses.
     Spec(Seq<u8>),
     /// The reactions of the phase went over the budget: the operation has had no effect.
@@ -31,6 +35,10 @@ pub enum Outcome {
     Took(Ground),
     /// No tuple matched.
     NoTuple,
+    /// No tuple matches, as was asked or waited for.
+    Absent,
+    /// A tuple matches, though it was asked that none does. It stays.
+    Found(Ground),
     /// The request waits.
     Pending,
     /// The text of the centre's clauses.
@@ -48,11 +56,11 @@ impl Reply {
         ensures { IsTypedReply self.now }
     {
         match self {
-            Reply::Tuple(tuple) => {
+            Reply::Tuple(tuple) | Reply::Found(tuple) => {
                 let _term = tuple.term();
             }
             Reply::Spec(text) => bytes_fit(text.items()),
-            Reply::Done | Reply::NoTuple | Reply::OverBudget(_) => {}
+            Reply::Done | Reply::NoTuple | Reply::Absent | Reply::OverBudget(_) => {}
         }
     }
 
@@ -64,6 +72,8 @@ impl Reply {
             Reply::Done => Ok(Reply::Done),
             Reply::Tuple(tuple) => Ok(Reply::Tuple(tuple.copy(alloc)?)),
             Reply::NoTuple => Ok(Reply::NoTuple),
+            Reply::Absent => Ok(Reply::Absent),
+            Reply::Found(tuple) => Ok(Reply::Found(tuple.copy(alloc)?)),
             Reply::Spec(text) => Ok(Reply::Spec(copy_text(alloc, text)?)),
             Reply::OverBudget(phase) => Ok(Reply::OverBudget(*phase)),
         }
@@ -78,11 +88,15 @@ impl Outcome {
         ensures { IsTypedOutcome self.now }
     {
         match self {
-            Outcome::Took(tuple) | Outcome::Over(_, Some(tuple)) => {
+            Outcome::Took(tuple) | Outcome::Found(tuple) | Outcome::Over(_, Some(tuple)) => {
                 let _term = tuple.term();
             }
             Outcome::Spec(text) => bytes_fit(text.items()),
-            Outcome::Done | Outcome::NoTuple | Outcome::Pending | Outcome::Over(_, None) => {}
+            Outcome::Done
+            | Outcome::NoTuple
+            | Outcome::Absent
+            | Outcome::Pending
+            | Outcome::Over(_, None) => {}
         }
     }
 
@@ -94,6 +108,8 @@ impl Outcome {
             Outcome::Done => Ok(Outcome::Done),
             Outcome::Took(tuple) => Ok(Outcome::Took(tuple.copy(alloc)?)),
             Outcome::NoTuple => Ok(Outcome::NoTuple),
+            Outcome::Absent => Ok(Outcome::Absent),
+            Outcome::Found(tuple) => Ok(Outcome::Found(tuple.copy(alloc)?)),
             Outcome::Pending => Ok(Outcome::Pending),
             Outcome::Spec(text) => Ok(Outcome::Spec(copy_text(alloc, text)?)),
             Outcome::Over(phase, None) => Ok(Outcome::Over(*phase, None)),

@@ -1,5 +1,5 @@
 -- Requests that are filed, after each change.
-use Rattle.std.proofs.Common.{◌≡◌, ◌<◌, ◌≤◌, ◌+◌, ◌==◌, if◌then◌else◌, ℕ, Bool, true, not, List, [], ◌∷◌, ◌++◌, length, get_or, take, drop, refl, ap, sym, subst, ◌∙◌, ⊎_elim, length-append, arith}
+use Rattle.std.proofs.Common.{◌≡◌, ◌<◌, ◌≤◌, ◌+◌, ◌==◌, if◌then◌else◌, ℕ, Bool, true, false, not, List, [], ◌∷◌, ◌++◌, length, get_or, take, drop, refl, ap, sym, subst, ◌∙◌, ⊎_elim, length-append, arith}
 use Rattle.std.specs.List.{remove}
 use Rattle.std.proofs.Math.Seq.{drop-nil}
 use Rattle.std.proofs.lemmas.Bool.{cases_lt}
@@ -9,7 +9,7 @@ use Rattle.tc_model.specs.declared.calls.Request.{Request}
 use Rattle.tc_pending.specs.declared.changes.Change.{Change}
 use Rattle.tc_pending.specs.declared.index.Index.{Index}
 use Rattle.tc_pending.specs.declared.waiters.Waiters.{Waiters}
-use Rattle.tc_pending.specs.Changes.{earlier, rewound, earlier_serials, rewound_serials, AreFiled, IsLog}
+use Rattle.tc_pending.specs.Changes.{earlier, rewound, earlier_serials, rewound_serials, AreFiled, IsKept, IsLog}
 use Rattle.tc_pending.specs.Codes.{codes_of}
 use Rattle.tc_pending.specs.Filed.{AreIndexed, Has, HasFirst, IsFiled, KeepsAll}
 use Rattle.tc_pending.specs.Rising.{IsAbove}
@@ -119,44 +119,59 @@ rewound_serials-last count changes front c serials last above =
     ∙ ap (λ cs. rewound_serials cs serials) (drop-append-le count front (c ∷ []) above)
     ∙ rewound_serials-append (drop count front) (c ∷ []) serials
 
-IsFiled-same : (index : Index) (below : ℕ) (requests new : List Request) (serials more : List ℕ) → new ≡ requests → more ≡ serials
-    → IsFiled index below (codes_of requests) serials → IsFiled index below (codes_of new) more
-IsFiled-same index below requests new serials more is are filed =
-    IsFiled-at index below (codes_of requests) (codes_of new) serials more (ap codes_of is) are filed
+-- what is kept, of the same requests and numbers, and where more may have wanted absence
+pub IsKept-same : (index : Index) (below : ℕ) (absences : Bool) (requests new : List Request) (serials more : List ℕ)
+    → new ≡ requests → more ≡ serials
+    → IsKept index below absences requests serials → IsKept index below absences new more
+IsKept-same index below absences requests new serials more is are kept =
+    subst (λ rs. IsKept index below absences rs more) (sym is) (subst (IsKept index below absences requests) (sym are) kept)
+
+pub IsKept-weaker : (index : Index) (below : ℕ) (some more : Bool) (requests : List Request) (serials : List ℕ)
+    → (more ≡ false → some ≡ false) → IsKept index below some requests serials → IsKept index below more requests serials
+IsKept-weaker index below some more requests serials still kept = record {
+  filed_is = kept.filed_is;
+  absences_is = λ never. kept.absences_is (still never);
+}
+
+pub AreFiled-weaker : (index : Index) (below : ℕ) (some more : Bool) (requests : List Request) (serials : List ℕ) (changes : List Change)
+    → (more ≡ false → some ≡ false) → AreFiled index below some requests serials changes
+    → AreFiled index below more requests serials changes
+AreFiled-weaker index below some more requests serials changes still filed n =
+    IsKept-weaker index below some more (rewound (drop n changes) requests) (rewound_serials (drop n changes) serials) still (filed n)
 
 -- by what there is, and by what there was
-pub AreFiled-only : (index : Index) (below : ℕ) (requests : List Request) (serials : List ℕ) (changes : List Change) → changes ≡ []
-    → IsFiled index below (codes_of requests) serials → AreFiled index below requests serials changes
-AreFiled-only index below requests serials changes none filed n =
+pub AreFiled-only : (index : Index) (below : ℕ) (absences : Bool) (requests : List Request) (serials : List ℕ) (changes : List Change)
+    → changes ≡ [] → IsKept index below absences requests serials → AreFiled index below absences requests serials changes
+AreFiled-only index below absences requests serials changes none filed n =
     let behind : drop n changes ≡ [] = ap (drop n) none ∙ drop-nil n in
-    IsFiled-same index below requests (rewound (drop n changes) requests) serials (rewound_serials (drop n changes) serials)
+    IsKept-same index below absences requests (rewound (drop n changes) requests) serials (rewound_serials (drop n changes) serials)
     (ap (λ cs. rewound cs requests) behind) (ap (λ cs. rewound_serials cs serials) behind) filed
 
-module _ (index : Index) (below : ℕ) (requests : List Request) (serials : List ℕ) (changes : List Change)
-    (filed : AreFiled index below requests serials changes) where
-  pub AreFiled-now : IsFiled index below (codes_of requests) serials
+module _ (index : Index) (below : ℕ) (absences : Bool) (requests : List Request) (serials : List ℕ) (changes : List Change)
+    (filed : AreFiled index below absences requests serials changes) where
+  pub AreFiled-now : IsKept index below absences requests serials
   AreFiled-now =
       let behind : drop (length changes) changes ≡ [] = drop_all (length changes) changes (omega arith) in
-      IsFiled-same index below (rewound (drop (length changes) changes) requests) requests
+      IsKept-same index below absences (rewound (drop (length changes) changes) requests) requests
       (rewound_serials (drop (length changes) changes) serials) serials
       (sym (ap (λ cs. rewound cs requests) behind)) (sym (ap (λ cs. rewound_serials cs serials) behind)) (filed (length changes))
 
   pub AreFiled-length : length serials ≡ length requests
-  AreFiled-length = omega (arith, AreFiled-now.each, length-codes requests (codes_of requests) refl)
+  AreFiled-length = omega (arith, AreFiled-now.filed_is.each, length-codes requests (codes_of requests) refl)
 
   -- with one more change
   pushed : (new : List Request) (more : List ℕ) (noted : List Change) (c : Change) → noted ≡ changes ++ c ∷ []
-      → earlier c new ≡ requests → earlier_serials c more ≡ serials → IsFiled index below (codes_of new) more
-      → AreFiled index below new more noted
+      → earlier c new ≡ requests → earlier_serials c more ≡ serials → IsKept index below absences new more
+      → AreFiled index below absences new more noted
   pushed new more noted c grown back before now n = ⊎_elim
       (λ (behind : length changes < n).
       let none : drop n noted ≡ [] =
       drop_all n noted (omega (arith, behind, ap length grown, length-append changes (c ∷ []))) in
-      IsFiled-same index below new (rewound (drop n noted) new) more (rewound_serials (drop n noted) more)
+      IsKept-same index below absences new (rewound (drop n noted) new) more (rewound_serials (drop n noted) more)
       (ap (λ cs. rewound cs new) none) (ap (λ cs. rewound_serials cs more) none) now)
       (λ (among : n ≤ length changes).
       let split : drop n noted ≡ drop n changes ++ c ∷ [] = ap (drop n) grown ∙ drop-append-le n changes (c ∷ []) among in
-      IsFiled-same index below (rewound (drop n changes) requests) (rewound (drop n noted) new)
+      IsKept-same index below absences (rewound (drop n changes) requests) (rewound (drop n noted) new)
       (rewound_serials (drop n changes) serials) (rewound_serials (drop n noted) more)
       (ap (λ cs. rewound cs new) split ∙ rewound-append (drop n changes) (c ∷ []) new ∙ ap (rewound (drop n changes)) back)
       (ap (λ cs. rewound_serials cs more) split ∙ rewound_serials-append (drop n changes) (c ∷ []) more
@@ -168,30 +183,30 @@ module _ (index : Index) (below : ℕ) (requests : List Request) (serials : List
   pub AreFiled-noted : (new : List Request) (more : List ℕ) (noted : List Change) (marks : List ℕ) (c : Change) (empty : Bool)
       → IsLog requests changes marks → empty ≡ (length marks == 0)
       → noted ≡ (if not empty then changes ++ c ∷ [] else changes) → earlier c new ≡ requests
-      → earlier_serials c more ≡ serials → IsFiled index below (codes_of new) more → AreFiled index below new more noted
+      → earlier_serials c more ≡ serials → IsKept index below absences new more → AreFiled index below absences new more noted
   AreFiled-noted new more noted [] c empty log told is back before now =
-      AreFiled-only index below new more noted (unnoted changes noted c empty log.oldest told is) now
+      AreFiled-only index below absences new more noted (unnoted changes noted c empty log.oldest told is) now
   AreFiled-noted new more noted (m ∷ ms) c empty log told is back before now =
       pushed new more noted c (is ∙ ap (λ b. if not b then changes ++ c ∷ [] else changes) (told ∙ length-none_false m ms)) back before now
 
   -- the changes behind the first so many, taken back
   pub AreFiled-undone : (new : List Request) (more : List ℕ) (left : List Change) (top : ℕ) → top ≤ length changes
       → new ≡ rewound (drop top changes) requests → more ≡ rewound_serials (drop top changes) serials
-      → left ≡ take top changes → AreFiled index below new more left
+      → left ≡ take top changes → AreFiled index below absences new more left
   AreFiled-undone new more left top there is are front n =
       let behind = drop top changes in
       let count : length left ≡ top = ap length front ∙ length-take-le top changes there in
       ⊎_elim
       (λ (past : top < n).
       let none : drop n left ≡ [] = drop_all n left (omega (arith, past, count)) in
-      IsFiled-same index below (rewound behind requests) (rewound (drop n left) new) (rewound_serials behind serials)
+      IsKept-same index below absences (rewound behind requests) (rewound (drop n left) new) (rewound_serials behind serials)
       (rewound_serials (drop n left) more)
       (ap (λ cs. rewound cs new) none ∙ is) (ap (λ cs. rewound_serials cs more) none ∙ are) (filed top))
       (λ (among : n ≤ top).
       let split : drop n changes ≡ drop n left ++ behind =
       ap (drop n) (sym (ap (λ cs. cs ++ behind) front ∙ take-append-drop top changes))
       ∙ drop-append-le n left behind (omega (arith, among, count)) in
-      IsFiled-same index below (rewound (drop n changes) requests) (rewound (drop n left) new)
+      IsKept-same index below absences (rewound (drop n changes) requests) (rewound (drop n left) new)
       (rewound_serials (drop n changes) serials) (rewound_serials (drop n left) more)
       (ap (rewound (drop n left)) is ∙ sym (ap (λ cs. rewound cs requests) split ∙ rewound-append (drop n left) behind requests))
       (ap (rewound_serials (drop n left)) are
@@ -203,10 +218,11 @@ module _ (index : Index) (below : ℕ) (requests : List Request) (serials : List
   pub AreFiled-filed : (new : Index) (bound : ℕ) (marks : List ℕ) (is_marked : Bool) → IsLog requests changes marks
       → is_marked ≡ not (length marks == 0)
       → (is_marked ≡ true → (new ≡ index) × (bound ≡ below)) → IsFiled new bound (codes_of requests) serials
-      → AreFiled new bound requests serials changes
+      → AreFiled new bound absences requests serials changes
   AreFiled-filed new bound [] is_marked log told marked now =
-      AreFiled-only new bound requests serials changes (nil_from_length changes log.oldest) now
+      AreFiled-only new bound absences requests serials changes (nil_from_length changes log.oldest)
+      (record { filed_is = now; absences_is = AreFiled-now.absences_is })
   AreFiled-filed new bound (m ∷ ms) is_marked log told marked now =
       let same = marked (told ∙ ap not (length-none_false m ms)) in
-      subst (λ ix. AreFiled ix bound requests serials changes) (sym same.0)
-      (subst (λ b. AreFiled index b requests serials changes) (sym same.1) filed)
+      subst (λ ix. AreFiled ix bound absences requests serials changes) (sym same.0)
+      (subst (λ b. AreFiled index b absences requests serials changes) (sym same.1) filed)

@@ -1,8 +1,10 @@
 pub mod Next
 pub mod Log
 pub mod Newly
+pub mod Wanting
 pub mod Coded
 pub mod Rising
 pub mod Filed
 pub mod Truths
 pub mod Lookups
+pub mod Freed

@@ -1,18 +1,15 @@
--- Which request that has a code is next, and which is the oldest of three codes that asks for a tuple.
-use Rattle.std.proofs.Common.{◌≡◌, ◌<◌, ◌≤◌, ◌+◌, ℕ, inl, inr, List, Some, length, get_or, slice_get, take, ap, sym, subst, ◌∙◌, ⊎_elim, arith}
+-- Which request that has a code is next, and which is the oldest of three codes that has a property.
+use Rattle.std.proofs.Common.{◌≡◌, ◌<◌, ◌≤◌, ◌+◌, ◌⊎◌, ℕ, inl, inr, List, Some, length, get_or, slice_get, take, ap, sym, subst, ◌∙◌, ⊎_elim, arith}
 use Rattle.std.proofs.lemmas.Bool.{cases_lt}
 use Rattle.std.proofs.lemmas.List.{length-take, get_or-take, get_or-map}
 use Rattle.std.proofs.lemmas.Option.{slice_get-get_or, slice_get_within, get_or_from_slice_get, same_Some}
 use Rattle.tc_lists.specs.Firsts.{NoneOf}
-use Rattle.tc_term.specs.Tree.{Tree, IsTuple}
-use Rattle.tc_bag.specs.Codes.{top_code}
 use Rattle.tc_model.specs.declared.calls.Request.{Request}
 use Rattle.tc_pending.specs.declared.index.Index.{Index}
-use Rattle.tc_pending.specs.Answers.{AsksFor, IsOldestAsking}
-use Rattle.tc_pending.specs.Codes.{code_of, codes_of}
-use Rattle.tc_pending.specs.Filed.{Has, HasFirst, HasNone, IsAsking, NoneAsks}
+use Rattle.tc_pending.specs.Answers.{IsOldestSuch}
+use Rattle.tc_pending.specs.Codes.{request_code, codes_of}
+use Rattle.tc_pending.specs.Filed.{Has, HasFirst, HasNone, IsSuch, NoneSuch}
 use Rattle.tc_pending.specs.Rising.{NumbersRise, IsAt}
-use Rattle.tc_pending.proofs.Coded.{code, code-match}
 use Rattle.tc_pending.proofs.Rising.{NumbersRise-le}
 
 -- from a place on, none of the first requests of a code has a serial number below this one
@@ -63,56 +60,57 @@ module _ (index : Index) (codes serials : List ℕ) (each : length serials ≡ l
       (omega (arith, is.1, rises k place (omega (arith, before, first)) is.0)) same
 
 -- the code that stands beside a request
-pub code_beside : (requests : List Request) (codes : List ℕ) (k : ℕ) (r : Request) → codes ≡ codes_of requests
-    → slice_get requests k ≡ Some r → get_or codes k 0 ≡ code_of r.template
+code_beside : (requests : List Request) (codes : List ℕ) (k : ℕ) (r : Request) → codes ≡ codes_of requests
+    → slice_get requests k ≡ Some r → get_or codes k 0 ≡ request_code r
 code_beside requests codes k r are at =
     let inside : k < length requests = slice_get_within requests k r at in
-    ap (λ cs. get_or cs k 0) are ∙ get_or-map code requests k r 0 inside ∙ ap code (get_or_from_slice_get requests k r r at)
+    ap (λ cs. get_or cs k 0) are ∙ get_or-map request_code requests k r 0 inside
+    ∙ ap request_code (get_or_from_slice_get requests k r r at)
 
-module _ (tuple : Tree) (requests : List Request) (codes : List ℕ) (are : codes ≡ codes_of requests) (c at : ℕ)
-    (none : NoneAsks tuple requests c at) where
+module _ (P : Request → Type 0) (requests : List Request) (codes : List ℕ) (are : codes ≡ codes_of requests) (c at : ℕ)
+    (none : NoneSuch P requests c at) where
   -- the requests up to a place, where those from `at` on have another code
-  pub none-up : (place : ℕ) → HasNone codes c at place → NoneAsks tuple requests c place
-  none-up place other k r before stands same asks = ⊎_elim
-      (λ (low : k < at). none k r low stands same asks)
+  pub none-up : (place : ℕ) → HasNone codes c at place → NoneSuch P requests c place
+  none-up place other k r before stands same has = ⊎_elim
+      (λ (low : k < at). none k r low stands same has)
       (λ (high : at ≤ k). other k high before (code_beside requests codes k r are stands ∙ same))
       (cases_lt k at)
 
-  -- and one more, which doesn't ask
-  pub none-further : (place : ℕ) (r : Request) → slice_get requests place ≡ Some r → (AsksFor tuple r → ⊥)
-      → HasNone codes c at place → NoneAsks tuple requests c (place + 1)
-  none-further place r is not other k q before stands same asks = ⊎_elim
-      (λ (low : k < place). none-up place other k q low stands same asks)
+  -- and one more, which is not such
+  pub none-further : (place : ℕ) (r : Request) → slice_get requests place ≡ Some r → (P r → ⊥)
+      → HasNone codes c at place → NoneSuch P requests c (place + 1)
+  none-further place r is not other k q before stands same has = ⊎_elim
+      (λ (low : k < place). none-up place other k q low stands same has)
       (λ (last : place ≤ k).
       let here : k ≡ place = omega (arith, last, before) in
-      not (subst (AsksFor tuple) (same_Some q r (sym stands ∙ ap (slice_get requests) here ∙ is)) asks))
+      not (subst P (same_Some q r (sym stands ∙ ap (slice_get requests) here ∙ is)) has))
       (cases_lt k place)
 
-pub NoneAsks-less : (tuple : Tree) (requests : List Request) (c m n : ℕ) → m ≤ n → NoneAsks tuple requests c n
-    → NoneAsks tuple requests c m
-NoneAsks-less tuple requests c m n less none k r before = none k r (omega (arith, before, less))
+module _ (P : Request → Type 0) (requests : List Request) where
+  pub NoneSuch-less : (c m n : ℕ) → m ≤ n → NoneSuch P requests c n → NoneSuch P requests c m
+  NoneSuch-less c m n less none k r before = none k r (omega (arith, before, less))
 
-module _ (tuple : Tree) (requests : List Request) (is : IsTuple tuple) (place : ℕ) where
-  -- where none of the three codes has one that asks, none asks
-  pub none-of : NoneAsks tuple requests 0 place → NoneAsks tuple requests (top_code tuple) place
-      → NoneAsks tuple requests (code_of tuple) place → NoneOf (AsksFor tuple) (take place requests)
-  none-of any top whole r stands asks =
+  -- where none of the three codes has such a one, there is none
+  pub none-of : (any top whole place : ℕ)
+      → ((r : Request) → P r → (request_code r ≡ any) ⊎ (request_code r ≡ top) ⊎ (request_code r ≡ whole))
+      → NoneSuch P requests any place → NoneSuch P requests top place → NoneSuch P requests whole place
+      → NoneOf P (take place requests)
+  none-of any top whole place coded first second third r stands has =
       let k : ℕ = stands.0 in
       let before : k < place = omega (arith, stands.1, length-take place requests) in
       let within : k < length requests = omega (arith, stands.1, length-take place requests) in
       let at : slice_get requests k ≡ Some r =
       slice_get-get_or requests k r within ∙ ap Some (sym (get_or-take place requests k r before) ∙ stands.2) in
-      elim (code-match r.template tuple asks is) [
-        | inl same ↦ any k r before at same asks
-        | inr (inl same) ↦ top k r before at same asks
-        | inr (inr same) ↦ whole k r before at same asks
+      elim (coded r has) [
+        | inl same ↦ first k r before at same has
+        | inr (inl same) ↦ second k r before at same has
+        | inr (inr same) ↦ third k r before at same has
       ]
 
-pub oldest : (tuple : Tree) (requests : List Request) (place : ℕ) → IsAsking tuple requests place
-    → NoneOf (AsksFor tuple) (take place requests) → IsOldestAsking tuple requests place
-oldest tuple requests place asking none = record {
-  request = asking.request;
-  stands = asking.stands;
-  asks = asking.asks;
-  none_before = none;
-}
+  pub oldest : (place : ℕ) → IsSuch P requests place → NoneOf P (take place requests) → IsOldestSuch P requests place
+  oldest place such none = record {
+    request = such.request;
+    stands = such.stands;
+    has = such.has;
+    none_before = none;
+  }

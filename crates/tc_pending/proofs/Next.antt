@@ -1,43 +1,24 @@
 -- Which request is next, of those that a search has come past.
-use Rattle.std.proofs.Common.{◌≡◌, ◌<◌, ◌≤◌, ◌+◌, ℕ, List, [], ◌∷◌, ◌++◌, Some, Contains, length, get_or, take, sym, ap, subst, ◌∙◌, ⊎_elim, arith}
+use Rattle.std.proofs.Common.{◌≡◌, ◌<◌, ◌≤◌, ◌+◌, ℕ, List, [], ◌∷◌, ◌++◌, Contains, length, get_or, take, sym, ap, subst, ◌∙◌, ⊎_elim, arith}
 use Rattle.std.specs.List.{remove}
 use Rattle.std.proofs.lemmas.Bool.{cases_lt}
 use Rattle.std.proofs.lemmas.List.Edits.{length-remove, get_or-remove_below, get_or-remove_above}
 use Rattle.std.proofs.lemmas.List.{take_more, take_all, length-take, get_or-take}
-use Rattle.std.proofs.lemmas.Option.{slice_get-get_or}
 use Rattle.tc_lists.specs.Firsts.{NoneOf}
 use Rattle.tc_lists.proofs.Firsts.{NoneOf-push}
-use Rattle.tc_term.specs.Tree.{Tree}
-use Rattle.tc_term.specs.Variables.{var_bound}
 use Rattle.tc_bag.specs.Stock.{Row, tuples_of}
-use Rattle.tc_search.specs.Found.{IsFound}
-use Rattle.tc_model.specs.State.{IsMatch, IsAnswerable}
+use Rattle.tc_model.specs.State.{IsAnswerable}
 use Rattle.tc_model.specs.declared.calls.Request.{Request}
-use Rattle.tc_pending.specs.Answers.{IsNextAnswer, IsKnown}
+use Rattle.tc_pending.specs.Answers.{IsKnown}
 use Rattle.tc_pending.specs.declared.answering.Known.{Known}
 
-module _ (rows : List Row) (requests : List Request) (place : ℕ) (r : Request) where
-  pub is_next : (age : ℕ) (u : Tree) → place < length requests → r ≡ get_or requests place r
-      → NoneOf (IsAnswerable (tuples_of rows)) (take place requests)
-      → IsFound (var_bound r.template) [] r.template rows age u → IsNextAnswer rows requests place age
-  is_next age u inside at none found = record {
-    request = r;
-    stands = slice_get-get_or requests place r inside ∙ ap Some (sym at);
-    none_before = none;
-    tuple = u;
-    found = found;
-  }
-
-  pub none_further : place < length requests → r ≡ get_or requests place r
-      → NoneOf (IsAnswerable (tuples_of rows)) (take place requests)
-      → NoneOf (IsMatch r.template) (tuples_of rows)
-      → NoneOf (IsAnswerable (tuples_of rows)) (take (place + 1) requests)
-  none_further inside at none never =
-      let P : Request → Type 0 = IsAnswerable (tuples_of rows) in
-      let grown : take (place + 1) requests ≡ take place requests ++ r ∷ [] =
-      take_more requests place r inside ∙ ap (λ q. take place requests ++ q ∷ []) (sym at) in
-      subst (NoneOf P) (sym grown)
-      (NoneOf-push P (take place requests) r none (λ a. never a.tuple a.stands a.matches))
+-- where the next has not the property either, one more is past
+pub none_further : (P : Request → Type 0) (requests : List Request) (place : ℕ) (r : Request) → place < length requests
+    → r ≡ get_or requests place r → NoneOf P (take place requests) → (P r → ⊥) → NoneOf P (take (place + 1) requests)
+none_further P requests place r inside at none never =
+    let grown : take (place + 1) requests ≡ take place requests ++ r ∷ [] =
+    take_more requests place r inside ∙ ap (λ q. take place requests ++ q ∷ []) (sym at) in
+    subst (NoneOf P) (sym grown) (NoneOf-push P (take place requests) r none never)
 
 pub none_at_all : (rows : List Row) (requests : List Request) (place : ℕ) → length requests ≤ place
     → NoneOf (IsAnswerable (tuples_of rows)) (take place requests)
@@ -69,10 +50,13 @@ contains-removed xs place m n x inside less fewer stands =
     (cases_lt k place)
 
 -- what is known stays, where a request goes, and rows
-pub known-without : (known new : Known) (place : ℕ) (rows left : List Row) (requests : List Request)
+pub known-without : (known new : Known) (place : ℕ) (begun rows left : List Row) (requests : List Request)
     → new.age ≡ known.age → new.requests ≤ known.requests → (place < known.requests → new.requests + 1 ≤ known.requests)
-    → ((row : Row) → Contains left row → Contains rows row) → place < length requests → IsKnown known rows requests
-    → IsKnown new left (remove requests place)
-known-without known new place rows left requests age less fewer stay inside is q row stands there older =
-    is q row (contains-removed requests place known.requests new.requests q inside less fewer stands) (stay row there)
-    (omega (arith, older, age))
+    → ((row : Row) → Contains left row → Contains rows row) → place < length requests → IsKnown known begun rows requests
+    → IsKnown new begun left (remove requests place)
+known-without known new place begun rows left requests age less fewer stay inside is = record {
+  older = λ q row stands wants there older.
+      is.older q row (contains-removed requests place known.requests new.requests q inside less fewer stands) wants (stay row there)
+      (omega (arith, older, age));
+  had = λ q stands. is.had q (contains-removed requests place known.requests new.requests q inside less fewer stands);
+}

@@ -1,5 +1,5 @@
 -- The log by which the list of requests goes back to its marks.
-use Rattle.std.specs.Prelude.{ℕ, ◌≡◌, ◌+◌, ◌-◌, ◌≤◌, List, [], ◌∷◌}
+use Rattle.std.specs.Prelude.{ℕ, ◌≡◌, ◌+◌, ◌-◌, ◌≤◌, Bool, List, [], ◌∷◌}
 use Rattle.std.specs.Prelude.{length}
 use Rattle.std.specs.Prelude.{map, take, drop, insert, slice_index_or}
 use Rattle.std.specs.declared.vec.Vec.{Vec}
@@ -7,7 +7,7 @@ use Rattle.std.specs.Vec.{vec_capacity}
 use Rattle.tc_lists.specs.Marks.{Climbs}
 use Rattle.tc_model.specs.declared.calls.Request.{Request}
 use Rattle.tc_pending.specs.Codes.{codes_of}
-use Rattle.tc_pending.specs.Filed.{IsFiled}
+use Rattle.tc_pending.specs.Filed.{IsFiled, NeverFree}
 use Rattle.tc_pending.specs.declared.index.Index.{Index}
 use Rattle.tc_pending.specs.declared.changes.Change.{Change}
 use Rattle.tc_pending.specs.declared.changes.Change.TheVariants.{Added, Removed}
@@ -52,19 +52,26 @@ pub record IsLog (requests : List Request) (changes : List Change) (marks : List
   pub climbs : Climbs marks (length changes)
   pub oldest : slice_index_or marks 0 (length changes) ≡ 0
 
--- the requests now, and those before each of the changes, are filed
-abbrev pub AreFiled : Index → ℕ → List Request → List ℕ → List Change → Type 0
-AreFiled index filed requests serials changes =
-    (n : ℕ) → IsFiled index filed (codes_of (rewound (drop n changes) requests))
+-- the requests of these serial numbers are filed, and where none wanted absence each wants a tuple
+pub record IsKept (index : Index) (filed : ℕ) (absences : Bool) (requests : List Request)
+    (serials : List ℕ) : Type 0 where
+  pub filed_is : IsFiled index filed (codes_of requests) serials
+  pub absences_is : NeverFree absences requests
+
+-- so are the requests now, and those before each of the changes
+abbrev pub AreFiled : Index → ℕ → Bool → List Request → List ℕ → List Change → Type 0
+AreFiled index filed absences requests serials changes =
+    (n : ℕ) → IsKept index filed absences (rewound (drop n changes) requests)
     (rewound_serials (drop n changes) serials)
 
 -- a log with room for each request to be removed, and for each change to be taken back; the codes
 -- are those of the requests; and the requests that there are and may come back are filed
 pub record IsSound {W X Y Z : Type 0} (requests : Vec Request X) (codes : Vec ℕ Z)
     (serials : Vec ℕ W)
-    (index : Index) (below : ℕ) (changes : Vec Change Y) (marks : List ℕ) : Type 0 where
+    (index : Index) (below : ℕ) (absences : Bool) (changes : Vec Change Y) (marks : List ℕ)
+    : Type 0 where
   pub coded : codes.items ≡ codes_of requests.items
-  pub filed : AreFiled index below requests.items serials.items changes.items
+  pub filed : AreFiled index below absences requests.items serials.items changes.items
   pub log : IsLog requests.items changes.items marks
   pub list_room : length requests.items + length changes.items ≤ vec_capacity requests
   pub codes_room : length codes.items + length changes.items ≤ vec_capacity codes

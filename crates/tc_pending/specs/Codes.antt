@@ -5,6 +5,9 @@ use Rattle.tc_term.specs.Tree.{Tree, Variable, Atomic, Number, Compound}
 use Rattle.tc_bag.specs.Codes.{top_code}
 use Rattle.tc_bag.specs.Keys.{first_of}
 use Rattle.tc_model.specs.declared.calls.Request.{Request}
+use Rattle.tc_model.specs.declared.calls.Wants.{Wants}
+use Rattle.tc_model.specs.declared.calls.Wants.TheVariants.{Take, Look, Absence}
+use Rattle.tc_pending.specs.declared.codes.TheConstants.{CODE_OF_ABSENCE}
 
 -- a code with that of a first argument, where this is no variable
 abbrev pub with_first : ℕ → Tree → ℕ
@@ -24,6 +27,17 @@ code_of (Compound name args) = with_first (top_code (Compound name args)) (first
 abbrev pub MayMatch : ℕ → Tree → Type 0
 MayMatch code tuple = (code ≡ 0) ⊎ (code ≡ top_code tuple) ⊎ (code ≡ code_of tuple)
 
+-- the code for what is wanted, of a template or a part of it: where absence is wanted it is
+-- another
+abbrev pub code_for : Wants → ℕ → ℕ
+code_for Take code = code
+code_for Look code = code
+code_for Absence code = mixed CODE_OF_ABSENCE code
+
+-- the code of a request
+abbrev pub request_code : Request → ℕ
+request_code r = code_for r.wants (code_of r.template)
+
 -- the codes of requests
 abbrev pub codes_of : List Request → List ℕ
-codes_of requests = map (λ r. code_of r.template) requests
+codes_of requests = map request_code requests

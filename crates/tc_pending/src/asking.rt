@@ -1,44 +1,59 @@
-//! The oldest of the requests that wait that asks for a tuple.
-ghost use Rattle.std.specs.Prelude.{◌≡◌, ◌↔◌, ◌<◌, ◌≤◌, length, take, IsTrue};
+//! The oldest of the requests that wait that asks for a tuple that has come, or that has gone.
+ghost use Rattle.std.specs.Prelude.{◌≡◌, ◌↔◌, ◌<◌, ◌≤◌, false, length, take, IsTrue};
 ghost use Rattle.std.specs.Prelude.{IfSome, IfNone};
 ghost use Rattle.tc_lists.specs.Firsts.{NoneOf};
-ghost use Rattle.tc_term.specs.Tree.{IsTuple};
-ghost use Rattle.tc_pending.specs.Answers.{AsksFor, IsOldestAsking};
-ghost use Rattle.tc_pending.specs.Codes.{code_of, codes_of};
+ghost use Rattle.tc_bag.specs.Stock.{tuples_of};
+ghost use Rattle.tc_model.specs.State.{WantsTuple};
+ghost use Rattle.tc_pending.specs.Answers.{AsksFor, IsFree, IsOldestSuch};
+ghost use Rattle.tc_pending.specs.Codes.{request_code, codes_of};
 ghost use Rattle.tc_pending.specs.Rising.{NumbersRise};
-ghost use Rattle.tc_pending.specs.Filed.{AreIndexed, AreLent, IsWanted};
-ghost use Rattle.tc_pending.specs.Filed.{HasFirst, HasNone, IsAsking, NoneAsks};
+ghost use Rattle.tc_pending.specs.Filed.{AreIndexed, AreLent, IsWanted, Asks, sought, tuples_in};
+ghost use Rattle.tc_pending.specs.Filed.{HasFirst, HasNone, IsSuch, NoneSuch};
 
-use crate::codes::code_of;
+use crate::codes::{code_for, code_of};
 use crate::index::Index;
 use crate::numbers::{count_below, place_of};
 use crate::waiters::Waiters;
-use tc_bag::top_code;
-use tc_model::Request;
-use tc_search::does_match;
+use tc_bag::{Bag, top_code};
+use tc_model::{Request, Wants};
+use tc_search::{does_match, oldest_match_of};
 use tc_term::Ground;
 
-/// A tuple that requests may ask for, with the code of its functor and that of all of it.
+/// A tuple that requests may ask for; where it has gone, the bag in which others are left; and the
+/// codes of requests that may ask for it: for any tuple, for one of its functor, and for it alone.
 #[derive(Clone, Copy)]
 pub(crate) struct Wanted<'a> {
     tuple: &'a Ground,
+    left: Option<&'a Bag>,
+    any: u64,
     top: u64,
     whole: u64,
 }
 
-/// The place of the oldest of the first `count` requests that asks for a tuple.
-pub(crate) fn oldest_asking(waiters: &Waiters, count: usize, tuple: &Ground) -> Option<usize>
+/// The place of the oldest of the first `count` requests that asks for a tuple: for one that has
+/// come, or where a bag is given that others are left in, for one that has gone.
+#[inline(always)]
+pub(crate) fn oldest_asking(
+    waiters: &Waiters,
+    count: usize,
+    tuple: &Ground,
+    left: Option<&Bag>,
+) -> Option<usize>
     requires lent { AreLent waiters.now }
     requires inside { count ≤ length waiters.now.requests.now }
-    ensures found { IfSome result (IsOldestAsking tuple.now waiters.now.requests.now) }
+    ensures found { IfSome result
+        (IsOldestSuch (AsksFor (tuples_in left.entry) tuple.now) waiters.now.requests.now) }
     ensures inside { IfSome result (λ place. place < count) }
-    ensures none { IfNone result
-        (NoneOf (AsksFor tuple.now) (take count waiters.now.requests.now)) }
+    ensures none { IfNone result (NoneOf (AsksFor (tuples_in left.entry) tuple.now)
+        (take count waiters.now.requests.now)) }
 {
+    let wants = sought(left);
     let wanted = Wanted {
         tuple,
-        top: top_code(tuple.term()),
-        whole: code_of(tuple.term()),
+        left,
+        any: code_for(wants, 0),
+        top: code_for(wants, top_code(tuple.term())),
+        whole: code_for(wants, code_of(tuple.term())),
     };
     let start = count_below(waiters.serials, waiters.filed).min(count);
     let place = looked_up(waiters, start, &wanted);
@@ -48,22 +63,32 @@ pub(crate) fn oldest_asking(waiters: &Waiters, count: usize, tuple: &Ground) -> 
     gone_through(waiters, start, count, &wanted)
 }
 
+// What the requests want that may ask for a tuple: one, where it has come; absence, where it has
+// gone and others are left.
+fn sought(left: Option<&Bag>) -> Wants
+    ensures { result ≡ sought (tuples_in left.entry) }
+{
+    match left {
+        None => Wants::Take,
+        Some(_) => Wants::Absence,
+    }
+}
+
 // The place of the oldest of the first `count` requests that asks for a tuple, where the index has
 // them; `count` where there is none.
 fn looked_up(waiters: &Waiters, count: usize, wanted: &Wanted) -> usize
     requires indexed { AreIndexed waiters.now count }
     requires wanted { IsWanted wanted.now }
     ensures inside { result ≤ count }
-    ensures asks { result < count
-        → IsAsking wanted.now.tuple.now waiters.now.requests.now result }
-    ensures none { NoneOf (AsksFor wanted.now.tuple.now) (take result waiters.now.requests.now) }
+    ensures asks { result < count → IsSuch (Asks wanted.now) waiters.now.requests.now result }
+    ensures none { NoneOf (Asks wanted.now) (take result waiters.now.requests.now) }
 {
     if count == 0 {
         return 0;
     }
-    let any = asking_by(waiters, 0, count, wanted.tuple);
-    let same = asking_by(waiters, wanted.top, any, wanted.tuple);
-    asking_by(waiters, wanted.whole, same, wanted.tuple)
+    let any = asking_by(waiters, wanted.any, count, wanted);
+    let same = asking_by(waiters, wanted.top, any, wanted);
+    asking_by(waiters, wanted.whole, same, wanted)
 }
 
 // The place of the oldest of the first `count` requests that asks for a tuple, by their codes,
@@ -72,12 +97,12 @@ fn gone_through(waiters: &Waiters, start: usize, count: usize, wanted: &Wanted) 
     requires codes { waiters.now.codes.now ≡ codes_of waiters.now.requests.now }
     requires inside { count ≤ length waiters.now.requests.now }
     requires start { start ≤ count }
-    requires none { NoneOf (AsksFor wanted.now.tuple.now) (take start waiters.now.requests.now) }
+    requires none { NoneOf (Asks wanted.now) (take start waiters.now.requests.now) }
     requires wanted { IsWanted wanted.now }
-    ensures found { IfSome result (IsOldestAsking wanted.now.tuple.now waiters.now.requests.now) }
+    ensures found { IfSome result (IsOldestSuch (Asks wanted.now) waiters.now.requests.now) }
     ensures inside { IfSome result (λ place. place < count) }
     ensures none { IfNone result
-        (NoneOf (AsksFor wanted.now.tuple.now) (take count waiters.now.requests.now)) }
+        (NoneOf (Asks wanted.now) (take count waiters.now.requests.now)) }
 {
     let requests = waiters.requests;
     let codes = waiters.codes;
@@ -89,26 +114,71 @@ fn gone_through(waiters: &Waiters, start: usize, count: usize, wanted: &Wanted) 
     None
 }
 
-// Whether a request asks for a tuple, by their codes and then by matching.
+// Whether a request of this code asks for a tuple.
 fn asks(request: &Request, code: u64, wanted: &Wanted) -> bool
-    requires code { code ≡ code_of request.now.template }
+    requires code { code ≡ request_code request.now }
     requires wanted { IsWanted wanted.now }
-    ensures { IsTrue result ↔ AsksFor wanted.now.tuple.now request.now }
+    ensures { IsTrue result ↔ Asks wanted.now request.now }
 {
-    if code != 0 && code != wanted.top && code != wanted.whole {
+    if code != wanted.any && code != wanted.top && code != wanted.whole {
         return false;
     }
-    does_match(&request.template, wanted.tuple)
+    is_asking(request, wanted)
+}
+
+// Whether a request asks for a tuple.
+fn is_asking(request: &Request, wanted: &Wanted) -> bool
+    ensures { IsTrue result ↔ Asks wanted.now request.now }
+{
+    if !does_match(&request.template, wanted.tuple) {
+        return false;
+    }
+    match wanted.left {
+        None => wants_tuple(request.wants),
+        Some(bag) => is_free(request, bag),
+    }
+}
+
+/// Whether a request wants absence, and no tuple matches.
+pub(crate) fn is_free(request: &Request, bag: &Bag) -> bool
+    ensures { IsTrue result ↔ IsFree (tuples_of bag.now.now) request.now }
+{
+    if wants_tuple(request.wants) {
+        return false;
+    }
+    match oldest_match_of(&request.template, bag) {
+        Some(_) => false,
+        None => true,
+    }
+}
+
+/// Whether a tuple is wanted, and not absence.
+pub(crate) fn wants_tuple(wants: Wants) -> bool
+    ensures { IsTrue result ↔ WantsTuple wants }
+{
+    match wants {
+        Wants::Take | Wants::Look => true,
+        Wants::Absence => false,
+    }
+}
+
+/// Whether a request wanted absence before, or this one does.
+pub(crate) fn with_absence(absences: bool, request: &Request) -> bool
+    ensures { result ≡ false → (absences ≡ false) × WantsTuple request.now.wants }
+{
+    match request.wants {
+        Wants::Take | Wants::Look => absences,
+        Wants::Absence => true,
+    }
 }
 
 // The place of the oldest of the first `count` requests that has this code and asks for a tuple,
 // where the index has them; `count` where there is none.
-fn asking_by(waiters: &Waiters, code: u64, count: usize, tuple: &Ground) -> usize
+fn asking_by(waiters: &Waiters, code: u64, count: usize, wanted: &Wanted) -> usize
     requires indexed { AreIndexed waiters.now count }
-    requires tuple { IsTuple tuple.now }
     ensures inside { result ≤ count }
-    ensures asks { result < count → IsAsking tuple.now waiters.now.requests.now result }
-    ensures none { NoneAsks tuple.now waiters.now.requests.now code result }
+    ensures asks { result < count → IsSuch (Asks wanted.now) waiters.now.requests.now result }
+    ensures none { NoneSuch (Asks wanted.now) waiters.now.requests.now code result }
 {
     let requests = waiters.requests;
     let mut at = 0;
@@ -120,7 +190,7 @@ fn asking_by(waiters: &Waiters, code: u64, count: usize, tuple: &Ground) -> usiz
         at,
         count,
     ) {
-        if does_match(&requests[place].template, tuple) {
+        if is_asking(&requests[place], wanted) {
             return place;
         }
         at = place + 1;

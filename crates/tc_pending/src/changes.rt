@@ -8,7 +8,7 @@ ghost use Rattle.tc_pending.specs.Codes.{codes_of};
 ghost use Rattle.tc_pending.specs.Rising.{NumbersRise};
 ghost use Rattle.tc_pending.specs.Filed.{KeepsAll};
 
-use crate::codes::code_of;
+use crate::codes::request_code;
 use crate::index::Index;
 use crate::numbers::put_back;
 use tc_lists::NoMemory;
@@ -101,7 +101,7 @@ fn take_back(
             request,
             serial,
         } => {
-            let code = code_of(request.template.term());
+            let code = request_code(&request);
             let _ = requests.insert(place, request);
             put_back(codes, place, code);
             put_back(serials, place, serial);
@@ -172,7 +172,7 @@ fn forget(index: &mut Index, change: Change, serials: &[u64], filed: u64)
             serial,
             ..
         } if serial < filed => {
-            index.leave(serials, code_of(request.template.term()), serial);
+            index.leave(serials, request_code(&request), serial);
         }
         Change::Removed { .. } | Change::Added => {}
     }

@@ -13,7 +13,7 @@ use tc_lists::NoMemory;
 const FEW: usize = 32;
 
 /// So many remainders of codes are told apart.
-pub const REMAINDERS: u64 = 1024;
+pub const REMAINDERS: u64 = 8192;
 
 /// Pairs of a code and a serial number, in order; and for each remainder of a code, once there was
 /// a pair, whether one with such a code was ever entered.

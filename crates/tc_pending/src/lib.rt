@@ -1,11 +1,13 @@
-//! Requests that wait for a tuple, and which of them is answered next.
+//! Requests that wait for a tuple, or until none matches, and which of them is answered next.
 //!
 //! Nothing here knows of histories, or of what an answer brings about. A caller asks which request
-//! a bag's tuples answer next, takes the tuple, and removes the request:
+//! a bag's tuples answer next, takes the tuple, if there is one, and removes the request:
 //!
 //! ```text
 //! if let Some((place, age)) = pending.oldest_answerable(&bag)? {
-//!     bag.take(age);
+//!     if let Some(age) = age {
+//!         bag.take(age);
+//!     }
 //!     pending.remove(place);
 //! }
 //! ```
@@ -16,8 +18,8 @@
 //! |---|---|
 //! | pending | `Pending`, the list with its marks: its public calls |
 //! | answering | which request is answered next, where all is looked at, and where some is known |
-//! | asking, waiters | the oldest request that asks for a tuple, among requests that are lent |
-//! | codes, index | codes of templates, and the serial numbers of requests by these codes |
+//! | asking, waiters | the oldest of lent requests that asks for a tuple that came, or that went |
+//! | codes, index | codes of requests, and the serial numbers of requests by these codes |
 //! | numbers | the lists of codes and of serial numbers beside the requests |
 //! | changes | what is noted of each change since a mark, and how it is taken back |
 #![tactic(auto)]

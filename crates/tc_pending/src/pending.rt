@@ -1,7 +1,8 @@
 //! The list of requests that wait.
 use crate::answering::{Known, answerable_from, newly_answerable};
+use crate::asking::with_absence;
 use crate::changes::{Change, forget_removed, go_back, make_room, note};
-use crate::codes::code_of;
+use crate::codes::request_code;
 use crate::index::{Index, file};
 use crate::numbers::{append, number_behind};
 use crate::waiters::Waiters;
@@ -16,8 +17,9 @@ use tc_model::Request;
 /// Beside each request stand its code, so that those that don't ask for a tuple are passed over,
 /// and its serial number, by which an index names the requests of a code. The index has the
 /// requests of serial numbers below `filed`; the newer ones are few. It changes only where there is
-/// no mark. A mark copies nothing: each change after it is noted, and can be taken back. A mark is
-/// the number of changes before it, and where there is no mark none is noted.
+/// no mark. Where no request ever wanted absence, `absences` is false. A mark copies nothing: each
+/// change after it is noted, and can be taken back. A mark is the number of changes before it, and
+/// where there is no mark none is noted.
 #[derive(Drop)]
 pub struct Pending {
     requests: Vec<Request>,
@@ -25,6 +27,7 @@ pub struct Pending {
     serials: Vec<u64>,
     index: Index,
     filed: u64,
+    absences: bool,
     changes: Vec<Change>,
     marks: Vec<usize>,
 }
@@ -45,8 +48,8 @@ impl Model for Pending {
       saved = saved_at p.marks.items p.changes.items p.requests.items;
     } };
 
-    ghost invariant = { λ p.
-        IsSound p.requests p.request_codes p.serials p.index p.filed p.changes p.marks.items };
+    ghost invariant = { λ p. IsSound p.requests p.request_codes p.serials
+        p.index p.filed p.absences p.changes p.marks.items };
 }
 
 impl Pending {
@@ -54,7 +57,7 @@ impl Pending {
     ghost use Rattle.std.specs.Prelude.{length, remove};
     ghost use Rattle.std.specs.Prelude.{IfOk, IfSome, IfNone, OnOk, OnErr};
     ghost use Rattle.tc_lists.specs.Firsts.{NoneOf};
-    ghost use Rattle.tc_bag.specs.Stock.{tuples_of};
+    ghost use Rattle.tc_bag.specs.Stock.{begun, tuples_of};
     ghost use Rattle.tc_model.specs.State.{IsAnswerable};
     ghost use Rattle.tc_lists.specs.Marks.{IsBack, IsGivenUp};
     ghost use Rattle.tc_pending.specs.Waiting.{marked_requests};
@@ -70,6 +73,7 @@ impl Pending {
             serials: Vec::new(alloc),
             index: Index::new(alloc),
             filed: 0,
+            absences: false,
             changes: Vec::new(alloc),
             marks: Vec::new(alloc),
         }
@@ -82,12 +86,13 @@ impl Pending {
         &self.requests
     }
 
-    /// The place, from 0, of the request that is answered next, and the age of the tuple that
-    /// answers it: the oldest request that can be answered, by the oldest tuple that matches.
+    /// The place, from 0, of the request that is answered next, and what answers it: the oldest
+    /// request that can be answered, by the age of the oldest tuple that matches, or by no tuple,
+    /// where it wants absence and none matches.
     ///
     /// `None` says that no request can be answered. Takes no memory, and so never fails, and
     /// O(requests × tuples) time.
-    pub fn oldest_answerable(&self, bag: &Bag) -> Result<Option<(usize, u64)>, NoMemory>
+    pub fn oldest_answerable(&self, bag: &Bag) -> Result<Option<(usize, Option<u64>)>, NoMemory>
         ensures found { IfOk result (λ found. IfSome found
             (λ r. IsNextAnswer bag.now.now self.now.now r.0 r.1)) }
         ensures none { IfOk result (λ found. IfNone found
@@ -100,11 +105,20 @@ impl Pending {
     /// The same as `oldest_answerable`, where it is known what no longer has to be looked at.
     ///
     /// Tuples of an age from `known.age` on are new to all requests, and requests from the place
-    /// `known.requests` on are new to all tuples. For each new tuple the known requests are looked
-    /// up by its code, in O(log requests) for each that has it; for each new request the bag is
+    /// `known.requests` on are new to all tuples. For each new tuple the known requests that want
+    /// one are looked up by its code, in O(log requests) for each that has it; for each new request
+    /// the bag is searched once.
+    ///
+    /// Known requests that want absence are looked for where a tuple was taken since the bag's
+    /// first mark, and only where some request of this list ever wanted absence. For each tuple
+    /// that was taken those of its code are looked up, in O(log requests) for each, and for each
+    /// that it matches the bag is searched once. Where no fewer tuples were taken than requests are
+    /// known, each known request is looked at instead, and for each that wants absence the bag is
     /// searched once.
-    pub fn next_answerable(&self, bag: &Bag, known: Known) -> Option<(usize, u64)>
-        requires known { IsKnown known bag.now.now self.now.now }
+    ///
+    /// No memory is taken.
+    pub fn next_answerable(&self, bag: &Bag, known: Known) -> Option<(usize, Option<u64>)>
+        requires known { IsKnown known (begun bag.now) bag.now.now self.now.now }
         requires inside { known.requests ≤ length self.now.now }
         ensures found { IfSome result (λ r. IsNextAnswer bag.now.now self.now.now r.0 r.1) }
         ensures none { IfNone result
@@ -116,6 +130,7 @@ impl Pending {
             serials: &self.serials,
             index: &self.index,
             filed: self.filed,
+            absences: self.absences,
         };
         if let Some(next) = newly_answerable(&waiters, bag, known) {
             return Some(next);
@@ -135,9 +150,11 @@ impl Pending {
             &mut self.serials,
             &mut self.changes,
         )?;
-        let code = code_of(request.template.term());
+        let code = request_code(&request);
+        let absences = with_absence(self.absences, &request);
         let serial = number_behind(&self.serials, self.filed)?;
         self.requests.push(request)?;
+        self.absences = absences;
         append(&mut self.request_codes, code);
         append(&mut self.serials, serial);
         note(&mut self.changes, !self.marks.is_empty(), Change::Added);

@@ -2,8 +2,8 @@
 use crate::index::Index;
 use tc_model::Request;
 
-/// Requests, oldest first; beside each its code and its serial number; and the index of those of
-/// serial numbers below `filed`.
+/// Requests, oldest first; beside each its code and its serial number; the index of those of
+/// serial numbers below `filed`; and whether one ever wanted absence.
 #[derive(Clone, Copy)]
 pub(crate) struct Waiters<'a> {
     pub(crate) requests: &'a [Request],
@@ -11,4 +11,5 @@ pub(crate) struct Waiters<'a> {
     pub(crate) serials: &'a [u64],
     pub(crate) index: &'a Index,
     pub(crate) filed: u64,
+    pub(crate) absences: bool,
 }

@@ -19,6 +19,6 @@ mod regime;
 mod running;
 
 pub use laws::operation_has_an_outcome;
-pub use phases::{answer, put, request, search};
+pub use phases::{answer, put, request, search, tell_absence};
 pub use regime::Regime;
 pub use tc_lists::NoMemory;

@@ -3,15 +3,17 @@ ghost use Rattle.std.specs.Prelude.{◌≡◌, ◌≤◌, ◌+◌, ◌*◌, ◌+
 ghost use Rattle.std.specs.Prelude.{[], Some, length, IfOk, OnErr};
 ghost use Rattle.tc_bag.specs.Stock.{tuples_of, tuple_at, AddsYounger};
 ghost use Rattle.tc_model.specs.Events.{MayOccur, success_event, request_event};
-ghost use Rattle.tc_model.specs.State.{after_taking};
+ghost use Rattle.tc_model.specs.State.{WantsTuple, after_taking};
 ghost use Rattle.tc_model.specs.Tables.{asking_op};
-ghost use Rattle.tc_model.specs.declared.events.EventOp.TheVariants.{Out};
+ghost use Rattle.tc_model.specs.declared.events.EventOp.TheVariants.{No, Out};
 ghost use Rattle.tc_model.specs.declared.events.Phase.TheVariants.{Pre, Post};
-ghost use Rattle.tc_model.specs.declared.events.Sign.TheVariants.{Neither, Success, Failure};
+ghost use Rattle.tc_model.specs.declared.events.Sign.TheVariants.{Neither, Success};
 ghost use Rattle.tc_model.specs.declared.limits.TheConstants.{MOST_GOALS};
 ghost use Rattle.tc_cascade.specs.Ages.{most_ages};
 ghost use Rattle.tc_cascade.specs.Ends.{items_of};
-ghost use Rattle.tc_phases.specs.Phases.{IsRegime, IsPhase, IsSearch, IsOldest, search_op};
+ghost use Rattle.tc_phases.specs.Phases.{IsRegime, IsPhase, IsSearch, IsOldest};
+ghost use Rattle.tc_phases.specs.Phases.{found_event, missing_event};
+ghost use Rattle.tc_phases.specs.Running.{IsAllowed, event_in};
 
 use crate::regime::Regime;
 use crate::running::{Change, Trigger, run_phase, taking};
@@ -81,9 +83,10 @@ pub fn request(
 }
 
 /// Looks for the oldest tuple that matches, which is taken or stays, and runs the reactions to
-/// that; where none matches, those to the failure.
+/// that; where none matches, those to the failure. A search for absence takes nothing: it fails
+/// where a tuple matches, and succeeds where none does.
 ///
-/// The tuple that was found is told also where its reactions go over the budget, and it is back
+/// The tuple that was found is told also where the reactions go over the budget, and it is back
 /// then.
 pub fn search(
     alloc: Global,
@@ -105,19 +108,19 @@ pub fn search(
     ensures saved { bag.new.saved ≡ bag.old.saved }
     ensures adds { AddsYounger bag.old bag.new }
 {
-    let op = search_op(wants);
     let Some((age, tuple)) = oldest_match_of(template, bag) else {
-        let trigger = Trigger::Failure(op, template);
+        let trigger = missing(wants, template);
         let end = run_phase(alloc, store, regime, &trigger, &Change::Nothing, bag)?;
         return Ok((None, end));
     };
     let tuple = tuple.copy(alloc)?;
-    let end = run_found(alloc, store, regime, op, wants, age, &tuple, bag)?;
+    let trigger = found(wants, template, &tuple);
+    let end = run_phase(alloc, store, regime, &trigger, &taking(wants, age), bag)?;
     Ok((Some(tuple), end))
 }
 
-/// Answers a request with the tuple of an age, which is taken or stays, and runs the reactions to
-/// that. The tuple is told.
+/// Answers a request for a tuple with that of an age, which is taken or stays, and runs the
+/// reactions to that. The tuple is told.
 pub fn answer(
     alloc: Global,
     store: &mut Store,
@@ -128,6 +131,7 @@ pub fn answer(
 ) -> Result<(Ground, Cascade), NoMemory>
     requires regime { IsRegime regime.now }
     requires next { bag.old.next + most_ages + 1 ≤ u64.MAX }
+    requires wants { WantsTuple wants }
     requires oldest { IsOldest bag.old.now age }
     ensures tuple { IfOk result (λ x. tuple_at age bag.old.now ≡ Some x.0) }
     ensures phase { IfOk result (λ x. IsPhase regime.now (success_event (asking_op wants) x.0)
@@ -144,45 +148,35 @@ pub fn answer(
         unreachable!();
     };
     let tuple = tuple.copy(alloc)?;
-    let end = run_found(
-        alloc,
-        store,
-        regime,
-        asking_op(wants),
-        wants,
-        age,
-        &tuple,
-        bag,
-    )?;
+    let trigger = Trigger::Success(asking_op(wants), &tuple);
+    let end = run_phase(alloc, store, regime, &trigger, &taking(wants, age), bag)?;
     Ok((tuple, end))
 }
 
-// The phase of an operation that has found the tuple of an age.
-fn run_found(
+/// Tells a request for absence that no tuple matches the template, and runs the reactions to that.
+///
+/// Whether none matches is the caller's to know.
+pub fn tell_absence(
     alloc: Global,
     store: &mut Store,
     regime: &Regime,
-    op: EventOp,
-    wants: Wants,
-    age: u64,
-    tuple: &Ground,
+    template: &Pattern,
     bag: &mut Bag,
 ) -> Result<Cascade, NoMemory>
     requires regime { IsRegime regime.now }
     requires next { bag.old.next + most_ages + 1 ≤ u64.MAX }
-    requires op { MayOccur op Post Success }
-    requires found { IsOldest bag.old.now age }
-    requires there { tuple_at age bag.old.now ≡ Some tuple.now }
-    ensures phase { IfOk result (IsPhase regime.now (success_event op tuple.now)
-        (after_taking wants tuple.now (tuples_of bag.old.now)) bag.old bag.new) }
+    ensures phase { IfOk result (IsPhase regime.now (success_event No template.now)
+        (tuples_of bag.old.now) bag.old bag.new) }
     ensures same { OnErr result (bag.new ≡ bag.old) }
     ensures next { IfOk result
         (λ c. bag.new.next ≤ bag.old.next + 1 + MOST_GOALS * length (items_of c)) }
+
+    // After each answer:
     ensures saved { bag.new.saved ≡ bag.old.saved }
     ensures adds { AddsYounger bag.old bag.new }
 {
-    let trigger = Trigger::Success(op, tuple);
-    let end = run_phase(alloc, store, regime, &trigger, &taking(wants, age), bag)?;
+    let trigger = Trigger::Absence(EventOp::No, template);
+    let end = run_phase(alloc, store, regime, &trigger, &Change::Nothing, bag)?;
     Ok(end)
 }
 
@@ -195,17 +189,30 @@ fn asking_op(wants: Wants) -> EventOp
     match wants {
         Wants::Take => EventOp::In,
         Wants::Look => EventOp::Rd,
+        Wants::Absence => EventOp::No,
     }
 }
 
-// The operation of a search that doesn't wait.
-fn search_op(wants: Wants) -> EventOp
-    ensures op { result ≡ search_op wants }
-    ensures finds { MayOccur result Post Success }
-    ensures fails { MayOccur result Post Failure }
+// What a search triggers that has found a tuple.
+fn found<'a>(wants: Wants, template: &'a Pattern, tuple: &'a Ground) -> Trigger<'a>
+    ensures event { event_in result ≡ found_event wants template.now tuple.now }
+    ensures allowed { IsAllowed result }
 {
     match wants {
-        Wants::Take => EventOp::Inp,
-        Wants::Look => EventOp::Rdp,
+        Wants::Take => Trigger::Success(EventOp::Inp, tuple),
+        Wants::Look => Trigger::Success(EventOp::Rdp, tuple),
+        Wants::Absence => Trigger::Failure(EventOp::Nop, template),
+    }
+}
+
+// What a search triggers that has found none.
+fn missing<'a>(wants: Wants, template: &'a Pattern) -> Trigger<'a>
+    ensures event { event_in result ≡ missing_event wants template.now }
+    ensures allowed { IsAllowed result }
+{
+    match wants {
+        Wants::Take => Trigger::Failure(EventOp::Inp, template),
+        Wants::Look => Trigger::Failure(EventOp::Rdp, template),
+        Wants::Absence => Trigger::Absence(EventOp::Nop, template),
     }
 }

@@ -2,8 +2,7 @@
 ghost use Rattle.std.specs.Prelude.{◌≡◌, ◌≤◌, ◌<◌, ◌+◌, ◌*◌, length, IfOk};
 ghost use Rattle.std.specs.Prelude.{OnOk, OnErr};
 ghost use Rattle.tc_bag.specs.Stock.{AddsYounger, tuples_of};
-ghost use Rattle.tc_model.specs.Events.{MayOccur};
-ghost use Rattle.tc_model.specs.declared.events.Phase.TheVariants.{Post};
+ghost use Rattle.tc_model.specs.Events.{MayOccur, SucceedsWithTuple};
 ghost use Rattle.tc_model.specs.declared.events.Sign.TheVariants.{Success};
 ghost use Rattle.tc_model.specs.declared.limits.TheConstants.{MOST_GOALS};
 ghost use Rattle.tc_cascade.specs.Ages.{most_ages};
@@ -35,6 +34,8 @@ pub enum Change<'a> {
 #[derive(Clone, Copy)]
 pub enum Trigger<'a> {
     Success(EventOp, &'a Ground),
+    /// It has succeeded because no tuple matches.
+    Absence(EventOp, &'a Pattern),
     Failure(EventOp, &'a Pattern),
     Request(EventOp, &'a Pattern),
 }
@@ -45,7 +46,7 @@ pub fn taking<'a>(wants: Wants, age: u64) -> Change<'a>
 {
     match wants {
         Wants::Take => Change::Take(age),
-        Wants::Look => Change::Nothing,
+        Wants::Look | Wants::Absence => Change::Nothing,
     }
 }
 
@@ -154,6 +155,7 @@ impl Trigger<'_> {
     {
         match self {
             Trigger::Success(op, _) => *op,
+            Trigger::Absence(op, _) => *op,
             Trigger::Failure(op, _) => *op,
             Trigger::Request(op, _) => *op,
         }
@@ -169,6 +171,10 @@ impl Trigger<'_> {
                 let event = Event::success(alloc, *op, tuple)?;
                 Ok(event)
             }
+            Trigger::Absence(op, template) => {
+                let event = on_template(alloc, *op, template, Phase::Post, Sign::Success)?;
+                Ok(event)
+            }
             Trigger::Failure(op, template) => {
                 let event = on_template(alloc, *op, template, Phase::Post, Sign::Failure)?;
                 Ok(event)
@@ -181,7 +187,7 @@ impl Trigger<'_> {
     }
 }
 
-// The event of an operation that has no tuple.
+// The event of an operation on a template.
 fn on_template(
     alloc: Global,
     op: EventOp,
@@ -190,7 +196,7 @@ fn on_template(
     sign: Sign,
 ) -> Result<Event, NoMemory>
     requires allowed { MayOccur op phase sign }
-    requires sign { sign ≡ Success → ⊥ }
+    requires template { sign ≡ Success → SucceedsWithTuple op → ⊥ }
     ensures { IfOk result
         (λ e. e ≡ record { op = op; term = template.now; phase = phase; sign = sign }) }
 {

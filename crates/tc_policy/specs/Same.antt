@@ -7,7 +7,8 @@ use Rattle.std.specs.Hash.{HashWrites}
 use Rattle.std.proofs.Common.{ap, refl, sym, ◌∙◌}
 use Rattle.std.proofs.lemmas.Bool.Decides.{Decides-and, Decides-eqb}
 use Rattle.tc_model.specs.declared.asks.Primitive.{Primitive}
-use Rattle.tc_model.specs.declared.asks.Primitive.TheVariants.{Out, In, Rd, Inp, Rdp, SetSpec, GetSpec}
+use Rattle.tc_model.specs.declared.asks.Primitive.TheVariants.{Out, In, Rd, Inp, Rdp, No, Nop}
+use Rattle.tc_model.specs.declared.asks.Primitive.TheVariants.{SetSpec, GetSpec}
 use Rattle.tc_policy.specs.Numbers.{number_of}
 use Rattle.tc_policy.specs.declared.grants.Grant.{Grant}
 
@@ -28,8 +29,10 @@ primitive_at (suc zero) = Some In
 primitive_at (suc (suc zero)) = Some Rd
 primitive_at (suc (suc (suc zero))) = Some Inp
 primitive_at (suc (suc (suc (suc zero)))) = Some Rdp
-primitive_at (suc (suc (suc (suc (suc zero))))) = Some SetSpec
-primitive_at (suc (suc (suc (suc (suc (suc n)))))) = Some GetSpec
+primitive_at (suc (suc (suc (suc (suc zero))))) = Some No
+primitive_at (suc (suc (suc (suc (suc (suc zero)))))) = Some Nop
+primitive_at (suc (suc (suc (suc (suc (suc (suc zero))))))) = Some SetSpec
+primitive_at (suc (suc (suc (suc (suc (suc (suc (suc n)))))))) = Some GetSpec
 
 primitive_at-number : (p : Primitive) → primitive_at (number_of p) ≡ Some p
 primitive_at-number Out = refl
@@ -37,6 +40,8 @@ primitive_at-number In = refl
 primitive_at-number Rd = refl
 primitive_at-number Inp = refl
 primitive_at-number Rdp = refl
+primitive_at-number No = refl
+primitive_at-number Nop = refl
 primitive_at-number SetSpec = refl
 primitive_at-number GetSpec = refl
 

@@ -62,7 +62,9 @@ fn number_of(primitive: Primitive) -> u8
         Primitive::Rd => 2,
         Primitive::Inp => 3,
         Primitive::Rdp => 4,
-        Primitive::SetSpec => 5,
-        Primitive::GetSpec => 6,
+        Primitive::No => 5,
+        Primitive::Nop => 6,
+        Primitive::SetSpec => 7,
+        Primitive::GetSpec => 8,
     }
 }

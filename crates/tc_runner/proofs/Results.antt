@@ -1,5 +1,7 @@
 -- What an ask comes to at a core, by what is answered there.
-use Rattle.std.proofs.Common.{◌≡◌, ◌<◌, ◌++◌, ◌∷◌, ℕ, List, All, Contains, Result, Ok, Err, IfOk, IfErr, OnErr, length, take, refl, sym, ap, ◌∙◌, subst, arith}
+use Rattle.std.proofs.Common.{◌≡◌, ◌<◌, ◌++◌, ◌∷◌, ℕ, true, List, Option, Some, None, All, Contains, Result, Ok, Err, IfOk, IfErr, IfSome, OnErr, length, take, refl, sym, ap, ◌∙◌, subst, arith}
+use Rattle.std.specs.Option.{is_some}
+use Rattle.std.proofs.lemmas.Bool.{false≢true}
 use Rattle.std.proofs.lemmas.List.{drop_all, take_all}
 use Rattle.std.proofs.lemmas.List.Elements.{All-nil, Contains-append_right}
 use Rattle.tc_lists.proofs.Places.{Contains-slice_get}
@@ -33,8 +35,14 @@ use Rattle.tc_policy.specs.declared.grants.Grant.{Grant}
 use Rattle.tc_runner.specs.Results.{Changes, refusal_of, result_of}
 
 -- a grant that has a number stands among the grants
-pub Contains-first : (g : Grant) (grants : List Grant) (number : ℕ) → IsFirstNumber g grants number → Contains grants g
+Contains-first : (g : Grant) (grants : List Grant) (number : ℕ) → IsFirstNumber g grants number → Contains grants g
 Contains-first g grants number first = Contains-slice_get grants first.0 g first.2.stands
+
+-- a grant that was given a number stands among the grants
+pub Contains-some : (g : Grant) (grants : List Grant) (number : Option ℕ) → IfSome number (IsFirstNumber g grants) → is_some number ≡ true
+    → Contains grants g
+Contains-some g grants (Some number) first some = Contains-first g grants number first
+Contains-some g grants None first some = absurd (false≢true some)
 
 -- what an ask comes to that is permitted
 pub IsResult-permitted : (permits : Type 0) (origin : Origin) (history : List Entry) (id : CallId) (ask : Ask) (became : LogResult) → permits

@@ -1,5 +1,6 @@
 -- What is known of an agent that has come so far in its scripts.
-use Rattle.std.specs.Prelude.{◌≡◌, ℕ, ◌+◌, ◌-◌, ◌*◌, ◌≤◌, false, if◌then◌else◌, List, [], ◌∷◌, ◌++◌, length}
+use Rattle.std.specs.Prelude.{◌≡◌, ℕ, ◌+◌, ◌-◌, ◌*◌, ◌≤◌, false, if◌then◌else◌, List, [], ◌∷◌, ◌++◌}
+use Rattle.std.specs.Prelude.{length}
 use Rattle.std.specs.Prelude.{Option, Some, None, slice_get}
 use Rattle.tc_asks.specs.Progress.{HasTakenIn}
 use Rattle.tc_config.specs.declared.configs.AgentConf.{AgentConf}
@@ -44,7 +45,8 @@ pub record AreClients (agents : List AgentConf) (logs : List (List LogRow)) (cli
     : Type 0 where
   pub whole : length clients ≡ length agents
   pub each : (k : ℕ) (a : AgentConf) (log : List LogRow) (client : Client)
-      → slice_get agents k ≡ Some a → slice_get logs k ≡ Some log → slice_get clients k ≡ Some client
+      → slice_get agents k ≡ Some a → slice_get logs k ≡ Some log
+      → slice_get clients k ≡ Some client
       → IsClient k a.scripts log client
 
 -- how many steps are left at most: two for each item without a row, and one where the last row is

@@ -7,8 +7,8 @@ use tc_lists::NoMemory;
 use tc_policy::Roles;
 use tc_term::Name;
 
-/// What is left of a configuration whose centres are opened: their names, the grants, and the agents
-/// with their scripts. Contracts see it as the configuration.
+/// What is left of a configuration whose centres are opened: their names, the grants, and the
+/// agents with their scripts. Contracts see it as the configuration.
 #[derive(Drop)]
 pub struct Plan {
     centres: Vec<Name>,

@@ -11,21 +11,17 @@ use Rattle.tc_asks.below.tc_unify.proofs.walk.Walk.TheSendSync as walk
 use Rattle.tc_asks.below.tc_unify.specs.contracts.store.Store as store
 use Rattle.tc_asks.specs.contracts.asker.Asker as asker
 use Rattle.tc_asks.specs.contracts.bindings.Bindings as bindings
-use Rattle.tc_desk.specs.contracts.rows.LogResult.{the_field as result_field}
-use Rattle.tc_desk.specs.contracts.rows.LogRow as row
 use Rattle.tc_desk.specs.declared.desks.Desk as Desk
-use Rattle.tc_model.specs.contracts.asks.Ask.{the_row as ask}
-use Rattle.tc_model.specs.contracts.outcomes.Reply.{the_row as reply, the_field as reply_field}
 use Rattle.tc_model.specs.contracts.scripts.Script as script
 use Rattle.tc_model.specs.contracts.scripts.ScriptItem as item
 use Rattle.tc_sched.specs.contracts.actor.Actor as actor
 use Rattle.tc_sched.specs.contracts.actor.Actor.TheInside as inside
-use Rattle.tc_term.proofs.Sends.{of_terms, ground_send, term_field_send}
+use Rattle.tc_term.proofs.Sends.{of_terms, term_field_send}
 use Rattle.tc_term.proofs.name.Name.TheSendSync as name
 use Rattle.tc_term.proofs.terms.Args.TheLaws.TheKnot as knot
 
 item_send : IsSend item.the_row
-item_send = search of_terms depth 60 fits 20000
+item_send = search (of_terms, term_field_send) depth 60 fits 20000
 
 pub script_send : IsSend script.the_row
 script_send = search (item_send, std.crosses, sendable) depth 60 fits 20000
@@ -61,19 +57,3 @@ inside_send D B g desk =
 
 pub actor_send : (D B : RattleType) (g : Desk.Ghosts D.Denot B.Denot) → IsSend D → IsSend (actor.the_row D B g)
 actor_send D B g desk = view_send (inside.the_row D B g) _ _ _ _ (inside_send D B g desk)
-
-ask_send : IsSend ask
-ask_send = search (of_terms, term_field_send) depth 60 fits 20000
-
-reply_send : IsSend reply
-reply_send = search (of_terms, ground_send) depth 60 fits 20000
-
-reply_field_send : IsSend reply_field.row
-reply_field_send = search (of_terms, ground_send) depth 60 fits 20000
-
-result_field_send : IsSend result_field.row
-result_field_send = search (of_terms, reply_send, reply_field_send) depth 60 fits 20000
-
--- rows of logs
-pub row_send : IsSend row.the_row
-row_send = search (of_terms, ask_send, result_field_send) depth 60 fits 20000

@@ -3,3 +3,4 @@ pub mod Passing
 pub mod Walking
 pub mod Arguments
 pub mod Bound
+pub mod ByFirst

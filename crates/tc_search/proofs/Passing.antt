@@ -9,11 +9,11 @@ use Rattle.tc_lists.proofs.Firsts.{NoneOf-from_All, All-from_NoneOf}
 use Rattle.tc_term.specs.Equations.{Equation, Matches}
 use Rattle.tc_term.specs.Tree.{Tree, IsTuple}
 use Rattle.tc_bag.specs.declared.key.Key.{Key}
-use Rattle.tc_bag.specs.Keys.{key_of, known_first, IsOfKey, HasFirst, IsLike}
+use Rattle.tc_bag.specs.Keys.{key_of, IsOfKey, IsLike}
 use Rattle.tc_bag.specs.Stock.{Row, AgesRiseBelow, tuples_of, tuple_at, without_age}
-use Rattle.tc_bag.proofs.Agreement.{Agrees-match, HasFirst-match}
+use Rattle.tc_bag.proofs.Agreement.{Agrees-match}
 use Rattle.tc_bag.proofs.Ages.{AgesRiseBelow-all, others_before, without_age-at, tuple_at-at}
-use Rattle.tc_search.specs.Found.{IsFound}
+use Rattle.tc_search.specs.Found.{IsFound, MatchesHaveFirst}
 
 -- the rows behind a row are younger
 pub AgesRiseBelow-behind : (xs ys : List Row) (r : Row) (next : ℕ) → AgesRiseBelow (xs ++ r ∷ ys) next → All (λ s. r.age < s.age) ys
@@ -121,14 +121,14 @@ found_row n es template Q from next rows row rises keys passed first match =
       left = without_age-row rows first.before first.behind row next rises first.split;
     }
 
--- what a template matches agrees with its key and has its first argument
+-- what a template matches agrees with its key, and is like it where it has this first argument
 pub likes_agree : (n : ℕ) (es : List Equation) (template : Tree) (key : Key) (first : Option Tree) (rows : List Row) → key ≡ key_of template
-    → first ≡ known_first template → All (λ r. IsTuple r.tuple) rows → IsKey (Matches n es template) (IsLike key first) rows
-likes_agree n es template key first rows same known tuples =
+    → MatchesHaveFirst n es template first → All (λ r. IsTuple r.tuple) rows → IsKey (Matches n es template) (IsLike key first) rows
+likes_agree n es template key first rows same have tuples =
     All-weaker (λ r. IsTuple r.tuple) (λ r. Matches n es template r.tuple → IsLike key first r.tuple)
     (λ r tuple match. (
       subst (λ k. IsOfKey k r.tuple) (sym same) (Agrees-match n es template r.tuple match tuple),
-      subst (λ f. HasFirst f r.tuple) (sym known) (HasFirst-match n es template r.tuple match tuple),
+      have r.tuple match tuple,
     )) rows tuples
 
 -- before the first row none is passed

@@ -9,6 +9,7 @@
 //! ```
 #![tactic(auto)]
 
+mod firsts;
 mod matching;
 mod search;
 

@@ -8,6 +8,7 @@ ghost use Rattle.tc_bag.specs.Keys.{key_of};
 ghost use Rattle.tc_bag.specs.Stock.{tuples_of};
 ghost use Rattle.tc_search.specs.Found.{IsFound};
 
+use crate::firsts::{first_of, value_after};
 use crate::matching::does_match;
 use tc_bag::{Bag, Key, known_first};
 use tc_lists::NoMemory;
@@ -17,7 +18,9 @@ use tc_unify::Store;
 /// The oldest tuple that the template matches under the store's equations, with its age.
 ///
 /// The equation of template and tuple is then added to the store; where no tuple matches, and where
-/// memory ends, the store is as before. The key is the template's.
+/// memory ends, the store is as before. The key is the template's. Only tuples are tried that agree
+/// with it; and once a few were tried in vain, only those that have the first argument which the
+/// equations give to the template, if they give one.
 pub fn oldest_match<'a>(
     store: &mut Store,
     template: &Term,
@@ -41,13 +44,17 @@ pub fn oldest_match<'a>(
     ensures solvable { Solvable store.old.vars store.old.pairs
         → Solvable store.new.vars store.new.pairs }
 {
-    let first = known_first(template);
+    let known = known_first(template);
+    let mut value = None;
+    let mut tried: u32 = 0;
     let mut from = 0;
-    while let Some((age, tuple)) = bag.candidate_like(key, first, from) {
+    while let Some((age, tuple)) = bag.candidate_like(key, first_of(&value, known), from) {
         if is_added(store, template, tuple)? {
             return Ok(Some((age, tuple)));
         }
         from = age + 1;
+        tried = tried.saturating_add(1);
+        value = value_after(tried, value, store, template)?;
     }
     Ok(None)
 }

@@ -5,11 +5,9 @@ use denote.Ref.{NamedLft}
 use denote.Struct.Declared.{shape}
 use denote.RattleType.{RattleType}
 use Rattle.std.proofs.Crossing.{crosses}
-use Rattle.tc_desk.specs.contracts.rows.LogResult.{the_field as result_field}
-use Rattle.tc_desk.specs.contracts.rows.LogRow as row
+use Rattle.tc_desk.proofs.Sends.{row_send}
 use Rattle.tc_desk.specs.declared.wardens.Warden as Warden
-use Rattle.tc_model.specs.contracts.asks.Ask.{the_row as ask}
-use Rattle.tc_shared.proofs.Sends.{core_send, reply_send, reply_field_send, shared_sync}
+use Rattle.tc_shared.proofs.Sends.{core_send, shared_sync}
 use Rattle.tc_site.specs.contracts.desks.AgentDesk as desk
 use Rattle.tc_site.specs.contracts.desks.AgentDesk.TheInside as inside
 use Rattle.tc_site.specs.contracts.kits.DeskKit as kit
@@ -19,18 +17,7 @@ use Rattle.tc_site.specs.contracts.kits.EndedDesk.TheInside as ended_inside
 use Rattle.tc_site.specs.contracts.sites.Site as site
 use Rattle.tc_site.specs.contracts.sites.Site.TheInside as site_inside
 use Rattle.tc_term.proofs.name.Name.TheSendSync as name
-use Rattle.tc_term.proofs.Sends.{of_terms, term_field_send}
 use Rattle.tc_turn.proofs.pass.Pass.TheSendSync as pass
-
-ask_send : IsSend ask
-ask_send = search (of_terms, term_field_send) depth 60 fits 20000
-
-result_field_send : IsSend result_field.row
-result_field_send = search (of_terms, reply_send, reply_field_send) depth 60 fits 20000
-
--- rows of logs
-pub row_send : IsSend row.the_row
-row_send = search (of_terms, ask_send, result_field_send) depth 60 fits 20000
 
 site_inside_sync : (W : RattleType) (g : Warden.Ghosts W.Denot) → IsSync W → IsSync (site_inside.the_row W g)
 site_inside_sync W g warden =

@@ -117,6 +117,8 @@ pending-outcome outcome.Pending none = refl
 pending-outcome outcome.Done none = absurd (none reply.Done refl)
 pending-outcome (outcome.Took t) none = absurd (none (reply.Tuple t) refl)
 pending-outcome outcome.NoTuple none = absurd (none reply.NoTuple refl)
+pending-outcome outcome.Absent none = absurd (none reply.Absent refl)
+pending-outcome (outcome.Found t) none = absurd (none (reply.Found t) refl)
 pending-outcome (outcome.Spec text) none = absurd (none (reply.Spec text) refl)
 pending-outcome (outcome.Over phase tuple) none = absurd (none (reply.OverBudget phase) refl)
 

@@ -109,7 +109,9 @@ op_of name =
     else (if bytes_eq name (codes "rdp") then op.Rdp
     else (if bytes_eq name (codes "out_r") then op.OutR
     else (if bytes_eq name (codes "in_r") then op.InR
-    else (if bytes_eq name (codes "rd_r") then op.RdR else op.NoR)))))))
+    else (if bytes_eq name (codes "no") then op.No
+    else (if bytes_eq name (codes "nop") then op.Nop
+    else (if bytes_eq name (codes "rd_r") then op.RdR else op.NoR)))))))))
 
 op_of-name : (o : EventOp) → op_of (op_name o) ≡ o
 op_of-name op.Out = refl
@@ -117,6 +119,8 @@ op_of-name op.In = refl
 op_of-name op.Rd = refl
 op_of-name op.Inp = refl
 op_of-name op.Rdp = refl
+op_of-name op.No = refl
+op_of-name op.Nop = refl
 op_of-name op.OutR = refl
 op_of-name op.InR = refl
 op_of-name op.RdR = refl

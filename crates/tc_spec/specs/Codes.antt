@@ -22,10 +22,12 @@ op_code op.In = 2
 op_code op.Rd = 3
 op_code op.Inp = 4
 op_code op.Rdp = 5
-op_code op.OutR = 6
-op_code op.InR = 7
-op_code op.RdR = 8
-op_code op.NoR = 9
+op_code op.No = 6
+op_code op.Nop = 7
+op_code op.OutR = 8
+op_code op.InR = 9
+op_code op.RdR = 10
+op_code op.NoR = 11
 
 -- the code of an operation and of a term without its arguments; a variable has none
 abbrev pub code_of : EventOp → Tree → Option ℕ

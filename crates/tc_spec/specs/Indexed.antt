@@ -65,6 +65,8 @@ pub record IsIndex (clauses : List Rule) (i : Index) : Type 0 where
   pub rd : AreOf op.Rd clauses i.rd.items
   pub inp : AreOf op.Inp clauses i.inp.items
   pub rdp : AreOf op.Rdp clauses i.rdp.items
+  pub no : AreOf op.No clauses i.no.items
+  pub nop : AreOf op.Nop clauses i.nop.items
   pub out_r : AreOf op.OutR clauses i.out_r.items
   pub in_r : AreOf op.InR clauses i.in_r.items
   pub rd_r : AreOf op.RdR clauses i.rd_r.items

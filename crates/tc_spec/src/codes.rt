@@ -35,9 +35,11 @@ fn op_code(op: EventOp) -> u64
         EventOp::Rd => 3,
         EventOp::Inp => 4,
         EventOp::Rdp => 5,
-        EventOp::OutR => 6,
-        EventOp::InR => 7,
-        EventOp::RdR => 8,
-        EventOp::NoR => 9,
+        EventOp::No => 6,
+        EventOp::Nop => 7,
+        EventOp::OutR => 8,
+        EventOp::InR => 9,
+        EventOp::RdR => 10,
+        EventOp::NoR => 11,
     }
 }

@@ -135,7 +135,13 @@ pub fn goal_op_name(form: Form, op: EventOp) -> &'static [u8]
             EventOp::InR => b"in",
             EventOp::RdR => b"rd",
             EventOp::NoR => b"no",
-            EventOp::Out | EventOp::In | EventOp::Rd | EventOp::Inp | EventOp::Rdp => op.name(),
+            EventOp::Out
+            | EventOp::In
+            | EventOp::Rd
+            | EventOp::Inp
+            | EventOp::Rdp
+            | EventOp::No
+            | EventOp::Nop => op.name(),
         },
     }
 }

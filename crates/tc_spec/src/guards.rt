@@ -94,7 +94,8 @@ pub fn allows(tests: &[GuardTest], phase: Phase, sign: Sign) -> bool
 
 // Whether a test holds of the events of this phase and sign.
 fn holds(test: GuardTest, phase: Phase, sign: Sign) -> bool
-    ensures { (e : Occurrence) → e.phase ≡ phase → e.sign ≡ sign → (IsTrue result ↔ Holds e test) }
+    ensures { (e : Occurrence) → e.phase ≡ phase → e.sign ≡ sign
+        → (IsTrue result ↔ Holds e test) }
 {
     match test {
         GuardTest::Request => phase == Phase::Pre,

@@ -86,12 +86,12 @@ fn is_triggered(store: &mut Store, r: &Reaction, e: &Event) -> Result<bool, NoMe
     if !has_op(r, e.op()) {
         return Ok(false);
     }
-    if !has_guard_for(r, e.phase(), e.sign()) {
-        return Ok(false);
-    }
     let head = r.head();
     let term = e.term();
     if !could_meet(head, term.term()) {
+        return Ok(false);
+    }
+    if !has_guard_for(r, e.phase(), e.sign()) {
         return Ok(false);
     }
     let met = store.meet(head, r.vars(), term)?;

@@ -17,8 +17,8 @@ with_scripts a scripts = record a { scripts = scripts }
 abbrev pub bare : AgentConf → AgentConf
 bare a = with_scripts a []
 
--- what the names of centres and the agents of a site must be, so that these can be driven: each item goes
--- to one of the centres, and turns suffice for all items
+-- what the names of centres and the agents of a site must be, so that these can be driven: each item
+-- goes to one of the centres, and turns suffice for all items
 pub record CanDrive {W : Type 0} (s : SiteState W) (names : List (List ℕ)) (agents : List AgentConf)
     : Type 0 where
   pub names_are : names ≡ s.names
@@ -36,7 +36,8 @@ module _ {W : Type 0} (permits : W → ℕ → ℕ → Primitive → Option ℕ)
     pub sound : IsDecidedLog permits c.desk.site c.desk.agent c.desk.log
 
   -- each agent is at a desk, with its scripts
-  pub record AreAtDesks (agents : List AgentConf) (crew : List (Client (AgentState W))) : Type 0 where
+  pub record AreAtDesks (agents : List AgentConf) (crew : List (Client (AgentState W)))
+      : Type 0 where
     pub scripts : map (λ (c : Client (AgentState W)). c.scripts) crew
         ≡ map (λ (a : AgentConf). a.scripts) agents
     pub each : (k : ℕ) (c : Client (AgentState W)) → slice_get crew k ≡ Some c → IsAtDesk k c
@@ -62,6 +63,7 @@ abbrev pub HasRows : {W : Type 0} → Client (AgentState W) → Type 0
 HasRows c = IsOfScripts c.desk.site.names c.scripts c.desk.log
 
 -- each agent has the scripts of its actor, and is otherwise as it was
-abbrev pub given_back : {W : Type 0} → List AgentConf → List (Client (AgentState W)) → List AgentConf
+abbrev pub given_back : {W : Type 0}
+    → List AgentConf → List (Client (AgentState W)) → List AgentConf
 given_back (a ∷ agents) (c ∷ crew) = with_scripts a c.scripts ∷ given_back agents crew
 given_back agents crew = []

@@ -4,7 +4,8 @@ ghost use Rattle.tc_policy.specs.declared.grants.Grant.{Grant};
 ghost use Rattle.tc_sched.specs.Clients.{Client};
 ghost use Rattle.tc_site.specs.Desks.{AgentState, desk_of};
 ghost use Rattle.tc_site.specs.Sites.{AreOfSite, KitState};
-ghost use Rattle.tc_workers.specs.Crews.{AreAtDesks, AreLeft, CanDrive, HasRows, bare, ended_of, given_back};
+ghost use Rattle.tc_workers.specs.Crews.{AreAtDesks, AreLeft, CanDrive, HasRows, bare, ended_of};
+ghost use Rattle.tc_workers.specs.Crews.{given_back};
 
 use crate::scripts::{give_back, hand_out};
 use std::alloc::Global;
@@ -18,8 +19,9 @@ use tc_sched::{Actor, drive};
 use tc_site::{AgentDesk, DeskKit, EndedDesk, Site};
 use tc_term::Name;
 
-/// Drives the agents of a site, from their first asks on, until each has ended or waits. The names are
-/// those of its centres. The agents are given back as they were, beside their desks, which have ended.
+/// Drives the agents of a site, from their first asks on, until each has ended or waits. The names
+/// are those of its centres. The agents are given back as they were, beside their desks, which have
+/// ended.
 pub(crate) fn drive_all<R: Threads + Wait + Sync, G: Gate + Sync>(
     rt: &R,
     alloc: Global,

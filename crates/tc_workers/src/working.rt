@@ -13,9 +13,9 @@ use tc_site::{Closed, Site};
 
 /// Runs the scripts of a configuration's agents, from their first asks to their ends.
 ///
-/// The agents are dealt out to so many workers, each a thread. Once each has ended or waits, the centres
-/// are closed: an agent whose request was answered meanwhile goes on there, in this thread. The gate is
-/// passed before each ask of the workers.
+/// The agents are dealt out to so many workers, each a thread. Once each has ended or waits, the
+/// centres are closed: an agent whose request was answered meanwhile goes on there, in this thread.
+/// The gate is passed before each ask of the workers.
 pub fn work<R: Threads + Wait + Sync, G: Gate + Sync>(
     rt: &R,
     alloc: Global,

@@ -19,17 +19,21 @@ pub enum Word {
     Rd,
     Inp,
     Rdp,
+    No,
+    Nop,
     SetSpec,
     GetSpec,
 }
 
 /// The words, with their texts.
-pub const WORDS: [(Word, &[u8]); 7] = [
+pub const WORDS: [(Word, &[u8]); 9] = [
     (Word::Out, b"out"),
     (Word::In, b"in"),
     (Word::Rd, b"rd"),
     (Word::Inp, b"inp"),
     (Word::Rdp, b"rdp"),
+    (Word::No, b"no"),
+    (Word::Nop, b"nop"),
     (Word::SetSpec, b"set_spec"),
     (Word::GetSpec, b"get_spec"),
 ];
@@ -53,6 +57,8 @@ impl Word {
             Word::Rd => b"rd",
             Word::Inp => b"inp",
             Word::Rdp => b"rdp",
+            Word::No => b"no",
+            Word::Nop => b"nop",
             Word::SetSpec => b"set_spec",
             Word::GetSpec => b"get_spec",
         }
@@ -76,6 +82,8 @@ pub enum Answer {
     Done,
     Tuple(Term),
     NoTuple,
+    Absent,
+    Found(Term),
     Pending,
     Clauses(Vec<u8>),
     /// The reactions to a request went over the budget.
@@ -104,6 +112,11 @@ pub fn append_reply(alloc: Global, answer: &Answer, into: &mut Vec<u8>) -> Resul
             append_term(alloc, tuple, into)
         }
         Answer::NoTuple => into.extend_from_slice(b"none"),
+        Answer::Absent => into.extend_from_slice(b"absent"),
+        Answer::Found(tuple) => {
+            into.extend_from_slice(b"found ")?;
+            append_term(alloc, tuple, into)
+        }
         Answer::Pending => into.extend_from_slice(b"pending"),
         Answer::Clauses(text) => {
             into.extend_from_slice(b"spec ")?;
@@ -129,20 +142,32 @@ pub fn append_operation(
     into.extend_from_slice(b")")
 }
 
+// What is waited for: to take a tuple, to read one, or that none is left.
+#[derive(Clone, Copy, PartialEq, Eq, Debug)]
+enum Wish {
+    Taking,
+    Reading,
+    Absence,
+}
+
 /// A request that waits.
 #[derive(Drop)]
 pub struct Request {
     pub agent: usize,
     pub number: u64,
     name: Name,
-    takes: bool,
+    wish: Wish,
     template: Term,
 }
 
 impl Request {
     // What is asked for.
     fn operation(&self) -> &'static [u8] {
-        if self.takes { b"in" } else { b"rd" }
+        match self.wish {
+            Wish::Taking => b"in",
+            Wish::Reading => b"rd",
+            Wish::Absence => b"no",
+        }
     }
 }
 
@@ -197,8 +222,10 @@ impl Centre {
     pub fn serve(&mut self, alloc: Global, ask: Ask) -> Result<Outcome, Fault> {
         match ask.word {
             Word::Out => Ok(self.serve_out(alloc, &ask)?),
-            Word::In => Ok(self.wait(alloc, ask, true)?),
-            Word::Rd => Ok(self.wait(alloc, ask, false)?),
+            Word::In => Ok(self.wait(alloc, ask, Wish::Taking)?),
+            Word::Rd => Ok(self.wait(alloc, ask, Wish::Reading)?),
+            Word::No => Ok(self.wait(alloc, ask, Wish::Absence)?),
+            Word::Nop => Ok(self.tell_whether(alloc, &ask)?),
             Word::Inp => Ok(self.search(alloc, &ask, b"inp", true)?),
             Word::Rdp => Ok(self.search(alloc, &ask, b"rdp", false)?),
             Word::SetSpec => self.replace(alloc, &ask.operand),
@@ -236,12 +263,12 @@ impl Centre {
     }
 
     // Lets a call wait.
-    fn wait(&mut self, alloc: Global, ask: Ask, takes: bool) -> Result<Outcome, NoMemory> {
+    fn wait(&mut self, alloc: Global, ask: Ask, wish: Wish) -> Result<Outcome, NoMemory> {
         let request = Request {
             agent: ask.agent,
             number: ask.number,
             name: ask.name,
-            takes,
+            wish,
             template: ask.operand,
         };
         let before = self.kept(alloc)?;
@@ -283,6 +310,34 @@ impl Centre {
         )
     }
 
+    // Tells the oldest tuple that the template matches, or that there is none.
+    fn tell_whether(&mut self, alloc: Global, ask: &Ask) -> Result<Outcome, NoMemory> {
+        let before = self.kept(alloc)?;
+        if let Some(place) = oldest(alloc, &self.tuples, &ask.operand)?
+            && let Some(tuple) = chosen(alloc, &mut self.tuples, place, false)?
+        {
+            let event = Event::new(alloc, b"nop", Moment::Missed, &ask.operand)?;
+            let other = Answer::OverBehind(Some(tuple.copy(alloc)?));
+            let answers = (Answer::Found(tuple), other);
+            return self.react(alloc, &ask.name, event, before, answers);
+        }
+        self.tell_absence(alloc, &ask.name, b"nop", &ask.operand, before)
+    }
+
+    // Tells that no tuple is left that the template matches.
+    fn tell_absence(
+        &mut self,
+        alloc: Global,
+        agent: &Name,
+        operation: &'static [u8],
+        template: &Term,
+        before: Vec<Term>,
+    ) -> Result<Outcome, NoMemory> {
+        let event = Event::new(alloc, operation, Moment::Done, template)?;
+        let answers = (Answer::Absent, Answer::OverBehind(None));
+        self.react(alloc, agent, event, before, answers)
+    }
+
     // Tells a tuple that was chosen.
     fn tell(
         &mut self,
@@ -306,18 +361,25 @@ impl Centre {
             return Ok(None);
         };
         let before = self.kept(alloc)?;
-        let Some(tuple) = chosen(alloc, &mut self.tuples, age, request.takes)? else {
+        let Some(age) = age else {
+            let (name, template) = (&request.name, &request.template);
+            let outcome = self.tell_absence(alloc, name, request.operation(), template, before)?;
+            return Ok(Some((request, outcome)));
+        };
+        let takes = request.wish == Wish::Taking;
+        let Some(tuple) = chosen(alloc, &mut self.tuples, age, takes)? else {
             return Ok(None);
         };
         let outcome = self.tell(alloc, &request.name, request.operation(), tuple, before)?;
         Ok(Some((request, outcome)))
     }
 
-    // The places of the oldest request that can be answered, and of its tuple.
-    fn next_answer(&self, alloc: Global) -> Result<Option<(usize, usize)>, NoMemory> {
+    // The places of the oldest request that can be answered, and of its tuple, if it gets one.
+    fn next_answer(&self, alloc: Global) -> Result<Option<(usize, Option<usize>)>, NoMemory> {
         for (place, request) in self.waiting.iter().enumerate() {
-            if let Some(age) = oldest(alloc, &self.tuples, &request.template)? {
-                return Ok(Some((place, age)));
+            let found = oldest(alloc, &self.tuples, &request.template)?;
+            if found.is_some() != (request.wish == Wish::Absence) {
+                return Ok(Some((place, found)));
             }
         }
         Ok(None)

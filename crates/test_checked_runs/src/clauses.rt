@@ -12,8 +12,8 @@ use tc_read::{ReadFault, read_clause};
 use tc_term::{Name, Term};
 
 // What may be an event.
-const EVENTS: [&[u8]; 9] = [
-    b"out", b"in", b"rd", b"inp", b"rdp", b"out_r", b"in_r", b"rd_r", b"no_r",
+const EVENTS: [&[u8]; 11] = [
+    b"out", b"in", b"rd", b"inp", b"rdp", b"no", b"nop", b"out_r", b"in_r", b"rd_r", b"no_r",
 ];
 
 // The goals without an argument, with one and with two.

@@ -26,7 +26,7 @@ const ASKED: [&[u8]; 14] = [
 ];
 
 /// How an item begins, and whether it puts.
-const ITEMS: [(&[u8], bool); 13] = [
+const ITEMS: [(&[u8], bool); 15] = [
     (b"out(", true),
     (b"out(", true),
     (b"out(", true),
@@ -40,10 +40,12 @@ const ITEMS: [(&[u8], bool); 13] = [
     (b"inp(", false),
     (b"rdp(", false),
     (b"rdp(", false),
+    (b"no(", false),
+    (b"nop(", false),
 ];
 
 /// Reactions that a centre may have.
-const REACTIONS: [&[u8]; 30] = [
+const REACTIONS: [&[u8]; 42] = [
     b"reaction(out(p(X)),(in_r(count(N)),M is N + 1,out_r(count(M))))",
     b"reaction(out(p(X)),out_r(count(0)))",
     b"reaction(in_r(count(N)),(N > 2,N mod 2 =:= 1,out_r(f(N))))",
@@ -74,6 +76,18 @@ const REACTIONS: [&[u8]; 30] = [
     b"reaction(out_r(p(X)),(X < 9,Y is X + 1,out_r(p(Y))))",
     b"reaction(in(p(X)),(pre,no_r(p(3)),out_r(p(5))))",
     b"reaction(rdp(X),(success,in_r(X),out_r(f(p(2)))))",
+    b"reaction(in(p(X)),request,out(asked(X)))",
+    b"reaction(in(X),(response,success),in(asked(X)))",
+    b"reaction(inp(p(X)),failure,(no(p(1)),out(p(1))))",
+    b"reaction(inp(X),(success,(response,success)),(rd(r),out(got(X))))",
+    b"reaction(out(p(X)),true,(in(got(Y)),X > 1))",
+    b"reaction(rd(T),(request,response),out(never))",
+    b"reaction(out(q(X,Y)),response,(in(q(X,Y)),out(p(X))))",
+    b"reaction(no(T),request,out(asked(T)))",
+    b"reaction(no(T),success,(no(T),out(gone(1))))",
+    b"reaction(no(p(X)),(post,current_tuple(T),in_r(asked(T)),out_r(p(X))))",
+    b"reaction(nop(X),failure,(current_op(O),out(who(O,X))))",
+    b"reaction(nop(p(X)),(success,out_r(p(2))))",
 ];
 
 /// What else the clauses of a centre are to be replaced by.

@@ -20,7 +20,7 @@ const WORKERS: [u64; 5] = [1, 2, 4, 8, 64];
 const DRAWN: usize = 24;
 
 /// Parts of lines that tell what reactions have done.
-const KINDS: [&[u8]; 8] = [
+const KINDS: [&[u8]; 10] = [
     b" fired",
     b" failed",
     b" put",
@@ -29,6 +29,8 @@ const KINDS: [&[u8]; 8] = [
     b" over pre",
     b" over post",
     b" bad spec",
+    b" absent",
+    b" found",
 ];
 
 /// Runs configurations that are drawn.

@@ -101,7 +101,7 @@ fn on_tuples(alloc: Global, name: &[u8], operand: &Term) -> Result<Act, WorldFau
     asking(name, template)
 }
 
-// The call of this name that asks for a tuple.
+// The call of this name that asks for a tuple, or for absence.
 fn asking(name: &[u8], template: Pattern) -> Result<Act, WorldFault> {
     if name == b"in".as_slice() {
         Ok(Act::Call(Op::In(template)))
@@ -111,6 +111,10 @@ fn asking(name: &[u8], template: Pattern) -> Result<Act, WorldFault> {
         Ok(Act::Call(Op::Inp(template)))
     } else if name == b"rdp".as_slice() {
         Ok(Act::Call(Op::Rdp(template)))
+    } else if name == b"no".as_slice() {
+        Ok(Act::Call(Op::No(template)))
+    } else if name == b"nop".as_slice() {
+        Ok(Act::Call(Op::Nop(template)))
     } else {
         Err(WorldFault::NoWorld("no agent can do this"))
     }

@@ -2,7 +2,8 @@
 use tc_model::{Entry, Item, Outcome};
 
 /// How many entries there were, reactions that were executed and ones that failed, phases over their
-/// budget, calls that waited, looks, and worlds that were not as they have to be.
+/// budget, calls that waited, that were told absence, looks, and worlds that were not as they have
+/// to be.
 #[derive(Clone, Copy)]
 pub struct Counts {
     pub entries: u64,
@@ -10,6 +11,7 @@ pub struct Counts {
     pub failed: u64,
     pub over: u64,
     pub wait: u64,
+    pub absent: u64,
     pub looks: u64,
     pub faults: u64,
 }
@@ -23,6 +25,7 @@ impl Counts {
             failed: 0,
             over: 0,
             wait: 0,
+            absent: 0,
             looks: 0,
             faults: 0,
         }
@@ -59,7 +62,9 @@ impl Counts {
         match outcome {
             Outcome::Pending => self.wait = self.wait.saturating_add(1),
             Outcome::Over(_, _) => self.over = self.over.saturating_add(1),
-            Outcome::Done | Outcome::Took(_) | Outcome::NoTuple | Outcome::Spec(_) => {}
+            Outcome::Absent => self.absent = self.absent.saturating_add(1),
+            Outcome::Done | Outcome::Took(_) | Outcome::NoTuple => {}
+            Outcome::Found(_) | Outcome::Spec(_) => {}
         }
     }
 

@@ -10,8 +10,9 @@ use std::alloc::Global;
 use tc_lists::{NoMemory, append_number};
 use tc_read::read_term;
 
-const OPERATIONS: [&[u8]; 10] = [
-    b"out", b"out", b"in", b"rd", b"inp", b"rdp", b"out_r", b"out_r", b"in_r", b"rd_r",
+const OPERATIONS: [&[u8]; 12] = [
+    b"out", b"out", b"in", b"rd", b"inp", b"rdp", b"no", b"nop", b"out_r", b"out_r", b"in_r",
+    b"rd_r",
 ];
 
 const HEADS: [&[u8]; 8] = [
@@ -73,7 +74,9 @@ const TEMPLATES: [&[u8]; 12] = [
     b"q(X,2)",
 ];
 
-const ASKS: [&[u8]; 6] = [b"in(", b"in(", b"rd(", b"rd(", b"inp(", b"rdp("];
+const ASKS: [&[u8]; 10] = [
+    b"in(", b"in(", b"rd(", b"rd(", b"inp(", b"rdp(", b"inp(", b"no(", b"no(", b"nop(",
+];
 
 const AGENTS: [&[u8]; 3] = [b"a", b"b", b"e"];
 

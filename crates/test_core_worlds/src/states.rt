@@ -35,6 +35,7 @@ fn print_request(alloc: Global, request: &Request, into: &mut Vec<u8>) -> Result
     let word: &[u8] = match request.wants {
         Wants::Take => b" in ",
         Wants::Look => b" rd ",
+        Wants::Absence => b" no ",
     };
     into.extend_from_slice(word)?;
     print_term(alloc, request.template.term(), into)
@@ -87,7 +88,8 @@ fn caller(entry: &Entry) -> CallId
     }
 }
 
-/// Whether no request that waits matches a tuple, and the history weighs what its entries do.
+/// Whether for no request that waits what it wants is there, and the history weighs what its
+/// entries do.
 pub fn is_right(core: &Core) -> bool {
     core.weight() == weigh(core.history()) && is_quiescent(core)
 }
@@ -109,7 +111,7 @@ fn reactions(entry: &Entry) -> u64 {
     }
 }
 
-// Whether no request that waits matches a tuple.
+// Whether for no request that waits what it wants is there.
 fn is_quiescent(core: &Core) -> bool {
     for request in core.pending() {
         if is_answerable(core, request) {
@@ -119,8 +121,16 @@ fn is_quiescent(core: &Core) -> bool {
     true
 }
 
-// Whether a request matches a tuple.
+// Whether what a request wants is there: a tuple that matches, or that there is none.
 fn is_answerable(core: &Core, request: &Request) -> bool {
+    match request.wants {
+        Wants::Take | Wants::Look => is_matched(core, request),
+        Wants::Absence => !is_matched(core, request),
+    }
+}
+
+// Whether a request matches a tuple.
+fn is_matched(core: &Core, request: &Request) -> bool {
     for place in 0..core.tuples() {
         if let Some(tuple) = core.tuple(place) {
             if does_match(&request.template, tuple) {

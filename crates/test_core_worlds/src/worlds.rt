@@ -115,12 +115,13 @@ fn beginning_of(clause: &Term) -> Option<Beginning<'_>> {
 fn print_counts(worlds: u32, counts: &Counts, into: &mut Vec<u8>) -> Result<(), WorldFault> {
     append_number(u64::from(worlds), into)?;
     into.extend_from_slice(b" worlds drawn:")?;
-    let rows: [(u64, &[u8]); 7] = [
+    let rows: [(u64, &[u8]); 8] = [
         (counts.entries, b" entries,"),
         (counts.fired, b" fired,"),
         (counts.failed, b" failed,"),
         (counts.over, b" over,"),
         (counts.wait, b" wait,"),
+        (counts.absent, b" absent,"),
         (counts.looks, b" looks,"),
         (counts.faults, b" faults\n"),
     ];

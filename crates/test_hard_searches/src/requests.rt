@@ -1,4 +1,7 @@
 //! Lists of requests that are hard to search.
+ghost use Rattle.std.specs.Prelude.{All, IsTrue};
+ghost use Rattle.tc_model.specs.State.{WantsTuple};
+
 use crate::fault::Fault;
 use crate::terms::{add, applied, of_one_code};
 use std::alloc::Global;
@@ -40,13 +43,38 @@ fn is_next(
     Ok(next.map(|found| found.0) == place)
 }
 
-// What is next where all tuples are new to all requests.
-fn next(pending: &Pending, bag: &Bag) -> Option<(usize, u64)> {
+// What is next where all tuples are new to all requests, each of which wants a tuple.
+fn next(pending: &Pending, bag: &Bag) -> Option<(usize, Option<u64>)> {
+    if !want_tuples(pending.list()) {
+        return None;
+    }
     let known = Known {
         requests: pending.list().len(),
         age: 0,
     };
     pending.next_answerable(bag, known)
+}
+
+// Whether each request wants a tuple.
+fn want_tuples(requests: &[Request]) -> bool
+    ensures { IsTrue result → All (λ r. WantsTuple r.wants) requests.now }
+{
+    for request in requests {
+        if !wants_tuple(request.wants) {
+            return false;
+        }
+    }
+    true
+}
+
+// Whether a tuple is wanted, and not absence.
+fn wants_tuple(wants: Wants) -> bool
+    ensures { IsTrue result → WantsTuple wants }
+{
+    match wants {
+        Wants::Take | Wants::Look => true,
+        Wants::Absence => false,
+    }
 }
 
 /// Requests of names of one code are told apart. They are more than are gone through one by one.
@@ -154,7 +182,7 @@ pub fn oldest(alloc: Global) -> Result<bool, Fault> {
     for (wanted, there, place) in rows {
         let pending = requests_for(alloc, wanted)?;
         let found = pending.oldest_answerable(&bag_of(alloc, there)?)?;
-        all = found == place && all;
+        all = found == place.map(|(request, age)| (request, Some(age))) && all;
     }
     Ok(all)
 }

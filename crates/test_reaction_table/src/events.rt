@@ -16,10 +16,11 @@ pub fn event_of(alloc: Global, name: &[u8], args: &[Term]) -> anyhow::Result<Eve
     let (Some(op), [term]) = (event_op_of(op), args.items()) else {
         return Err(anyhow!("an event is of no operation"));
     };
-    let event = match name {
-        b"request" => request(op, template(alloc, term)?),
-        b"success" => success(op, tuple(alloc, term)?),
-        b"failure" => failure(op, template(alloc, term)?),
+    let event = match (name, op) {
+        (b"request", _) => request(op, template(alloc, term)?),
+        (b"success", EventOp::No | EventOp::Nop) => absence(op, template(alloc, term)?),
+        (b"success", _) => success(op, tuple(alloc, term)?),
+        (b"failure", _) => failure(op, template(alloc, term)?),
         _ => None,
     };
     event.ok_or_else(|| anyhow!("no such event occurs"))
@@ -35,22 +36,34 @@ fn tuple(alloc: Global, term: &Term) -> anyhow::Result<Ground> {
     Ground::of(term.copy(alloc)?).map_err(|_| anyhow!("an event has no tuple"))
 }
 
-// An operation is about to wait for a tuple.
+// An operation is about to wait.
 fn request(op: EventOp, template: Pattern) -> Option<Event> {
     let _template = template.term();
     match op {
         EventOp::In => Some(Event::new(EventOp::In, template, Phase::Pre, Sign::Neither)),
         EventOp::Rd => Some(Event::new(EventOp::Rd, template, Phase::Pre, Sign::Neither)),
+        EventOp::No => Some(Event::new(EventOp::No, template, Phase::Pre, Sign::Neither)),
         _ => None,
     }
 }
 
-// An operation has found no tuple.
+// An operation has found no tuple, or one where it asked whether there is none.
 fn failure(op: EventOp, template: Pattern) -> Option<Event> {
     let _template = template.term();
     match op {
         EventOp::Inp => Some(Event::new(EventOp::Inp, template, Phase::Post, Sign::Failure)),
         EventOp::Rdp => Some(Event::new(EventOp::Rdp, template, Phase::Post, Sign::Failure)),
+        EventOp::Nop => Some(Event::new(EventOp::Nop, template, Phase::Post, Sign::Failure)),
+        _ => None,
+    }
+}
+
+// An operation has succeeded because no tuple matches.
+fn absence(op: EventOp, template: Pattern) -> Option<Event> {
+    let _template = template.term();
+    match op {
+        EventOp::No => Some(Event::new(EventOp::No, template, Phase::Post, Sign::Success)),
+        EventOp::Nop => Some(Event::new(EventOp::Nop, template, Phase::Post, Sign::Success)),
         _ => None,
     }
 }

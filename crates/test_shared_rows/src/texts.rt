@@ -31,9 +31,18 @@ pub fn reply_text(alloc: Global, reply: &Reply) -> Result<Vec<u8>, NoMemory> {
         Reply::Done => b"done".to_vec(alloc),
         Reply::Tuple(tuple) => tuple_text(alloc, tuple),
         Reply::NoTuple => b"none".to_vec(alloc),
+        Reply::Absent => b"absent".to_vec(alloc),
+        Reply::Found(tuple) => found_text(alloc, tuple),
         Reply::Spec(_) => b"clauses".to_vec(alloc),
         Reply::OverBudget(_) => b"over the budget".to_vec(alloc),
     }
+}
+
+// The text of a reply that tells of a tuple.
+fn found_text(alloc: Global, tuple: &Ground) -> Result<Vec<u8>, NoMemory> {
+    let mut text = b"found ".to_vec(alloc)?;
+    print_term(alloc, tuple.term(), &mut text)?;
+    Ok(text)
 }
 
 /// The text of a tuple.

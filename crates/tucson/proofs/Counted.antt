@@ -1,5 +1,5 @@
 -- What each centre of a configuration has counted, by the cores that are opened.
-use Rattle.std.proofs.Common.{◌≡◌, ◌<◌, ◌≤◌, Bool, ℕ, ℤ, zero, suc, List, [], ◌∷◌, ◌++◌, Option, None, slice_get, length, map, drop, zip, refl, sym, ap, ap₂, subst, ◌∙◌, arith}
+use Rattle.std.proofs.Common.{◌≡◌, ◌<◌, ◌≤◌, Bool, ℕ, ℤ, zero, suc, List, [], ◌∷◌, ◌++◌, Option, None, All, slice_get, length, map, drop, zip, refl, sym, ap, ap₂, subst, ◌∙◌, arith}
 use Rattle.std.proofs.lemmas.List.{length-map}
 use Rattle.tc_centre.specs.Centre.{Centre}
 use Rattle.tc_config.specs.Configurations.{Configuration}
@@ -12,6 +12,7 @@ use Rattle.tc_load.specs.Counts.{counted_in}
 use Rattle.tc_load.specs.Summaries.{summary}
 use Rattle.tc_model.specs.Choices.{TheFirst}
 use Rattle.tc_model.specs.State.{Origin}
+use Rattle.tc_model.specs.Typed.{IsTyped}
 use Rattle.tc_model.specs.declared.entries.Entry.{Entry}
 use Rattle.tc_runner.specs.Cores.{AreCores, histories, histories_of}
 use Rattle.tucson.specs.Answer.{IsTextOf}
@@ -87,14 +88,15 @@ module _ (c plan : Configuration) (cores : List Centre) (same : plan ≡ c) (are
   -- the summary of counts so taken is one of a workload's run
   pub summed : (agents start : ℕ) (logs : List (List LogRow)) (counts : List (Option ℤ)) (blocked : Bool) (before text : List ℕ)
       → IsGood TheFirst plan (histories plan cores) logs → counts ≡ last_of (first_of c.centres) cores → blocked ≡ is_blocked logs
-      → before ≡ [] → text ≡ before ++ summary agents start counts blocked
+      → before ≡ [] → text ≡ before ++ summary agents start counts blocked → All (All IsTyped) (histories plan cores)
       → IsTextOf (IsGood TheFirst c) (load_summary agents start c) blocked text
-  summed agents start logs counts blocked before text good counted_are waits nothing is =
+  summed agents start logs counts blocked before text good counted_are waits nothing is typed =
       let these : last_of (first_of c.centres) cores ≡ counts_of c (histories c cores) = subst IsOf same (counted plan cores are none) in
       record {
         histories = histories c cores;
         logs = logs;
         are = subst (λ (d : Configuration). IsGood TheFirst d (histories d cores) logs) same good;
+        typed = subst (λ (d : Configuration). All (All IsTyped) (histories d cores)) same typed;
         end = sym waits;
         is = is ∙ ap (λ (b : List ℕ). b ++ summary agents start counts blocked) nothing ∙ ap₂ (summary agents start) (counted_are ∙ these) waits;
       }

@@ -1,8 +1,10 @@
 -- The history of each centre, by place.
-use Rattle.std.proofs.Common.{◌≡◌, ◌<◌, ◌≤◌, ℕ, zero, suc, List, [], ◌∷◌, Some, length, get_or, sym, ap, refl, arith}
+use Rattle.std.proofs.Common.{◌≡◌, ◌<◌, ◌≤◌, ℕ, zero, suc, List, [], ◌∷◌, All, Some, length, get_or, sym, ap, refl, arith}
+use Rattle.std.proofs.lemmas.List.Elements.{All-nil, All-cons, All-head, All-tail}
 use Rattle.std.specs.Prelude.{slice_get}
 use Rattle.tc_lists.proofs.Sets.{map_same-read}
 use Rattle.tc_model.specs.State.{Origin}
+use Rattle.tc_model.specs.Typed.{IsTyped}
 use Rattle.tc_centre.specs.Centre.{Centre}
 use Rattle.tc_config.specs.Configurations.{Configuration, agent_names}
 use Rattle.tc_config.specs.Good.{origin_of}
@@ -41,3 +43,15 @@ history_unopened (s ∷ ss) [] zero within none = refl
 history_unopened (s ∷ ss) [] (suc i) within none = history_unopened ss [] i (omega (arith, within)) (omega arith)
 history_unopened (s ∷ ss) (y ∷ ys) zero within none = absurd (omega (arith, none))
 history_unopened (s ∷ ss) (y ∷ ys) (suc i) within none = history_unopened ss ys i (omega (arith, within)) (omega (arith, none))
+
+-- the histories of cores are typed where each of these is
+abbrev HasTyped : Centre → Type 0
+HasTyped x = All IsTyped x.history
+
+pub histories-typed : (ss : List CentreConf) (cores : List Centre) → All (λ (x : Centre). All IsTyped x.history) cores
+    → All (All IsTyped) (histories_of ss cores)
+histories-typed [] cores typed = All-nil (All IsTyped)
+histories-typed (s ∷ ss) [] typed =
+    All-cons (All IsTyped) [] (histories_of ss []) (All-nil IsTyped) (histories-typed ss [] typed)
+histories-typed (s ∷ ss) (x ∷ xs) typed =
+    All-cons (All IsTyped) x.history (histories_of ss xs) (All-head HasTyped x xs typed) (histories-typed ss xs (All-tail HasTyped x xs typed))

@@ -9,3 +9,4 @@ pub mod Histories
 pub mod Zipped
 pub mod Told
 pub mod Counted
+pub mod OneReading

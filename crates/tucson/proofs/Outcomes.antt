@@ -1,11 +1,12 @@
 -- Texts of runs and of services, as the outcomes that are due.
-use Rattle.std.proofs.Common.{◌≡◌, ◌⊎◌, ℕ, Bool, true, false, List, [], refl, sym, subst, inl, inr}
+use Rattle.std.proofs.Common.{◌≡◌, ◌⊎◌, ℕ, Bool, true, false, List, [], All, refl, sym, subst, inl, inr}
 use Rattle.tc_config.specs.Configurations.{Configuration}
 use Rattle.tc_desk.specs.Logs.{is_blocked}
 use Rattle.tc_desk.specs.declared.rows.LogRow.{LogRow}
 use Rattle.tc_io.specs.Faults.{CountRises}
 use Rattle.tc_io.specs.Sinks.{SinkState}
 use Rattle.tc_io.proofs.Flows.{appended-nil}
+use Rattle.tc_model.specs.Typed.{IsTyped}
 use Rattle.tc_model.specs.declared.entries.Entry.{Entry}
 use Rattle.tc_visits.specs.Service.{DoorState, IsServiceBy}
 use Rattle.tucson.specs.Answer.{IsOutcomeOf, IsOutcomeOfService, IsTextOf}
@@ -39,8 +40,9 @@ run_outcome Are text_of false text is = is
 
 -- the text of such histories and logs
 pub text_of_these : (Are : Hists → Logs → Type 0) (text_of : Hists → Logs → List ℕ) (histories : Hists) (logs : Logs) → Are histories logs
-    → IsTextOf Are text_of (is_blocked logs) (text_of histories logs)
-text_of_these Are text_of histories logs are = record { histories = histories; logs = logs; are = are; end = refl; is = refl }
+    → All (All IsTyped) histories → IsTextOf Are text_of (is_blocked logs) (text_of histories logs)
+text_of_these Are text_of histories logs are typed =
+    record { histories = histories; logs = logs; are = are; typed = typed; end = refl; is = refl }
 
 -- no status of a service is a fault of writing or of reading
 pub service_sure : (all enough blocked : Bool) → IsFault (status_of_service all enough blocked) → ⊥

@@ -1,9 +1,10 @@
 -- What a call reads, with which status it is to end, and what it is to write.
 use Rattle.std.specs.Prelude.{◌≡◌, ℕ, ◌⊎◌, Bool, true, false}
-use Rattle.std.specs.Prelude.{Option, Some, None, List, []}
+use Rattle.std.specs.Prelude.{Option, Some, None, List, [], All}
 use Rattle.tc_io.specs.Faults.{CountRises}
 use Rattle.tc_io.specs.Sources.{ReadsAll, ReadsPast}
 use Rattle.tc_model.specs.Choices.{TheFirst}
+use Rattle.tc_model.specs.Typed.{IsTyped}
 use Rattle.tc_model.specs.declared.entries.Entry.{Entry}
 use Rattle.tc_desk.specs.Logs.{is_blocked}
 use Rattle.tc_desk.specs.declared.rows.LogRow.{LogRow}
@@ -22,13 +23,15 @@ use Rattle.tucson.specs.declared.status.Status.TheVariants.{Ended, Refused, Bloc
 use Rattle.tucson.specs.declared.status.Status.TheVariants.{Usage, NetFault}
 use Rattle.tucson.specs.Texts.{load_summary, refused_text, usage_text, whole_text}
 
--- the text is one of such histories and logs, at whose end some agent waits, or none does
+-- the text is one of such histories and logs, at whose end some agent waits, or none does; each
+-- part of the histories is what the program's types promise
 pub record IsTextOf (Are : List (List Entry) → List (List LogRow) → Type 0)
     (text_of : List (List Entry) → List (List LogRow) → List ℕ) (waits : Bool)
     (text : List ℕ) : Type 0 where
   pub histories : List (List Entry)
   pub logs : List (List LogRow)
   pub are : Are histories logs
+  pub typed : All (All IsTyped) histories
   pub end : is_blocked logs ≡ waits
   pub is : text ≡ text_of histories logs
 

@@ -28,7 +28,7 @@ mod top;
 mod writing;
 
 pub use command::{Command, command_of};
-pub use laws::limits_are_these;
+pub use laws::{a_text_tells_its_histories, limits_are_these};
 pub use limits::{MOST_AGENTS, MOST_PORT, MOST_START, MOST_WORKERS, USUAL_WORKERS};
 pub use loading::load_main;
 pub use running::run_main;

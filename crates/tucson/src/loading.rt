@@ -23,7 +23,7 @@ use crate::reading::{Stop, read_text};
 use crate::refusing::stopped;
 use crate::running::run_config;
 use crate::status::Status;
-use crate::writing::{is_blocked, status_of_run, written};
+use crate::writing::{is_blocked, status_of_run, typed_histories, written};
 use std::alloc::Global;
 use std::sync::Wait;
 use std::thread::Threads;
@@ -115,6 +115,7 @@ fn summary<R: Threads + Wait + Sync, G: Gate + Sync>(
     let first = first_counts(alloc, config.centres())?;
     let run = run_config(rt, alloc, USUAL_WORKERS, config, gate)?;
     let counts = last_counts(alloc, &first, &run.cores)?;
+    typed_histories(&run.plan, &run.cores);
     let blocked = is_blocked(&run.logs);
     let mut text = Vec::new(alloc);
     print_summary(alloc, agents, start, &counts, blocked, &mut text)?;

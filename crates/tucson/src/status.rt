@@ -13,7 +13,7 @@ pub enum Status {
     WriteFault,
     /// The configuration's first faulty clause, from 1, or 0 for the whole of it; and why.
     Refused { clause: u32, cause: ConfigCause },
-    /// Some agent waits for a tuple, and all others have come to the ends of their scripts.
+    /// Some agent waits, and all others have come to the ends of their scripts.
     Blocked,
     /// A read has failed.
     ReadFault,

@@ -2,6 +2,7 @@
 ghost use Rattle.std.specs.Prelude.{◌≡◌, ◌<◌, [], All, OnOk, Some, length, slice_get};
 ghost use Rattle.tc_model.specs.Calls.{id_of};
 ghost use Rattle.tc_model.specs.Choices.{TheFirst};
+ghost use Rattle.tc_model.specs.Typed.{IsTyped};
 ghost use Rattle.tc_io.specs.Faults.{Counts};
 ghost use Rattle.tc_io.specs.Sinks.{sink_of};
 ghost use Rattle.tc_config.specs.Configurations.{agent_names, centre_names};
@@ -85,15 +86,27 @@ pub fn write_whole<K: Sink>(
         (histories run.now.plan run.now.cores.items) (rows_of run.now.logs.items))
         (sink_of K.taken K.write_faults K.sure sink.old)
         (sink_of K.taken K.write_faults K.sure sink.new) result }
+    ensures typed { All (All IsTyped) (histories run.now.plan run.now.cores.items) }
     ensures writes { Counts (result ≡ Status.WriteFault)
         (K.write_faults sink.old) (K.write_faults sink.new) }
     ensures reads { result ≡ Status.ReadFault → ⊥ }
 {
+    typed_histories(&run.plan, &run.cores);
     let mut kept = Vec::new(alloc);
     match write_text(alloc, run, blocked, sink, &mut kept) {
         Ok(()) => status,
         Err(SinkFault::Failed) => Status::WriteFault,
         Err(SinkFault::NoMemory) => Status::NoMemory,
+    }
+}
+
+/// Tells contracts what the cores promise of the histories, and does nothing.
+pub fn typed_histories(plan: &Plan, cores: &[Core])
+    ensures { All (All IsTyped) (histories plan.now cores.now) }
+{
+    let _centres = plan.centres();
+    for core in cores {
+        let _history = core.history();
     }
 }
 

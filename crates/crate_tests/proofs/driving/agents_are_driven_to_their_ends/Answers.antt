@@ -1,7 +1,7 @@
 use denote.Param.Send.{sendable}
 use Rattle.std.proofs.Crossing as std
 use Rattle.tc_term.proofs.name.Name.TheSendSync as name
-use Rattle.tc_sched.proofs.Sending.{row_send}
+use Rattle.tc_desk.proofs.Sends.{row_send}
 use Rattle.crate_tests.proofs.driving.agents_are_driven_to_their_ends.Goals as goal
 
 pub drive-requires-send-D : goal.drive-requires-send-D

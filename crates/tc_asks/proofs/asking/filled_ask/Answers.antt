@@ -1,5 +1,5 @@
 use Rattle.std.proofs.Common.{sym, subst}
-use Rattle.tc_model.specs.declared.asks.Ask.TheVariants.{Out, In, Rd, Inp, Rdp, SetSpec}
+use Rattle.tc_model.specs.declared.asks.Ask.TheVariants.{Out, In, Rd, Inp, Rdp, No, Nop, SetSpec}
 use Rattle.tc_desk.specs.Asks.{IsFilled}
 use Rattle.tc_asks.proofs.asking.filled_ask.Goals as goal
 
@@ -22,6 +22,14 @@ returns-in_ok-fill-in-Inp c vars es values known exact =
 pub returns-in_ok-fill-in-Rdp : goal.returns-in_ok-fill-in-Rdp
 returns-in_ok-fill-in-Rdp c vars es values known exact =
     subst (λ a. IsFilled values a (Rdp c.in_ok-fill-in-Rdp.field-0)) (sym c.in-Rdp.is) (c.in_ok-fill-in-Rdp.ensures vars es values known exact)
+
+pub returns-in_ok-fill-in-No : goal.returns-in_ok-fill-in-No
+returns-in_ok-fill-in-No c vars es values known exact =
+    subst (λ a. IsFilled values a (No c.in_ok-fill-in-No.field-0)) (sym c.in-No.is) (c.in_ok-fill-in-No.ensures vars es values known exact)
+
+pub returns-in_ok-fill-in-Nop : goal.returns-in_ok-fill-in-Nop
+returns-in_ok-fill-in-Nop c vars es values known exact =
+    subst (λ a. IsFilled values a (Nop c.in_ok-fill-in-Nop.field-0)) (sym c.in-Nop.is) (c.in_ok-fill-in-Nop.ensures vars es values known exact)
 
 pub returns-in_ok-fill-in-SetSpec : goal.returns-in_ok-fill-in-SetSpec
 returns-in_ok-fill-in-SetSpec c vars es values known exact =

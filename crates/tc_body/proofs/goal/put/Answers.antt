@@ -1,6 +1,6 @@
 use Rattle.tc_term.specs.TreeView.{tree_of}
-use Rattle.tc_body.proofs.Plain.{var_bound-template}
-use Rattle.tc_body.proofs.Values.{value_is, no_value}
+use Rattle.tc_goals.proofs.Plain.{var_bound-template}
+use Rattle.tc_goals.proofs.Values.{value_is, no_value}
 use Rattle.tc_body.proofs.goal.put.Goals as goal
 
 pub value-requires : goal.value-requires

@@ -48,12 +48,12 @@ loop-k-preserved c =
     let adds : Adds cs c.in_ok-item.events.items more_room c.pass.new.self c.add_all.new.triggered =
     subst (λ n. Adds cs c.in_ok-item.events.items n c.pass.new.self c.add_all.new.triggered) (omega arith) c.in_ok-add_all.ensures in
     record {
-      at = at_next cs c.args.context.now c.args.e.now c.args.bag.now c.loop-k.bag c.execute.new.bag items c.push.new.self.items
+      at = at_next cs c.args.context.now c.args.e.now c.args.bag.now c.loop-k.bag c.execute.new.bag items c.append.new.items.items
           (record { clause = c.in-Some.clause; event = c.in-Some.event.now }) c.loop-k.triggered (drop 1 c.loop-k.triggered) c.pass.new.self c.add_all.new.triggered
           (c.args.budget + 1 - c.loop-k.k) more_room reaction item c.in_ok-item.events.items
           (omega (arith, lt)) c.loop-k.invariant.at c.in-Some.ensures.some c.pass.ensures clause c.in_ok-item.ensures.body
-          c.in_ok-item.ensures.names c.in_ok-item.ensures.tuples c.in_ok-item.ensures.events adds c.in_ok-push.ensures.items;
-      count = ap length c.in_ok-push.ensures.items ∙ (length-append items (item ∷ []) ∙ ap (λ n. n + 1) c.loop-k.invariant.count);
+          c.in_ok-item.ensures.names c.in_ok-item.ensures.tuples c.in_ok-item.ensures.events adds c.in_ok-append.ensures;
+      count = ap length c.in_ok-append.ensures ∙ (length-append items (item ∷ []) ∙ ap (λ n. n + 1) c.loop-k.invariant.count);
       saved = c.in_ok-item.ensures.saved ∙ c.loop-k.invariant.saved;
       next = omega (arith, c.in_ok-item.ensures.next, c.loop-k.invariant.next);
       adds = adds-younger-again c.args.bag.now c.loop-k.bag c.execute.new.bag c.loop-k.invariant.adds c.execute.ensures.adds;
@@ -71,8 +71,8 @@ pub returns-in_err-item-clause-adds : goal.returns-in_err-item-clause-adds
 returns-in_err-item-clause-adds c =
     adds-younger-again c.args.bag.now c.loop-k.bag c.execute.new.bag c.loop-k.invariant.adds c.execute.ensures.adds
 
-pub returns-in_err-push-clause-adds : goal.returns-in_err-push-clause-adds
-returns-in_err-push-clause-adds c =
+pub returns-in_err-append-clause-adds : goal.returns-in_err-append-clause-adds
+returns-in_err-append-clause-adds c =
     adds-younger-again c.args.bag.now c.loop-k.bag c.execute.new.bag c.loop-k.invariant.adds c.execute.ensures.adds
 
 pub returns-in_err-add_all-clause-adds : goal.returns-in_err-add_all-clause-adds

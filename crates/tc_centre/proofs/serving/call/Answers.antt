@@ -27,6 +27,7 @@ returns-clause-run c =
 pub returns-clause-known : goal.returns-clause-known
 returns-clause-known c =
     known-still c.args.held.now c.perform.new.held c.requires.may.rest.quiescent c.in_ok-outcome.ensures.done.keeps
+    c.requires.marked c.perform.ensures.keeps.bag
 
 pub returns-clause-typed : goal.returns-clause-typed
 returns-clause-typed c all =

@@ -1,13 +1,13 @@
-use Rattle.std.proofs.Common.{◌<◌, Some, length, sym, ap, subst, ◌∙◌, arith}
+use Rattle.std.proofs.Common.{◌<◌, Some, length, sym, ap, ◌∙◌, arith}
 use Rattle.std.proofs.lemmas.Bool.{true≢false}
 use Rattle.std.proofs.lemmas.Option.{slice_get-get_or}
-use Rattle.tc_pending.specs.Answers.{AsksFor}
+use Rattle.tc_pending.specs.Filed.{Asks}
 use Rattle.tc_pending.proofs.Lookups.{none-up, none-further}
 use Rattle.tc_pending.proofs.asking.asking_by.Goals as goal
 
-pub returns-then-does_match-clause-none : goal.returns-then-does_match-clause-none
-returns-then-does_match-clause-none c =
-    none-up c.args.tuple.now c.args.waiters.now.requests.now c.args.waiters.now.codes.now c.requires.indexed.codes c.args.code c.loop-place.at
+pub returns-then-is_asking-clause-none : goal.returns-then-is_asking-clause-none
+returns-then-is_asking-clause-none c =
+    none-up (Asks c.args.wanted.now) c.args.waiters.now.requests.now c.args.waiters.now.codes.now c.requires.indexed.codes c.args.code c.loop-place.at
     c.loop-place.invariant.none c.in-Some.place c.in-Some.ensures.found
 
 pub loop-place-preserved : goal.loop-place-preserved
@@ -18,14 +18,14 @@ loop-place-preserved c =
     let inside : place < length requests = omega (arith, c.in-Some.ensures.inside.1, c.requires.indexed.inside) in
     record {
       inside = omega (arith, c.in-Some.ensures.inside.1);
-      none = none-further c.args.tuple.now requests c.args.waiters.now.codes.now c.requires.indexed.codes c.args.code c.loop-place.at
+      none = none-further (Asks c.args.wanted.now) requests c.args.waiters.now.codes.now c.requires.indexed.codes c.args.code c.loop-place.at
           c.loop-place.invariant.none place r
           (slice_get-get_or requests place r inside ∙ ap Some (sym c.index-requests-place.is))
-          (λ asks. absurd (true≢false (sym (c.if-does_match.ensures.1 (subst (AsksFor c.args.tuple.now) c.index-requests-place.is asks)))))
+          (λ asks. absurd (true≢false (sym (c.if-is_asking.ensures.1 asks))))
           c.in-Some.ensures.found;
     }
 
 pub returns-clause-none : goal.returns-clause-none
 returns-clause-none c =
-    none-up c.args.tuple.now c.args.waiters.now.requests.now c.args.waiters.now.codes.now c.requires.indexed.codes c.args.code c.loop-place.at
+    none-up (Asks c.args.wanted.now) c.args.waiters.now.requests.now c.args.waiters.now.codes.now c.requires.indexed.codes c.args.code c.loop-place.at
     c.loop-place.invariant.none c.args.count c.in_default.ensures.none

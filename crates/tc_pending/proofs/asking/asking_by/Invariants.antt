@@ -1,11 +1,11 @@
 use Rattle.std.proofs.Common.{◌≤◌, ◌-◌}
-use Rattle.tc_pending.specs.Filed.{NoneAsks}
+use Rattle.tc_pending.specs.Filed.{Asks, NoneSuch}
 use Rattle.tc_pending.proofs.asking.asking_by.Given as goal
 
 abbrev pub invariant-loop-place : goal.invariant-loop-place
 invariant-loop-place l = record {
   inside : l.at ≤ l.count;
-  none : NoneAsks l.tuple l.waiters.requests.now l.code l.at;
+  none : NoneSuch (Asks l.wanted) l.waiters.requests.now l.code l.at;
 }
 
 abbrev pub decreases-loop-place : goal.decreases-loop-place

@@ -5,25 +5,28 @@ use Rattle.tc_term.specs.Equations.{Equations, Matches}
 use Rattle.tc_term.specs.Tree.{Tree, IsTuple}
 use Rattle.tc_term.specs.TreeView.{tree_of}
 use Rattle.tc_bag.specs.declared.key.Key.{Key}
-use Rattle.tc_bag.specs.Keys.{IsLike, key_of, known_first}
+use Rattle.tc_bag.specs.Keys.{IsLike, key_of}
 use Rattle.tc_bag.specs.Lent.{lent_tree}
 use Rattle.tc_bag.specs.Stock.{Row}
+use Rattle.tc_search.specs.Found.{MatchesHaveFirst}
+use Rattle.tc_search.proofs.ByFirst.{known-first}
 use Rattle.tc_search.proofs.Passing.{IsKey, candidate_below, passed_more, passed_all, found_row, likes_agree}
 use Rattle.tc_search.proofs.search.oldest_match.Goals as goal
 
 -- what the template matches is a candidate
 keys : (es : Equations) (template : Tree) (key : Key) (first : Option (Bor Term)) (rows : List Row) → key ≡ key_of template
-    → lent_tree first ≡ known_first template → All (λ r. IsTuple r.tuple) rows → IsKey (Matches es.vars es.pairs template) (IsLike key (lent_tree first)) rows
-keys es template key first rows same known tuples = likes_agree es.vars es.pairs template key (lent_tree first) rows same known tuples
+    → MatchesHaveFirst es.vars es.pairs template (lent_tree first) → All (λ r. IsTuple r.tuple) rows
+    → IsKey (Matches es.vars es.pairs template) (IsLike key (lent_tree first)) rows
+keys es template key first rows same have tuples = likes_agree es.vars es.pairs template key (lent_tree first) rows same have tuples
 
 pub returns-then-branch-clause-found : goal.returns-then-branch-clause-found
 returns-then-branch-clause-found c =
     let before = c.args.store.now in
     let template = tree_of c.args.template.now in
     let row : Row = record { age = c.in-Some.age; tuple = c.in-Some.tuple.now } in
-    found_row before.vars before.pairs template (IsLike c.args.key.now (lent_tree c.known_first-first.result)) c.loop-age.from c.args.bag.now.next c.args.bag.now.now row
+    found_row before.vars before.pairs template (IsLike c.args.key.now (lent_tree c.first_of.result)) c.loop-age.from c.args.bag.now.next c.args.bag.now.now row
     c.in-Some.ensures.rises
-    (keys before template c.args.key.now c.known_first-first.result c.args.bag.now.now c.requires.key c.known_first-first.ensures c.in-Some.ensures.tuples)
+    (keys before template c.args.key.now c.first_of.result c.args.bag.now.now c.requires.key (c.first_of.ensures before.vars before.pairs template c.loop-age.invariant.value (known-first before.vars before.pairs template (lent_tree c.known_first-known.result) c.known_first-known.ensures)) c.in-Some.ensures.tuples)
     c.loop-age.invariant.passed c.in-Some.ensures.found
     (subst (λ (es : Equations). Matches es.vars es.pairs template row.tuple) c.loop-age.invariant.same
     (c.in_ok-is_added.ensures.yes c.if-branch.true))
@@ -36,31 +39,38 @@ loop-age-preserved c =
     let row : Row = record { age = c.in-Some.age; tuple = c.in-Some.tuple.now } in
     record {
       same = c.in_ok-is_added.ensures.same_no c.if-branch.false ∙ c.loop-age.invariant.same;
-      passed = passed_more (Matches before.vars before.pairs template) (IsLike c.args.key.now (lent_tree c.known_first-first.result)) c.loop-age.from
+      passed = passed_more (Matches before.vars before.pairs template) (IsLike c.args.key.now (lent_tree c.first_of.result)) c.loop-age.from
           c.args.bag.now.next rows row c.in-Some.ensures.rises
-          (keys before template c.args.key.now c.known_first-first.result rows c.requires.key c.known_first-first.ensures c.in-Some.ensures.tuples) c.loop-age.invariant.passed
+          (keys before template c.args.key.now c.first_of.result rows c.requires.key (c.first_of.ensures before.vars before.pairs template c.loop-age.invariant.value (known-first before.vars before.pairs template (lent_tree c.known_first-known.result) c.known_first-known.ensures)) c.in-Some.ensures.tuples) c.loop-age.invariant.passed
           c.in-Some.ensures.found
           (subst (λ (es : Equations). Matches es.vars es.pairs template row.tuple → ⊥) c.loop-age.invariant.same
           (c.in_ok-is_added.ensures.no c.if-branch.false));
+      value =
+          subst (λ (es : Equations). MatchesHaveFirst es.vars es.pairs template c.in_ok-value.value)
+          (c.in_ok-is_added.ensures.same_no c.if-branch.false ∙ c.loop-age.invariant.same) c.in_ok-value.ensures;
     }
 
 -- the candidate's age
 below : (c : goal.Else-branch) → c.in-Some.age < c.args.bag.now.next
 below c =
-    candidate_below (IsLike c.args.key.now (lent_tree c.known_first-first.result)) c.loop-age.from c.args.bag.now.next c.args.bag.now.now
+    candidate_below (IsLike c.args.key.now (lent_tree c.first_of.result)) c.loop-age.from c.args.bag.now.next c.args.bag.now.now
     (record { age = c.in-Some.age; tuple = c.in-Some.tuple.now }) c.in-Some.ensures.rises c.in-Some.ensures.found
 
 pub overflow_add-from : goal.overflow_add-from
 overflow_add-from c = omega (arith, below c, c.in-Some.ensures.limit)
 
 pub loop-age-smaller : goal.loop-age-smaller
-loop-age-smaller c = omega (arith, below c, c.in-Some.ensures.found.has.0)
+loop-age-smaller c =
+    let row : Row = record { age = c.in-Some.age; tuple = c.in-Some.tuple.now } in
+    let under = candidate_below (IsLike c.args.key.now (lent_tree c.first_of.result)) c.loop-age.from c.args.bag.now.next c.args.bag.now.now row
+    c.in-Some.ensures.rises c.in-Some.ensures.found in
+    omega (arith, under, c.in-Some.ensures.found.has.0)
 
 pub returns-clause-none : goal.returns-clause-none
 returns-clause-none c =
     let before = c.args.store.now in
     let template = tree_of c.args.template.now in
     let rows = c.args.bag.now.now in
-    passed_all (Matches before.vars before.pairs template) (IsLike c.args.key.now (lent_tree c.known_first-first.result)) c.loop-age.from rows
-    (keys before template c.args.key.now c.known_first-first.result rows c.requires.key c.known_first-first.ensures c.in_default.ensures.tuples) c.loop-age.invariant.passed
+    passed_all (Matches before.vars before.pairs template) (IsLike c.args.key.now (lent_tree c.first_of.result)) c.loop-age.from rows
+    (keys before template c.args.key.now c.first_of.result rows c.requires.key (c.first_of.ensures before.vars before.pairs template c.loop-age.invariant.value (known-first before.vars before.pairs template (lent_tree c.known_first-known.result) c.known_first-known.ensures)) c.in_default.ensures.tuples) c.loop-age.invariant.passed
     c.in_default.ensures.none

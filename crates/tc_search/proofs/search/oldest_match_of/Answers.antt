@@ -9,6 +9,7 @@ use Rattle.tc_bag.specs.declared.key.Key.{Key}
 use Rattle.tc_bag.specs.Keys.{IsLike, key_of, known_first}
 use Rattle.tc_bag.specs.Lent.{lent_tree}
 use Rattle.tc_bag.specs.Stock.{Row}
+use Rattle.tc_search.proofs.ByFirst.{known-first}
 use Rattle.tc_search.proofs.Passing.{IsKey, candidate_below, passed_more, passed_all, passed_none, found_row, likes_agree}
 use Rattle.tc_search.proofs.search.oldest_match_of.Goals as goal
 
@@ -16,7 +17,8 @@ use Rattle.tc_search.proofs.search.oldest_match_of.Goals as goal
 likes : (template : Tree) (term : Tree) (key : Key) (first : Option (Bor Term)) (rows : List Row) → key ≡ key_of template → term ≡ template
     → lent_tree first ≡ known_first term → All (λ r. IsTuple r.tuple) rows → IsKey (Matches (var_bound template) [] template) (IsLike key (lent_tree first)) rows
 likes template term key first rows same is known tuples =
-    likes_agree (var_bound template) [] template key (lent_tree first) rows same (known ∙ ap known_first is) tuples
+    likes_agree (var_bound template) [] template key (lent_tree first) rows same
+    (known-first (var_bound template) [] template (lent_tree first) (known ∙ ap known_first is)) tuples
 
 pub loop-age-init : goal.loop-age-init
 loop-age-init c = passed_none (Matches (var_bound c.args.template.now) [] c.args.template.now) c.args.bag.now.now

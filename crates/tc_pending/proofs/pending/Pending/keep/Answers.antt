@@ -31,13 +31,14 @@ pub forget_removed-requires : goal.forget_removed-requires
 forget_removed-requires c =
     let p = c.self.inside in
     subst NumbersRise (sym c.deref.ensures.value)
-    (AreFiled-now p.index p.filed p.requests.items p.serials.items p.changes.items c.self.invariant.filed).rises
+    (AreFiled-now p.index p.filed p.absences p.requests.items p.serials.items p.changes.items c.self.invariant.filed).filed_is.rises
 
 pub invariant_of-self : goal.invariant_of-self
 invariant_of-self c =
     let p = c.self.inside in
     let new = c.forget_removed.new.index in
     let none = c.forget_removed.ensures.none in
+    let kept = AreFiled-now p.index p.filed p.absences p.requests.items p.serials.items p.changes.items c.self.invariant.filed in
     let left : c.pop-count.new.self.items ≡ [] =
     nil_from_length c.pop-count.new.self.items
     (omega (
@@ -49,10 +50,11 @@ invariant_of-self c =
       log = subst (λ ms. IsLog p.requests.items c.forget_removed.new.changes.items ms) (sym left)
           (subst (λ cs. IsLog p.requests.items cs []) (sym none) (IsLog-none p.requests.items));
       coded = c.self.invariant.coded;
-      filed = AreFiled-only new p.filed p.requests.items p.serials.items c.forget_removed.new.changes.items none
-          (IsFiled-kept p.index p.filed (codes_of p.requests.items) p.serials.items
-          (AreFiled-now p.index p.filed p.requests.items p.serials.items p.changes.items c.self.invariant.filed) new
-          (subst (KeepsAll p.index new) c.deref.ensures.value c.forget_removed.ensures.kept));
+      filed = AreFiled-only new p.filed p.absences p.requests.items p.serials.items c.forget_removed.new.changes.items none (record {
+        filed_is = IsFiled-kept p.index p.filed (codes_of p.requests.items) p.serials.items kept.filed_is new
+            (subst (KeepsAll p.index new) c.deref.ensures.value c.forget_removed.ensures.kept);
+        absences_is = kept.absences_is;
+      });
       list_room = omega (arith, ap length none, c.self.invariant.list_room);
       codes_room = omega (arith, ap length none, c.self.invariant.codes_room);
       serials_room = omega (arith, ap length none, c.self.invariant.serials_room);

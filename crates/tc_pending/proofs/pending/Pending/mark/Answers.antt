@@ -8,10 +8,10 @@ use Rattle.tc_pending.proofs.pending.Pending.mark.Goals as goal
 use Rattle.tc_pending.proofs.pending.Pending.mark.Goals.{After-file}
 
 filed : (c : After-file)
-    → AreFiled c.file.new.index c.file.new.filed c.self.inside.requests.items c.self.inside.serials.items c.self.inside.changes.items
+    → AreFiled c.file.new.index c.file.new.filed c.self.inside.absences c.self.inside.requests.items c.self.inside.serials.items c.self.inside.changes.items
 filed c =
     let p = c.self.inside in
-    AreFiled-filed p.index p.filed p.requests.items p.serials.items p.changes.items c.self.invariant.filed
+    AreFiled-filed p.index p.filed p.absences p.requests.items p.serials.items p.changes.items c.self.invariant.filed
     c.file.new.index c.file.new.filed p.marks.items (not c.is_empty-is_marked.result) c.self.invariant.log
     (ap not (c.is_empty-is_marked.ensures ∙ ap (λ n. n == 0) p.marks.ok.0)) c.file.ensures.marked
     (IsFiled-at c.file.new.index c.file.new.filed c.deref.result.now (codes_of p.requests.items) c.deref-2.result.now p.serials.items
@@ -23,7 +23,7 @@ file-requires c =
     record {
       filed = IsFiled-at p.index p.filed (codes_of p.requests.items) c.deref.result.now p.serials.items c.deref-2.result.now
           (c.deref.ensures.value ∙ c.self.invariant.coded) c.deref-2.ensures.value
-          (AreFiled-now p.index p.filed p.requests.items p.serials.items p.changes.items c.self.invariant.filed);
+          (AreFiled-now p.index p.filed p.absences p.requests.items p.serials.items p.changes.items c.self.invariant.filed).filed_is;
     }
 
 pub invariant_of-self-2 : goal.invariant_of-self-2

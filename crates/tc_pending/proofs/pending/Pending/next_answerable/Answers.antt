@@ -5,6 +5,7 @@ use Rattle.tc_bag.specs.Stock.{tuples_of}
 use Rattle.tc_model.specs.State.{IsAnswerable}
 use Rattle.tc_pending.specs.Waiting.{Waiting}
 use Rattle.tc_pending.specs.Codes.{codes_of}
+use Rattle.tc_pending.specs.Filed.{NeverFree}
 use Rattle.tc_pending.proofs.Filed.{IsFiled-at, AreFiled-now}
 use Rattle.tc_pending.proofs.pending.Pending.next_answerable.Goals as goal
 
@@ -12,10 +13,12 @@ pub newly_answerable-requires-clause-lent : goal.newly_answerable-requires-claus
 newly_answerable-requires-clause-lent c =
     let p = c.self.inside in
     let coded = c.deref-2.ensures.value ∙ c.self.invariant.coded in
+    let kept = AreFiled-now p.index p.filed p.absences p.requests.items p.serials.items p.changes.items c.self.invariant.filed in
     record {
       codes = coded ∙ ap codes_of (sym c.deref.ensures.value);
       filed = IsFiled-at p.index p.filed (codes_of p.requests.items) c.deref-2.result.now p.serials.items c.deref-3.result.now coded c.deref-3.ensures.value
-          (AreFiled-now p.index p.filed p.requests.items p.serials.items p.changes.items c.self.invariant.filed);
+          kept.filed_is;
+      absences = subst (NeverFree p.absences) (sym c.deref.ensures.value) kept.absences_is;
     }
 
 pub answerable_from-requires-clause-none : goal.answerable_from-requires-clause-none

@@ -1,15 +1,18 @@
-use Rattle.std.proofs.Common.{◌≡◌, ◌<◌, ◌≤◌, ◌+◌, ◌==◌, length, ap, sym, subst, ◌∙◌, arith}
+use Rattle.std.proofs.Common.{◌≡◌, ◌<◌, ◌≤◌, ◌+◌, ◌==◌, All, length, ap, sym, subst, ◌∙◌, arith}
 use Rattle.std.specs.List.{remove}
 use Rattle.std.proofs.lemmas.List.Edits.{length-remove}
 use Rattle.tc_lists.proofs.Pairs.{insert-remove}
 use Rattle.tc_pending.specs.declared.changes.Change.{Change}
 use Rattle.tc_pending.specs.declared.changes.Change.TheVariants.{Removed}
-use Rattle.tc_pending.specs.Changes.{earlier, earlier_serials, Fits, IsLog}
+use Rattle.tc_model.specs.State.{WantsTuple}
+use Rattle.tc_model.specs.declared.calls.Request.{Request}
+use Rattle.tc_pending.specs.Changes.{earlier, earlier_serials, Fits, IsKept, IsLog}
 use Rattle.tc_pending.specs.Codes.{codes_of}
-use Rattle.tc_pending.specs.Filed.{IsFiled, KeepsAll}
+use Rattle.tc_pending.specs.Filed.{IsFiled, KeepsAll, NeverFree}
 use Rattle.tc_pending.specs.Rising.{NumbersRise}
 use Rattle.tc_pending.specs.Waiting.{Waiting}
 use Rattle.tc_pending.proofs.Log.{same_waiting, none-noted, IsLog-noted, saved-logged, length-noted, Fits-removed}
+use Rattle.tc_pending.proofs.Wanting.{All-remove}
 use Rattle.tc_pending.proofs.Coded.{codes-remove, length-codes}
 use Rattle.tc_pending.proofs.Filed.{IsFiled-remove, IsFiled-kept, AreFiled-now, AreFiled-length, AreFiled-only, AreFiled-noted}
 use Rattle.tc_pending.proofs.pending.Pending.remove.Goals as goal
@@ -22,17 +25,20 @@ module _ (c : After-note) where
   inside : c.args.place < length c.self.inside.requests.items
   inside = omega (arith, c.requires, ap (λ w. length w.now) c.self.view_is)
 
-  filed : IsFiled c.self.inside.index c.self.inside.filed (codes_of c.self.inside.requests.items) c.self.inside.serials.items
-  filed =
-      AreFiled-now c.self.inside.index c.self.inside.filed c.self.inside.requests.items c.self.inside.serials.items
+  kept : IsKept c.self.inside.index c.self.inside.filed c.self.inside.absences c.self.inside.requests.items c.self.inside.serials.items
+  kept =
+      AreFiled-now c.self.inside.index c.self.inside.filed c.self.inside.absences c.self.inside.requests.items c.self.inside.serials.items
       c.self.inside.changes.items c.self.invariant.filed
+
+  filed : IsFiled c.self.inside.index c.self.inside.filed (codes_of c.self.inside.requests.items) c.self.inside.serials.items
+  filed = kept.filed_is
 
   numbered : c.args.place < length c.self.inside.serials.items
   numbered =
       omega (
         arith,
         inside,
-        AreFiled-length c.self.inside.index c.self.inside.filed c.self.inside.requests.items c.self.inside.serials.items
+        AreFiled-length c.self.inside.index c.self.inside.filed c.self.inside.absences c.self.inside.requests.items c.self.inside.serials.items
             c.self.inside.changes.items c.self.invariant.filed,
       )
 
@@ -71,6 +77,11 @@ module _ (c : After-note) where
       (IsFiled-remove c.self.inside.index c.self.inside.filed (codes_of c.self.inside.requests.items) c.self.inside.serials.items
       filed c.args.place numbered))
 
+  never : NeverFree c.self.inside.absences c.remove-request.new.self.items
+  never is =
+      subst (All (λ (r : Request). WantsTuple r.wants)) (sym c.remove-request.ensures.items)
+      (All-remove (λ (r : Request). WantsTuple r.wants) c.self.inside.requests.items c.args.place (kept.absences_is is))
+
   log : IsLog c.remove-request.new.self.items c.note.new.changes.items c.self.inside.marks.items
   log =
       IsLog-noted c.self.inside.requests.items c.remove-request.new.self.items c.self.inside.changes.items c.note.new.changes.items
@@ -101,7 +112,7 @@ remove-serial-requires c =
       arith,
       c.requires,
       ap (λ w. length w.now) c.self.view_is,
-      AreFiled-length c.self.inside.index c.self.inside.filed c.self.inside.requests.items c.self.inside.serials.items
+      AreFiled-length c.self.inside.index c.self.inside.filed c.self.inside.absences c.self.inside.requests.items c.self.inside.serials.items
           c.self.inside.changes.items c.self.invariant.filed,
       c.self.inside.serials.ok.0,
     )
@@ -120,9 +131,11 @@ invariant_of-self c =
     record {
       log = log at;
       coded = coded at;
-      filed = AreFiled-only c.leave.new.self p.filed requests serials c.note.new.changes.items none
-          (IsFiled-kept p.index p.filed (codes_of requests) serials (now at) c.leave.new.self
-          (subst (KeepsAll p.index c.leave.new.self) c.deref.ensures.value c.leave.ensures));
+      filed = AreFiled-only c.leave.new.self p.filed p.absences requests serials c.note.new.changes.items none (record {
+        filed_is = IsFiled-kept p.index p.filed (codes_of requests) serials (now at) c.leave.new.self
+            (subst (KeepsAll p.index c.leave.new.self) c.deref.ensures.value c.leave.ensures);
+        absences_is = never at;
+      });
       list_room = omega (arith, longer at, fewer at, c.self.invariant.list_room, c.remove-request.ensures.capacity);
       codes_room = omega (arith, longer at, fewer_codes at, c.self.invariant.codes_room, c.remove-code.ensures.capacity);
       serials_room = omega (arith, longer at, fewer_serials at, c.self.invariant.serials_room, c.remove-serial.ensures.capacity);
@@ -136,9 +149,10 @@ invariant_of-self-else-is_empty c =
     record {
       log = log at;
       coded = coded at;
-      filed = AreFiled-noted p.index p.filed p.requests.items p.serials.items p.changes.items c.self.invariant.filed
+      filed = AreFiled-noted p.index p.filed p.absences p.requests.items p.serials.items p.changes.items c.self.invariant.filed
           c.remove-request.new.self.items c.remove-serial.new.self.items c.note.new.changes.items p.marks.items (change at)
-          c.is_empty.result c.self.invariant.log (empty at) c.note.ensures.noted (back at) (before at) (now at);
+          c.is_empty.result c.self.invariant.log (empty at) c.note.ensures.noted (back at) (before at)
+          (record { filed_is = now at; absences_is = never at });
       list_room = omega (arith, longer at, fewer at, c.self.invariant.list_room, c.remove-request.ensures.capacity);
       codes_room = omega (arith, longer at, fewer_codes at, c.self.invariant.codes_room, c.remove-code.ensures.capacity);
       serials_room = omega (arith, longer at, fewer_serials at, c.self.invariant.serials_room, c.remove-serial.ensures.capacity);

@@ -12,7 +12,7 @@ go_back-requires-clause-each c =
     let p = c.self.inside in
     omega (
       arith,
-      AreFiled-length p.index p.filed p.requests.items p.serials.items p.changes.items c.self.invariant.filed,
+      AreFiled-length p.index p.filed p.absences p.requests.items p.serials.items p.changes.items c.self.invariant.filed,
       p.serials.ok.0,
       p.requests.ok.0,
     )
@@ -26,7 +26,7 @@ invariant_of-self c =
           c.in-Some.count c.self.invariant.log c.in-Some.ensures.items c.go_back.new.requests.items c.go_back.new.changes.items
           c.go_back.ensures.requests c.go_back.ensures.changes;
       coded = c.go_back.ensures.codes;
-      filed = AreFiled-undone p.index p.filed p.requests.items p.serials.items p.changes.items c.self.invariant.filed
+      filed = AreFiled-undone p.index p.filed p.absences p.requests.items p.serials.items p.changes.items c.self.invariant.filed
           c.go_back.new.requests.items c.go_back.new.serials.items c.go_back.new.changes.items c.in-Some.count
           (climbs_last p.requests.items p.changes.items p.marks.items c.pop.new.self.items c.in-Some.count c.self.invariant.log
           c.in-Some.ensures.items).0
@@ -34,7 +34,7 @@ invariant_of-self c =
       serials_room = omega (
         arith,
         c.go_back.ensures.each,
-        AreFiled-length p.index p.filed p.requests.items p.serials.items p.changes.items c.self.invariant.filed,
+        AreFiled-length p.index p.filed p.absences p.requests.items p.serials.items p.changes.items c.self.invariant.filed,
         fewer,
         c.go_back.ensures.serials_capacity,
         c.self.invariant.serials_room,

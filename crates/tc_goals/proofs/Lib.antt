@@ -1,0 +1,4 @@
+pub mod Plain
+pub mod Values
+pub mod Steps
+pub mod Leading

@@ -1,0 +1,9 @@
+pub mod Plain
+pub mod Told
+pub mod Followed
+pub mod Steps
+pub mod Equal
+pub mod Bodies
+pub mod Cascading
+pub mod Firsts
+pub mod QuietPoints

@@ -1,0 +1,202 @@
+//! The body of a reaction, beside the item that is recorded of it.
+ghost use Rattle.std.specs.Prelude.{◌≡◌, ◌≤◌, ◌+◌, ◌↔◌, [], false, IfOk, OnErr, IsTrue};
+ghost use Rattle.tc_model.specs.Bodies.{IsBody, IsFired, IsFailed};
+ghost use Rattle.tc_model.specs.Choices.{AnyOne};
+ghost use Rattle.tc_model.specs.Tuples.{after_effects, after_item};
+ghost use Rattle.tc_model.specs.declared.limits.TheConstants.{MOST_GOALS};
+ghost use Rattle.tc_bag.specs.Stock.{tuples_of, AddsYounger};
+
+use crate::goal::is_stuck;
+use crate::leading::lead;
+use std::alloc::Global;
+use tc_bag::Bag;
+use tc_lists::NoMemory;
+use tc_model::{Context, Effect, Event, Item, Reaction};
+use tc_unify::Store;
+
+/// Whether the item tells what may come of the body over the tuples of the bag, whatever tuples
+/// were chosen.
+///
+/// Where it does, the tuples are those after it. Else the bag is as before, and so it is where
+/// memory ends. Which reaction was picked, and from where, isn't looked at. The store is made anew
+/// in the memory that it has, and what it holds before does not count.
+pub fn is_body(
+    alloc: Global,
+    store: &mut Store,
+    r: &Reaction,
+    e: &Event,
+    context: &Context,
+    item: &Item,
+    bag: &mut Bag,
+) -> Result<bool, NoMemory>
+    requires next { bag.old.next + MOST_GOALS ≤ u64.MAX }
+    ensures yes { IfOk result (λ y. IsTrue y
+        → IsBody AnyOne r.now e.now context.now (tuples_of bag.old.now) item.now) }
+    ensures no { IfOk result (λ y. y ≡ false
+        → IsBody AnyOne r.now e.now context.now (tuples_of bag.old.now) item.now → ⊥) }
+    ensures tuples { IfOk result (λ y. IsTrue y
+        → tuples_of bag.new.now ≡ after_item item.now (tuples_of bag.old.now)) }
+    ensures same_no { IfOk result (λ y. y ≡ false → bag.new ≡ bag.old) }
+    ensures same { OnErr result (bag.new ≡ bag.old) }
+
+    // After each answer:
+    ensures saved { bag.new.saved ≡ bag.old.saved }
+    ensures adds { AddsYounger bag.old bag.new }
+    ensures room { bag.new.next ≤ bag.old.next + MOST_GOALS }
+{
+    match item {
+        Item::Fired { effects, .. } => {
+            does_fire(alloc, store, r, e, context, effects.items(), bag)
+        }
+        Item::Failed { goal, effects, .. } => {
+            does_fail(alloc, store, r, e, context, *goal, effects.items(), bag)
+        }
+    }
+}
+
+// Whether the body may fire with these effects. Where it may, the tuples are those after them.
+fn does_fire(
+    alloc: Global,
+    store: &mut Store,
+    r: &Reaction,
+    e: &Event,
+    context: &Context,
+    recorded: &[Effect],
+    bag: &mut Bag,
+) -> Result<bool, NoMemory>
+    requires next { bag.old.next + MOST_GOALS ≤ u64.MAX }
+    ensures yes { IfOk result (λ y. IsTrue y
+        → IsFired AnyOne r.now e.now context.now (tuples_of bag.old.now) recorded.now) }
+    ensures no { IfOk result (λ y. y ≡ false
+        → IsFired AnyOne r.now e.now context.now (tuples_of bag.old.now) recorded.now → ⊥) }
+    ensures tuples { IfOk result (λ y. IsTrue y
+        → tuples_of bag.new.now ≡ after_effects recorded.now (tuples_of bag.old.now)) }
+    ensures same_no { IfOk result (λ y. y ≡ false → bag.new ≡ bag.old) }
+    ensures same { OnErr result (bag.new ≡ bag.old) }
+    ensures saved { bag.new.saved ≡ bag.old.saved }
+    ensures adds { AddsYounger bag.old bag.new }
+    ensures room { bag.new.next ≤ bag.old.next + MOST_GOALS }
+{
+    bag.mark()?;
+    match fires(alloc, store, r, e, context, recorded, bag) {
+        Ok(true) => {
+            bag.keep();
+            Ok(true)
+        }
+        Ok(false) => {
+            bag.undo();
+            Ok(false)
+        }
+        Err(fault) => {
+            bag.undo();
+            Err(fault)
+        }
+    }
+}
+
+// Whether the body may fail at the goal of this number, after these effects. The bag stays.
+fn does_fail(
+    alloc: Global,
+    store: &mut Store,
+    r: &Reaction,
+    e: &Event,
+    context: &Context,
+    number: u32,
+    recorded: &[Effect],
+    bag: &mut Bag,
+) -> Result<bool, NoMemory>
+    requires next { bag.old.next + MOST_GOALS ≤ u64.MAX }
+    ensures yes { IfOk result (λ y. IsTrue y
+        → IsFailed AnyOne r.now e.now context.now (tuples_of bag.old.now) number recorded.now) }
+    ensures no { IfOk result (λ y. y ≡ false
+        → IsFailed AnyOne r.now e.now context.now (tuples_of bag.old.now) number recorded.now
+        → ⊥) }
+    ensures same { bag.new ≡ bag.old }
+{
+    bag.mark()?;
+    let failed = fails(alloc, store, r, e, context, number, recorded, bag);
+    bag.undo();
+    failed
+}
+
+// The same as `does_fire` without its mark: where the body can't fire so, the bag may have changed.
+fn fires(
+    alloc: Global,
+    store: &mut Store,
+    r: &Reaction,
+    e: &Event,
+    context: &Context,
+    recorded: &[Effect],
+    bag: &mut Bag,
+) -> Result<bool, NoMemory>
+    requires next { bag.old.next + MOST_GOALS ≤ u64.MAX }
+    ensures yes { IfOk result (λ y. IsTrue y
+        → IsFired AnyOne r.now e.now context.now (tuples_of bag.old.now) recorded.now) }
+    ensures tuples { IfOk result (λ y. IsTrue y
+        → tuples_of bag.new.now ≡ after_effects recorded.now (tuples_of bag.old.now)) }
+    ensures no { IfOk result (λ y. y ≡ false
+        → IsFired AnyOne r.now e.now context.now (tuples_of bag.old.now) recorded.now → ⊥) }
+    ensures saved { bag.new.saved ≡ bag.old.saved }
+    ensures adds { AddsYounger bag.old bag.new }
+    ensures room { bag.new.next ≤ bag.old.next + MOST_GOALS }
+{
+    let goals = r.goals();
+    let vars = r.vars();
+    if !store.meet(r.head(), vars, e.term())? {
+        return Ok(false);
+    }
+    lead(alloc, goals, vars, e, context, recorded, store, bag)
+}
+
+// The same as `does_fail` without its mark: the bag may have changed.
+fn fails(
+    alloc: Global,
+    store: &mut Store,
+    r: &Reaction,
+    e: &Event,
+    context: &Context,
+    number: u32,
+    recorded: &[Effect],
+    bag: &mut Bag,
+) -> Result<bool, NoMemory>
+    requires next { bag.old.next + MOST_GOALS ≤ u64.MAX }
+    ensures yes { IfOk result (λ y. IsTrue y
+        → IsFailed AnyOne r.now e.now context.now (tuples_of bag.old.now) number recorded.now) }
+    ensures no { IfOk result (λ y. y ≡ false
+        → IsFailed AnyOne r.now e.now context.now (tuples_of bag.old.now) number recorded.now
+        → ⊥) }
+    ensures saved { bag.new.saved ≡ bag.old.saved }
+{
+    if number == 0 {
+        return Ok(false);
+    }
+    let place = (number - 1) as usize;
+    let goals = r.goals();
+    let vars = r.vars();
+    if goals.len() <= place {
+        return Ok(false);
+    }
+    if !store.meet(r.head(), vars, e.term())? {
+        return Ok(is_first(number, recorded));
+    }
+    if !lead(
+        alloc,
+        &goals[..place],
+        vars,
+        e,
+        context,
+        recorded,
+        store,
+        bag,
+    )? {
+        return Ok(false);
+    }
+    is_stuck(alloc, &goals[place], vars, e, context, store, bag)
+}
+
+// Whether this is the number of the first goal, and nothing is recorded before it.
+fn is_first(number: u32, recorded: &[Effect]) -> bool
+    ensures { IsTrue result ↔ ((number ≡ 1) × (recorded.now ≡ [])) }
+{
+    number == 1 && recorded.is_empty()
+}
