@@ -62,6 +62,7 @@ pub fn oldest_match<'a>(
 /// The oldest tuple that the template matches, with its age.
 ///
 /// It takes no memory, however many tuples are tried.
+#[inline(always)]
 pub fn oldest_match_of<'a>(template: &Pattern, bag: &'a Bag) -> Option<(u64, &'a Ground)>
     ensures found { IfSome result
         (λ m. IsFound (var_bound template.now) [] template.now bag.now.now m.0 m.1.now) }
