@@ -1,0 +1,6 @@
+pub mod Headings
+pub mod Text
+pub mod Words
+pub mod Operations
+pub mod Outcomes
+pub mod Items
