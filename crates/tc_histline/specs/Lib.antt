@@ -4,3 +4,4 @@ pub mod Words
 pub mod Operations
 pub mod Outcomes
 pub mod Items
+pub mod Lines

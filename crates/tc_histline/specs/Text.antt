@@ -34,6 +34,7 @@ use Rattle.tc_desk.specs.declared.rows.LogResult.{LogResult}
 use Rattle.tc_desk.specs.declared.rows.LogResult.TheVariants.{Replied, Pending, Refused, Polled}
 use Rattle.tc_desk.specs.declared.rows.Refusal.{Refusal}
 use Rattle.tc_desk.specs.declared.rows.Refusal.TheVariants as refusal
+use Rattle.tc_histline.specs.declared.lines.TextRow.{TextRow}
 use Rattle.tc_histline.specs.declared.versions.Version.{Version}
 use Rattle.tc_histline.specs.declared.versions.Version.TheVariants.{One, Two}
 
@@ -167,24 +168,19 @@ result_text v Pending = codes "pending"
 result_text v (Refused why) = refusal_text v why
 result_text v (Polled told) = codes "poll " ++ told_text told
 
--- what a line says of a row: all of it but the ask
-pub record LogLine : Type 0 where
-  pub number : ℕ
-  pub centre : List ℕ
-  pub result : LogResult
-
-abbrev pub line_of : LogRow → LogLine
+-- what a line says of a row
+abbrev pub line_of : LogRow → TextRow
 line_of row = record { number = row.number; centre = row.centre; result = row.result }
 
--- a line of a log: the row's number, the centre, and what became of the ask
-abbrev pub line_text : Version → LogLine → List ℕ
-line_text v line =
+-- the line of a row: its number, the centre, and what became of the ask
+abbrev pub text_row_text : Version → TextRow → List ℕ
+text_row_text v row =
     joined (
-    decimal line.number ∷ codes " " ∷ atom_text line.centre ∷ codes " " ∷
-    result_text v line.result ∷ codes "\n" ∷ [])
+    decimal row.number ∷ codes " " ∷ atom_text row.centre ∷ codes " " ∷
+    result_text v row.result ∷ codes "\n" ∷ [])
 
 abbrev pub row_text : Version → LogRow → List ℕ
-row_text v row = line_text v (line_of row)
+row_text v row = text_row_text v (line_of row)
 
 -- the line before a centre's history, and the one before an agent's log
 abbrev pub centre_heading : List ℕ → List ℕ
