@@ -1,6 +1,6 @@
-//! Names that are declared, with their places.
-ghost use Rattle.std.specs.Prelude.{◌≡◌, ◌++◌, ◌∷◌, [], None, OnOk};
-ghost use Rattle.tc_config.specs.Names.{place_of};
+//! Names with their places.
+ghost use Rattle.std.specs.Prelude.{◌≡◌, ◌≢◌, ◌++◌, ◌∷◌, [], AllPairs, None, OnErr, OnOk};
+ghost use Rattle.tc_names.specs.Names.{place_of};
 
 use indexmap::IndexSet;
 use std::alloc::Global;
@@ -8,7 +8,7 @@ use std::marker::Model;
 use tc_lists::NoMemory;
 use tc_term::Name;
 
-/// Names in order. The place of one is found in constant time.
+/// Names in order, no two of them equal. The place of one is found in constant time.
 #[derive(Drop)]
 pub struct Names {
     names: IndexSet<Name>,
@@ -39,10 +39,18 @@ impl Names {
         self.names.get_index_of(name)
     }
 
+    /// Tells contracts that the names differ, and does nothing.
+    pub fn differ(&self)
+        ensures { AllPairs ◌≢◌ self.now }
+    {
+        let _count = self.names.len();
+    }
+
     /// Appends a name that isn't there.
     pub fn add(&mut self, name: Name) -> Result<(), NoMemory>
         requires { place_of self.old name ≡ None }
-        ensures { OnOk result (self.new ≡ self.old ++ name ∷ []) }
+        ensures added { OnOk result (self.new ≡ self.old ++ name ∷ []) }
+        ensures same { OnErr result (self.new ≡ self.old) }
     {
         self.names.insert(name)?;
         Ok(())

@@ -1,4 +1,4 @@
--- Names that are declared, and one more.
+-- Names in order, and one more.
 use Rattle.std.proofs.Common.{◌≡◌, ◌≢◌, ◌<◌, ℕ, true, false, Some, None, List, [], ◌∷◌, ◌++◌, All, AllPairs, if◌then◌else◌, length, get_or, sym, ap, ◌∙◌}
 use Rattle.std.specs.Str.{bytes_eq}
 use Rattle.std.proofs.lemmas.List.Folds.{list_any_none}
@@ -6,9 +6,9 @@ use Rattle.std.proofs.lemmas.List.Quantifiers.{all_pairs_push, position-Some}
 use Rattle.std.proofs.lemmas.Slice.Eq.{bytes_eq-Decides}
 use Rattle.tc_lists.proofs.Positions.{position_none}
 use Rattle.indexmap.specs.IndexSet.{insert_key}
-use Rattle.tc_config.specs.Names.{place_of}
+use Rattle.tc_names.specs.Names.{place_of}
 
--- a name that isn't declared is none of those that are
+-- a name that isn't there is none of those that are
 pub unknown-differs : (names : List (List ℕ)) (name : List ℕ) → place_of names name ≡ None → All (λ m. m ≢ name) names
 unknown-differs names name none k d inside same =
     let never : false ≡ true =
@@ -29,3 +29,7 @@ differ-push names name differ none = all_pairs_push ◌≢◌ names name differ 
 -- a name's place is one
 pub place-within : (names : List (List ℕ)) (name : List ℕ) (k : ℕ) → place_of names name ≡ Some k → k < length names
 place-within names name k at = (position-Some (bytes_eq name) names k [] at).0
+
+-- the name at a place is found there
+pub place-name : (names : List (List ℕ)) (name : List ℕ) (k : ℕ) → place_of names name ≡ Some k → get_or names k [] ≡ name
+place-name names name k at = sym ((bytes_eq-Decides name (get_or names k [])).0 (position-Some (bytes_eq name) names k [] at).1)
