@@ -1,3 +1,4 @@
+pub mod Found
 pub mod ReadWords
 pub mod Repeated
 pub mod ClauseTexts
@@ -5,3 +6,8 @@ pub mod ReadOperations
 pub mod ReadOutcomes
 pub mod OneLine
 pub mod ReadItems
+pub mod ReadRows
+pub mod ReadEntries
+pub mod ReadLines
+pub mod OneLineText
+pub mod TypedLines

@@ -20,8 +20,9 @@ use Rattle.tc_model.specs.declared.items.Item.TheVariants.{Fired, Failed}
 use Rattle.tc_histline.specs.Items.{ahead, and_others, effects_at, failed_at, fired_at, item_at, place_at, several, unless_zero, with_effects, HasItemLine}
 use Rattle.tc_histline.specs.Outcomes.{effect_at}
 use Rattle.tc_histline.specs.Text.{effect_text, effects_text, item_text}
-use Rattle.tc_histline.proofs.OneText.{IsLineEnd, effects-end, effects-no_digit, failed_parts, fired_parts}
+use Rattle.tc_histline.proofs.OneLine.{IsLineEnd, effects-end, effects-no_digit, failed_parts, fired_parts}
 use Rattle.tc_histline.proofs.ReadOutcomes.{effect_at-again, effect_at-takes}
+use Rattle.tc_histline.proofs.Found.{and_then-some, behind-some, closed-some, takes-from, takes-some}
 use Rattle.tc_histline.proofs.Repeated.{joined-before}
 
 -- places
@@ -171,31 +172,6 @@ item_at-again (Failed p c g es) rest is =
 
 -- what is read stands there
 
-behind-some : {X : Type 0} (word bytes : List ℕ) (read : List ℕ → Front X) (x : X) (rest : List ℕ) → behind (after word bytes) read ≡ Some (x, rest)
-    → (more : List ℕ) × (bytes ≡ word ++ more) × (read more ≡ Some (x, rest))
-behind-some word bytes read x rest e = by (after word bytes) (λ more f. after-takes word bytes more f) e
-  where
-    by : (o : Option (List ℕ)) → ((more : List ℕ) → o ≡ Some more → bytes ≡ word ++ more) → behind o read ≡ Some (x, rest)
-        → (more : List ℕ) × (bytes ≡ word ++ more) × (read more ≡ Some (x, rest))
-    by None stands f = absurd (none-some (x, rest) f)
-    by (Some more) stands f = (more, stands more refl, f)
-
-and_then-some : {X Y : Type 0} (a : Front Y) (next : Y → List ℕ → Front X) (x : X) (rest : List ℕ) → and_then a next ≡ Some (x, rest)
-    → (y : Y) × (more : List ℕ) × (a ≡ Some (y, more)) × (next y more ≡ Some (x, rest))
-and_then-some None next x rest e = absurd (none-some (x, rest) e)
-and_then-some (Some (y, more)) next x rest e = (y, more, refl, e)
-
-closed-some : {X : Type 0} (word bytes : List ℕ) (make x : X) (rest : List ℕ) → closed make (after word bytes) ≡ Some (x, rest) → (make ≡ x) × (bytes ≡ word ++ rest)
-closed-some word bytes make x rest e = by (after word bytes) (λ more f. after-takes word bytes more f) e
-  where
-    by : (o : Option (List ℕ)) → ((more : List ℕ) → o ≡ Some more → bytes ≡ word ++ more) → closed make o ≡ Some (x, rest) → (make ≡ x) × (bytes ≡ word ++ rest)
-    by None stands f = absurd (none-some (x, rest) f)
-    by (Some more) stands f = let both = some_pair_parts make x more rest f in (both.0, stands more refl ∙ ap (λ r. word ++ r) both.1)
-
-takes-some : {X : Type 0} (good : X → Type 0) (text : X → List ℕ) (bytes : List ℕ) (a : Front X) (x : X) (rest : List ℕ) → Takes good text bytes a → a ≡ Some (x, rest)
-    → good x × (bytes ≡ text x ++ rest)
-takes-some good text bytes a x rest takes e = subst (Takes good text bytes) e takes
-
 -- effects up to the end of the line
 record WithEffects (make : List Effect → Item) (bytes : List ℕ) (i : Item) (rest : List ℕ) : Type 0 where
   effects : List Effect
@@ -259,8 +235,4 @@ item_at-some bytes i rest e =
         (both.0, word.1 ∙ (ap (λ b. codes "  " ++ b) place.1 ∙ both.1))
 
 pub item_at-takes : AlwaysTakes HasItemLine item_text item_at
-item_at-takes bytes = by (item_at bytes) (item_at-some bytes)
-  where
-    by : (found : Front Item) → ((i : Item) (rest : List ℕ) → found ≡ Some (i, rest) → HasItemLine i × (bytes ≡ item_text i ++ rest)) → Takes HasItemLine item_text bytes found
-    by None some = tt
-    by (Some (i, rest)) some = some i rest refl
+item_at-takes bytes = takes-from HasItemLine item_text bytes (item_at bytes) (item_at-some bytes)

@@ -100,10 +100,10 @@ outcome_at-again Two (outcome.Found t) rest is = made-again outcome.Found _ t (c
 -- up to the end of the line
 
 module _ {X : Type 0} (good : X → Type 0) (text : X → List ℕ) (read : List ℕ → Front X) where
-  ended-takes : AlwaysTakes good text read → AlwaysTakes good (ended_text text) (ended read)
+  pub ended-takes : AlwaysTakes good text read → AlwaysTakes good (ended_text text) (ended read)
   ended-takes takes bytes = closed_by-takes good text (codes "\n") bytes (read bytes) (takes bytes)
 
-  ended-again : ((x : X) (rest : List ℕ) → good x → read (text x ++ (codes "\n" ++ rest)) ≡ Some (x, codes "\n" ++ rest)) → IsReadAgain good (ended_text text) (ended read)
+  pub ended-again : ((x : X) (rest : List ℕ) → good x → read (text x ++ (codes "\n" ++ rest)) ≡ Some (x, codes "\n" ++ rest)) → IsReadAgain good (ended_text text) (ended read)
   ended-again again x rest is =
       ap (λ bytes. closed_by (codes "\n") (read bytes)) (append_assoc (text x) (codes "\n") rest)
       ∙ closed_by-again (codes "\n") rest (read (text x ++ (codes "\n" ++ rest))) x (again x rest is)
@@ -163,7 +163,7 @@ reply_in_version : (v : Version) (bytes : List ℕ) (found : Reply × List ℕ) 
 reply_in_version One bytes found e = e
 reply_in_version Two bytes found e = or_else-first (common_reply_at bytes) (further_reply_at bytes) found e
 
-reply_at-again : (v : Version) (r : Reply) (rest : List ℕ) → IsReplyIn v r
+pub reply_at-again : (v : Version) (r : Reply) (rest : List ℕ) → IsReplyIn v r
     → reply_at v (reply_text r ++ (codes "\n" ++ rest)) ≡ Some (r, codes "\n" ++ rest)
 reply_at-again v reply.Done rest is = reply_in_version v _ _ refl
 reply_at-again v (reply.Tuple t) rest is = reply_in_version v _ _ (or_else-first _ _ _ (made-again reply.Tuple _ t (codes "\n" ++ rest) (tuple_behind-again (codes "tuple ") t rest is)))
@@ -184,7 +184,7 @@ told_at-takes v bytes =
     (made-takes (IsToldIn v) told_text (IsReplyIn v) reply_text Some bytes (reply_at v bytes) (λ r is. is) (λ r. refl) (reply_at-takes v bytes))
     (word_for-takes (IsToldIn v) told_text None (codes "pending") bytes tt refl)
 
-told_at-again : (v : Version) (told : Option Reply) (rest : List ℕ) → IsToldIn v told
+pub told_at-again : (v : Version) (told : Option Reply) (rest : List ℕ) → IsToldIn v told
     → told_at v (told_text told ++ (codes "\n" ++ rest)) ≡ Some (told, codes "\n" ++ rest)
 told_at-again v (Some r) rest is = or_else-first _ _ _ (made-again Some _ r (codes "\n" ++ rest) (reply_at-again v r rest is))
 told_at-again One None rest is = refl

@@ -4,9 +4,9 @@ use Rattle.std.specs.List.{flat_map}
 use Rattle.std.proofs.lemmas.Bool.{eqb-true}
 use Rattle.std.proofs.lemmas.Option.{none-some}
 use Rattle.std.proofs.lemmas.Slice.Eq.{bytes_eq-Decides}
-use Rattle.tc_lists.specs.AtFront.{Front, Takes, AlwaysTakes, behind, between, closed, closed_by, or_else}
+use Rattle.tc_lists.specs.AtFront.{Front, Takes, AlwaysTakes, behind, between, closed, closed_by, or_else, word_for}
 use Rattle.tc_lists.specs.Texts.{after}
-use Rattle.tc_lists.proofs.AtFront.{behind-takes}
+use Rattle.tc_lists.proofs.AtFront.{behind-takes, or_else-takes, word_for-takes}
 use Rattle.tc_lists.proofs.Parts.{drop_behind}
 use Rattle.tc_lists.proofs.Prefixes.{append-same}
 use Rattle.tc_term.specs.Ground.{HasTupleCause}
@@ -21,7 +21,7 @@ use Rattle.tc_term.proofs.Numbered.{IsPattern-tuple, renumbered-pattern}
 use Rattle.tc_read.proofs.Again.{NoWord, name_at-again, name_at-quoted}
 use Rattle.tc_read.proofs.AtFront.{Stands, IsStanding, LeavesAtMost, canonical_at-stands, canonical_at-longest, front-longest, front-stands, printed-longest, IsLongestCanonicalAt-same}
 use Rattle.tc_read.proofs.QuotedFront.{quoted_at-takes, quoted_at-there}
-use Rattle.tc_read.proofs.Taken.{plain_text, quoted_text}
+use Rattle.tc_read.proofs.Taken.{IsNameAt, name_at-took, plain_text, quoted_text}
 use Rattle.tc_read.specs.Written.{IsQuotedAt}
 use Rattle.tc_read.specs.Canonical.{EndsTerm, IsCanonicalAt, IsLongestCanonicalAt}
 use Rattle.tc_read.specs.Front.{Read, canonical_at, name_at, quoted_at}
@@ -167,6 +167,27 @@ atom_at-again name rest apart = by (is_nil name) refl
         ap (λ o. or_else (closed (codes "[]") o) (unless_nil (name_at (length (name_text name ++ rest)) (name_text name ++ rest))))
         (no_bracket (length (name_text name ++ rest)) (name_text name ++ rest) (name, rest) whole)
         ∙ (ap unless_nil whole ∙ ap (λ p. if p then None else Some (name, rest)) e)
+
+name_at-stands : (limit : ℕ) → AlwaysTakes (λ name. Unit {0}) name_text (name_at limit)
+name_at-stands limit bytes = by (name_at limit bytes) (name_at-took limit bytes)
+  where
+    by : (found : Front (List ℕ)) → IsNameAt bytes found → Takes (λ name. Unit {0}) name_text bytes found
+    by None took = tt
+    by (Some (name, rest)) took = (tt, took)
+
+unless_nil-takes : (bytes : List ℕ) (a : Front (List ℕ)) → Takes (λ name. Unit {0}) name_text bytes a → Takes (λ name. Unit {0}) atom_text bytes (unless_nil a)
+unless_nil-takes bytes None takes = tt
+unless_nil-takes bytes (Some (name, rest)) takes = by (is_nil name) refl
+  where
+    by : (p : Bool) → is_nil name ≡ p → Takes (λ name. Unit {0}) atom_text bytes (if p then None else Some (name, rest))
+    by true e = tt
+    by false e = (tt, takes.1 ∙ ap (λ p. (if p then codes "[]" else name_text name) ++ rest) (sym e))
+
+pub atom_at-takes : AlwaysTakes (λ name. Unit {0}) atom_text atom_at
+atom_at-takes bytes =
+    or_else-takes (λ name. Unit {0}) atom_text bytes (word_for (codes "[]") (codes "[]") bytes) (unless_nil (name_at (length bytes) bytes))
+    (word_for-takes (λ name. Unit {0}) atom_text (codes "[]") (codes "[]") bytes tt refl)
+    (unless_nil-takes bytes (name_at (length bytes) bytes) (name_at-stands (length bytes) bytes))
 
 -- something between two words: it isn't there, the second word isn't there, or all of it is
 module _ {X : Type 0} (read : List ℕ → Front X) (first close bytes rest : List ℕ) (there : Some rest ≡ after first bytes) where

@@ -5,3 +5,7 @@ pub mod Operations
 pub mod Outcomes
 pub mod Items
 pub mod Lines
+pub mod Rows
+pub mod Entries
+pub mod WrittenLines
+pub mod TypedLines

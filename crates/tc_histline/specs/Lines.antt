@@ -1,7 +1,7 @@
 -- Lines: the text of each, and which lines there are.
 use Rattle.std.specs.Prelude.{◌≡◌, ◌<◌, ◌++◌, ℕ, List, [], drop, length}
 use Rattle.tc_model.specs.Calls.{id_of}
-use Rattle.tc_model.specs.Typed.{AreBytes, Is64, IsTyped}
+use Rattle.tc_model.specs.Typed.{AreBytes, Is32, Is64, IsTyped}
 use Rattle.tc_model.specs.declared.entries.Entry.{Entry}
 use Rattle.tc_model.specs.declared.entries.Entry.TheVariants.{Called, Gave, Looked}
 use Rattle.tc_desk.specs.Typed.{IsTypedResult}
@@ -40,7 +40,7 @@ IsEntryIn v (Looked id asked told) = IsToldIn v told
 -- the numbers of a full centre, which the first version doesn't tell
 abbrev pub AreLoadIn : Version → ℕ → ℕ → Type 0
 AreLoadIn One weight pending = (weight ≡ 0) × (pending ≡ 0)
-AreLoadIn Two weight pending = Unit {0}
+AreLoadIn Two weight pending = Is64 weight × Is64 pending
 
 -- the refusal has a text in this version; want of memory has none
 abbrev pub IsRefusalIn : Version → Refusal → Type 0
@@ -49,7 +49,7 @@ IsRefusalIn v refusal.Waiting = Unit {0}
 IsRefusalIn v refusal.Denied = Unit {0}
 IsRefusalIn v refusal.TooBig = Unit {0}
 IsRefusalIn v refusal.NotGround = Unit {0}
-IsRefusalIn v (refusal.BadSpec bad) = Unit {0}
+IsRefusalIn v (refusal.BadSpec bad) = Is32 bad.clause
 IsRefusalIn v refusal.TurnsSpent = Unit {0}
 IsRefusalIn v (refusal.Full weight pending) = AreLoadIn v weight pending
 IsRefusalIn v refusal.NoMemory = ⊥

@@ -28,20 +28,25 @@ mod items;
 mod laws;
 mod lines;
 mod operations;
+mod read_entries;
 mod read_items;
+mod read_lines;
 mod read_operations;
 mod read_outcomes;
+mod read_rows;
 mod read_words;
+mod reading;
 mod rows;
 mod versions;
 
 pub use answers::print_reply;
 pub use entries::print_entry;
 pub use headings::{Heading, print_end, print_heading, print_version};
-pub use laws::{items_are_read_again, parts_of_lines_are_read_again};
+pub use laws::{items_are_read_again, lines_of_one_text_are_one, parts_of_lines_are_read_again};
 pub use lines::{Line, TextRow, WrittenLine};
 pub use operations::print_op;
 pub use read_operations::WrittenOp;
+pub use reading::read_line;
 pub use rows::{print_refusal, print_result, print_row};
 pub use versions::Version;
 

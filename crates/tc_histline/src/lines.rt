@@ -1,8 +1,13 @@
 //! The lines of a text.
+ghost use Rattle.std.specs.Prelude.{IfSome};
+ghost use Rattle.tc_desk.specs.Typed.{IsTypedResult};
+ghost use Rattle.tc_model.specs.Typed.{IsTypedOutcome, IsTypedReply};
+ghost use Rattle.tc_histline.specs.TypedLines.{IsTypedLine};
+
 use crate::versions::Version;
-use tc_desk::LogResult;
+use tc_desk::{LogResult, Refusal};
 use tc_lists::Seq;
-use tc_model::{CallId, Entry, Item, Outcome};
+use tc_model::{BadSpec, CallId, Entry, Item, Outcome, Reply, bytes_fit};
 use tc_term::Name;
 
 /// A line of a text of histories and logs.
@@ -39,4 +44,50 @@ pub enum WrittenLine {
         text: Seq<u8>,
         outcome: Outcome,
     },
+}
+
+impl Line {
+    /// Tells contracts what the types of the line's parts promise, and changes nothing.
+    pub fn typed(&self)
+        ensures { IsTypedLine self.now }
+    {
+        match self {
+            Line::Centre(name) | Line::Agent(name) => bytes_fit(name.bytes()),
+            Line::Entry(Entry::Called { outcome, .. } | Entry::Gave { outcome, .. }) => {
+                outcome.typed();
+            }
+            Line::Entry(Entry::Looked { reply, .. }) => told_fits(reply),
+            Line::Row(row) => {
+                bytes_fit(row.centre.bytes());
+                result_fits(&row.result);
+            }
+            Line::First(_) | Line::Reaction(_) | Line::End(_) => {}
+        }
+    }
+}
+
+// What an agent is told is what its type promises.
+fn told_fits(told: &Option<Reply>)
+    ensures { IfSome told.now IsTypedReply }
+{
+    if let Some(reply) = told {
+        reply.typed();
+    }
+}
+
+// So is the result, with the numbers that a refusal tells.
+fn result_fits(became: &LogResult)
+    ensures { IsTypedResult became.now }
+{
+    match became {
+        LogResult::Replied(reply) | LogResult::Polled(Some(reply)) => reply.typed(),
+        LogResult::Refused(Refusal::BadSpec(BadSpec { clause, .. })) => {
+            let _clause = *clause;
+        }
+        LogResult::Refused(Refusal::Full { weight, pending }) => {
+            let _weight = *weight;
+            let _pending = *pending;
+        }
+        LogResult::Refused(_) | LogResult::Pending | LogResult::Polled(None) => {}
+    }
 }

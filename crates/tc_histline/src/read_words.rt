@@ -91,6 +91,27 @@ pub(crate) fn tuple_in<'a>(
     Ok(Some((tuple, rest)))
 }
 
+// The name of an atom between two words.
+pub(crate) fn atom_in<'a>(
+    alloc: Global,
+    first: &[u8],
+    close: &[u8],
+    bytes: &'a [u8],
+) -> Read<'a, Name>
+    ensures { IfOk result (λ r. seen r ≡ between first.now close.now atom_at bytes.now) }
+{
+    let Some(rest) = behind(bytes, first) else {
+        return Ok(None);
+    };
+    let Some((name, rest)) = atom(alloc, rest)? else {
+        return Ok(None);
+    };
+    let Some(rest) = behind(rest, close) else {
+        return Ok(None);
+    };
+    Ok(Some((name, rest)))
+}
+
 // The text in quotes between two words.
 pub(crate) fn quote_in<'a>(
     alloc: Global,

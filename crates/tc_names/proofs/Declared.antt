@@ -1,5 +1,5 @@
 -- Names in order, and one more.
-use Rattle.std.proofs.Common.{◌≡◌, ◌≢◌, ◌<◌, ℕ, true, false, Some, None, List, [], ◌∷◌, ◌++◌, All, AllPairs, if◌then◌else◌, length, get_or, sym, ap, ◌∙◌}
+use Rattle.std.proofs.Common.{◌≡◌, ◌≢◌, ◌<◌, ℕ, true, false, Option, Some, None, List, [], ◌∷◌, ◌++◌, All, AllPairs, if◌then◌else◌, length, get_or, refl, sym, ap, arith, ◌∙◌}
 use Rattle.std.specs.Str.{bytes_eq}
 use Rattle.std.proofs.lemmas.List.Folds.{list_any_none}
 use Rattle.std.proofs.lemmas.List.Quantifiers.{all_pairs_push, position-Some}
@@ -33,3 +33,16 @@ place-within names name k at = (position-Some (bytes_eq name) names k [] at).0
 -- the name at a place is found there
 pub place-name : (names : List (List ℕ)) (name : List ℕ) (k : ℕ) → place_of names name ≡ Some k → get_or names k [] ≡ name
 place-name names name k at = sym ((bytes_eq-Decides name (get_or names k [])).0 (position-Some (bytes_eq name) names k [] at).1)
+
+-- where names differ, each is found at its own place
+pub place-own : (names : List (List ℕ)) (k : ℕ) → AllPairs ◌≢◌ names → k < length names → place_of names (get_or names k []) ≡ Some k
+place-own names k differ inside = by (place_of names (get_or names k [])) refl
+  where
+    by : (found : Option ℕ) → place_of names (get_or names k []) ≡ found → found ≡ Some k
+    by None e = absurd (unknown-differs names (get_or names k []) e k [] inside refl)
+    by (Some i) e =
+        let same : get_or names i [] ≡ get_or names k [] = place-name names (get_or names k []) i e in
+        let within : i < length names = place-within names (get_or names k []) i e in
+        let before_not : (i < k) → ⊥ = λ less. differ i k [] less inside same in
+        let behind_not : (k < i) → ⊥ = λ less. differ k i [] less within (sym same) in
+        ap Some (omega (arith, before_not, behind_not))
