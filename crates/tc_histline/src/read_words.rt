@@ -1,17 +1,14 @@
 //! Terms, names and quoted texts, read at the front of bytes.
-ghost use Rattle.std.specs.List.{prefix_len};
-ghost use Rattle.std.specs.Prelude.{◌≡◌, ◌≤◌, ◌∷◌, IfOk, List, drop, length, ℕ};
+ghost use Rattle.std.specs.Prelude.{◌≡◌, ◌≤◌, IfOk, drop, length};
 ghost use Rattle.tc_lists.specs.AtFront.{behind, between};
 ghost use Rattle.tc_lists.specs.Seen.{seen};
 ghost use Rattle.tc_lists.specs.Texts.{after};
-ghost use Rattle.tc_term.specs.Bytes.{is_word};
-ghost use Rattle.tc_read.specs.Front.{name_at, quoted_at, unplain};
 ghost use Rattle.tc_histline.specs.Words.{atom_at, quote_at, template_at, tuple_at};
 
 use std::alloc::Global;
 use tc_lists::{NoMemory, Seq, behind};
-use tc_read::{read_canonical, read_quoted};
-use tc_term::{Ground, Name, Pattern, is_name, is_word};
+use tc_read::{name_at, read_canonical, read_quoted};
+use tc_term::{Ground, Name, Pattern};
 
 // What is read at the front, and what stands behind it, unless memory runs out.
 pub(crate) type Read<'a, T> = Result<Option<(T, &'a [u8])>, NoMemory>;
@@ -160,52 +157,13 @@ pub(crate) fn atom<'a>(alloc: Global, bytes: &'a [u8]) -> Read<'a, Name>
     if let Some(rest) = behind(bytes, b"[]") {
         return Ok(Some((Name::new(alloc, b"[]")?, rest)));
     }
-    let Some((name, rest)) = name(alloc, bytes)? else {
+    let Some((name, rest)) = name_at(alloc, bytes, bytes.len())? else {
         return Ok(None);
     };
     if name.bytes() == b"[]".as_slice() {
         return Ok(None);
     }
     Ok(Some((name, rest)))
-}
-
-// The name at the front, plain or in quotes.
-fn name<'a>(alloc: Global, bytes: &'a [u8]) -> Read<'a, Name>
-    ensures { IfOk result (λ r. seen r ≡ name_at (length bytes.now) bytes.now) }
-{
-    match bytes {
-        [] => Ok(None),
-        [b'\'', ..] => quoted_name(alloc, bytes),
-        [first, ..] => {
-            if first.is_ascii_lowercase() {
-                let (word, rest) = bytes.split_at(word_length(bytes));
-                return Ok(Some((Name::new(alloc, word)?, rest)));
-            }
-            Ok(None)
-        }
-    }
-}
-
-// How many word bytes stand at the front.
-fn word_length(bytes: &[u8]) -> usize
-    ensures length { result ≡ prefix_len is_word bytes.now }
-    ensures within { result ≤ length bytes.now }
-{
-    bytes.iter().take_while(|byte| is_word(**byte)).count()
-}
-
-// The name in quotes at the front, unless it can be written plainly.
-fn quoted_name<'a>(alloc: Global, bytes: &'a [u8]) -> Read<'a, Name>
-    ensures { (s : List ℕ) → bytes.now ≡ 39 ∷ s
-        → IfOk result (λ r. seen r ≡ unplain (quoted_at s)) }
-{
-    let Some((name, place)) = read_quoted(alloc, bytes, 0)? else {
-        return Ok(None);
-    };
-    if is_name(&name) {
-        return Ok(None);
-    }
-    Ok(Some((Name::from_vec(alloc, name)?, rest_from(bytes, place))))
 }
 
 // What stands from this place on.
