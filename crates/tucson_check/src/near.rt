@@ -1,0 +1,111 @@
+//! Names that differ by a letter or two.
+use std::alloc::Global;
+use tc_config::Config;
+use tc_lists::NoMemory;
+use tc_term::Name;
+
+/// The most bytes of a name that is compared with others.
+const MOST_COMPARED: usize = 100;
+
+/// The first of the names that is nearest to this one, where one is near.
+pub fn nearest<'a>(name: &[u8], names: &[&'a [u8]]) -> Option<&'a [u8]> {
+    let mut best = None;
+    let mut least = 3;
+    for other in names {
+        let differing = difference(name, other);
+        if differing < least && other.len() <= MOST_COMPARED {
+            least = differing;
+            best = Some(*other);
+        }
+    }
+    best
+}
+
+// How many letters stand between what two names begin and end with alike; 3 where these are more
+// than two, or more than what is alike.
+fn difference(name: &[u8], other: &[u8]) -> usize {
+    let longer = name.len().max(other.len());
+    if longer > MOST_COMPARED {
+        return 3;
+    }
+    let before = alike_before(name, other);
+    let left = name.get(before..).unwrap_or(&[]);
+    let right = other.get(before..).unwrap_or(&[]);
+    let alike = before.saturating_add(alike_behind(left, right));
+    let differing = longer.saturating_sub(alike);
+    if differing > alike { 3 } else { differing.min(3) }
+}
+
+// How many bytes two names begin with alike.
+fn alike_before(name: &[u8], other: &[u8]) -> usize {
+    let mut count: usize = 0;
+    for (byte, its) in name.iter().zip(other.iter()) {
+        if *byte != *its {
+            break;
+        }
+        count = count.saturating_add(1);
+    }
+    count
+}
+
+// How many bytes two names end with alike.
+fn alike_behind(name: &[u8], other: &[u8]) -> usize {
+    let mut count: usize = 0;
+    for (byte, its) in name.iter().rev().zip(other.iter().rev()) {
+        if *byte != *its {
+            break;
+        }
+        count = count.saturating_add(1);
+    }
+    count
+}
+
+/// What a name is that is declared.
+#[derive(Clone, Copy, Debug, PartialEq, Eq)]
+pub enum Sort {
+    Centre,
+    Role,
+    Agent,
+}
+
+impl Sort {
+    /// The word of the clause that declares it.
+    pub fn word(&self) -> &'static [u8] {
+        match self {
+            Sort::Centre => b"centre",
+            Sort::Role => b"role",
+            Sort::Agent => b"agent",
+        }
+    }
+}
+
+/// The names of this sort that are declared.
+pub fn declared<'a>(
+    alloc: Global,
+    config: &'a Config,
+    sort: Sort,
+) -> Result<Vec<&'a [u8]>, NoMemory> {
+    let mut names = Vec::new(alloc);
+    match sort {
+        Sort::Centre => {
+            for centre in config.centres() {
+                names.push(centre.name.bytes())?;
+            }
+        }
+        Sort::Role => push_names(config.role_names(), &mut names)?,
+        Sort::Agent => {
+            for agent in config.agents() {
+                names.push(agent.name.bytes())?;
+            }
+        }
+    }
+    Ok(names)
+}
+
+// Appends the bytes of names.
+fn push_names<'a>(names: &'a [Name], into: &mut Vec<&'a [u8]>) -> Result<(), NoMemory> {
+    for name in names {
+        into.push(name.bytes())?;
+    }
+    Ok(())
+}
