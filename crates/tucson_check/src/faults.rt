@@ -131,16 +131,24 @@ fn meaning(
         ConfigCause::UnknownAgent => unknown(alloc, text, span, term, Sort::Agent),
         ConfigCause::Twice => twice_advice(alloc, text, span, term),
         ConfigCause::NotGround => ground_advice(alloc, text, span),
-        ConfigCause::Count => found(
-            alloc,
-            first_of(text, span),
-            b"there are at most 64 centres, 64 roles, 1024 agents, 1000 reactions of a centre, \
-              and 100000 items of scripts",
-            &[],
-        ),
+        ConfigCause::Count => {
+            let mark = first_of(text, span);
+            found(alloc, mark, count_words(part(text, mark)), &[])
+        }
         ConfigCause::Syntax | ConfigCause::Size | ConfigCause::Length => {
             found_nowhere(alloc, b"it is no clause")
         }
+    }
+}
+
+// There are too many of what clauses of this word set up.
+fn count_words(word: &[u8]) -> &'static [u8] {
+    match word {
+        b"centre" => b"there are at most 64 centres",
+        b"role" => b"there are at most 64 roles",
+        b"agent" => b"there are at most 1024 agents",
+        b"spec" => b"a centre has at most 1000 reactions",
+        _ => b"all scripts together have at most 100000 items",
     }
 }
 

@@ -77,6 +77,15 @@ impl Sort {
             Sort::Agent => b"agent",
         }
     }
+
+    /// What it is, in words.
+    pub fn phrase(&self) -> &'static [u8] {
+        match self {
+            Sort::Centre => b"a centre",
+            Sort::Role => b"a role",
+            Sort::Agent => b"an agent",
+        }
+    }
 }
 
 /// The names of this sort that are declared.

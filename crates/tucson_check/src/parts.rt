@@ -117,10 +117,10 @@ pub fn leaves(alloc: Global, text: &[u8], span: Span) -> Result<Vec<Span>, NoMem
         let Some(next) = left.pop() else {
             break;
         };
-        let mut parts = split(alloc, text, next)?;
+        let parts = split(alloc, text, next)?;
         if parts.len() > 1 {
-            while let Some(part) = parts.pop() {
-                left.push(part)?;
+            for part in parts.iter().rev() {
+                left.push(*part)?;
             }
         } else if let Some(inner) = group(text, next) {
             left.push(inner)?;

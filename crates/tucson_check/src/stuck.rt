@@ -2,9 +2,10 @@
 use crate::advice::{Finding, found, place_words};
 use crate::bytes::byte_advice;
 use crate::parts::first_of;
-use crate::spans::{Span, line_ends, line_start, part, rest};
+use crate::spans::{Span, line_ends, line_start, part};
 use crate::syntax::{Stuck, Why};
 use crate::tokens::Kind;
+use crate::words::is_clause_word;
 use std::alloc::Global;
 use tc_lists::NoMemory;
 
@@ -16,7 +17,10 @@ pub fn stuck_advice(
     at: &Stuck,
 ) -> Result<Finding, NoMemory> {
     match at.why {
-        Why::Byte => byte_advice(alloc, text, at.here.span),
+        Why::Byte => match comment_sign(text, from, at) {
+            Some(mark) => comment_advice(alloc, text, mark),
+            None => byte_advice(alloc, text, at.here.span),
+        },
         Why::NextClause | Why::ClauseEnd | Why::TextEnd => end_advice(alloc, text, at),
         Why::Closing => closing_advice(alloc, text, at),
         Why::TwoTerms => two_terms_advice(alloc, text, from, at),
@@ -162,6 +166,14 @@ fn two_terms_advice(
         );
     }
     let mark = if is_next_line(text, at) { behind(at) } else { at.here.span };
+    if at.count == 0 && is_clause_word(here) {
+        return found(
+            alloc,
+            mark,
+            b"a full stop ends a clause: it is missing between ~ and ~",
+            &[before, here],
+        );
+    }
     if at.count == 0 {
         return found(
             alloc,
@@ -239,11 +251,10 @@ fn comment_sign(text: &[u8], from: usize, at: &Stuck) -> Option<Span> {
 
 /// A comment is written in another way.
 pub fn comment_advice(alloc: Global, text: &[u8], mark: Span) -> Result<Finding, NoMemory> {
-    let sign = rest(part(text, mark), 0);
     found(
         alloc,
         mark,
         b"is this a comment? `%` begins one, up to the end of the line, and not ~",
-        &[sign],
+        &[part(text, mark)],
     )
 }

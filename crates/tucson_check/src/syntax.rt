@@ -4,7 +4,7 @@
 //! up to the first that can't follow.
 use crate::spans::{Span, line_start, part, rest};
 use crate::tokens::{Kind, Token, next_token};
-use crate::words::{is_clause_word, most_arguments};
+use crate::words::{TESTS, is_clause_word, most_arguments};
 use std::alloc::Global;
 use tc_lists::NoMemory;
 use tc_term::MOST_BRACKETS;
@@ -61,13 +61,14 @@ enum Bracket {
     Tail,
 }
 
-// A bracket that stands open: where, behind which name, how many commas it has, and how loose the
-// operators behind its last comma are.
+// A bracket that stands open: where, behind which name, how many arguments that may have, how many
+// commas there are, and how loose the operators behind the last one are.
 #[derive(Clone, Copy)]
 struct Frame {
     bracket: Bracket,
     at: Span,
     name: Span,
+    most: usize,
     commas: usize,
     loose: Loose,
 }
@@ -140,12 +141,16 @@ impl<'a> Walker<'a> {
     }
 
     fn stop(&self, why: Why, here: Token) -> Stuck {
+        let open = match self.frames.last() {
+            Some(frame) => Some(frame.at),
+            None => None,
+        };
         Stuck {
             why,
             here,
             before: self.before,
             holds: self.holds,
-            open: self.frames.last().map(|frame| frame.at),
+            open,
             count: self.frames.len(),
             excess: self.excess,
         }
@@ -244,6 +249,7 @@ impl<'a> Walker<'a> {
             bracket,
             at: token.span,
             name,
+            most: most_arguments(part(self.text, name)),
             commas: 0,
             loose: STRICT,
         })?;
@@ -307,8 +313,10 @@ impl<'a> Walker<'a> {
                 return Why::Bar;
             }
             frame.commas = frame.commas.saturating_add(1);
-            let most = most_arguments(part(text, frame.name));
-            let exceeds = frame.bracket == Bracket::Call && frame.commas >= most;
+            if frame.most == 3 && frame.commas == 1 && !begins_guard(text, token.span.to) {
+                frame.most = most_behind_event(part(text, frame.name));
+            }
+            let exceeds = frame.bracket == Bracket::Call && frame.commas >= frame.most;
             if exceeds && self.excess.is_none() {
                 self.excess = Some((token.span, frame.name));
             }
@@ -336,6 +344,26 @@ impl<'a> Walker<'a> {
             _ => Why::Closing,
         }
     }
+}
+
+// Whether a guard may stand at a place: its first word is a test's, in brackets or not.
+fn begins_guard(text: &[u8], from: usize) -> bool {
+    let mut at = from;
+    for _ in 0..4 {
+        let Some(token) = next_token(text, at) else {
+            return false;
+        };
+        if token.kind != Kind::Open {
+            return TESTS.iter().any(|word| *word == part(text, token.span));
+        }
+        at = token.span.to;
+    }
+    false
+}
+
+// How many arguments there are of this name where the second is no guard.
+fn most_behind_event(name: &[u8]) -> usize {
+    if name == b"reaction".as_slice() { 2 } else { 3 }
 }
 
 fn is_round_bracket(bracket: Bracket) -> bool {

@@ -24,38 +24,39 @@ pub fn unknown_advice(
         return found(alloc, first_of(text, span), b"a name isn't declared before", &[]);
     };
     if let Some(near) = nearest(name, &names) {
+        let place = declaring(alloc, text, sort, near)?.unwrap_or(Vec::new(alloc));
         return found(
             alloc,
             mark,
-            b"a @ is declared by @(NAME). in an earlier clause; did you mean ~?",
-            &[sort.word(), sort.word(), near],
+            b"@ is declared by @(NAME). in an earlier clause; did you mean ~ (@)?",
+            &[sort.phrase(), sort.word(), near, place.as_slice()],
         );
     }
-    if let Some(place) = later(alloc, text, span.to, sort, name)? {
+    if let Some(place) = declaring(alloc, text, sort, name)? {
         return found(
             alloc,
             mark,
-            b"a @ is declared before it is used, and ~ is in @",
-            &[sort.word(), name, place.as_slice()],
+            b"@ is declared before it is used, and ~ is declared in @",
+            &[sort.phrase(), name, place.as_slice()],
         );
     }
     let known = known_words(alloc, &names)?;
     found(
         alloc,
         mark,
-        b"a @ is declared by @(NAME). in an earlier clause; @",
-        &[sort.word(), sort.word(), known.as_slice()],
+        b"@ is declared by @(NAME). in an earlier clause; @",
+        &[sort.phrase(), sort.word(), known.as_slice()],
     )
 }
 
 // Which names are declared.
 fn known_words(alloc: Global, names: &[&[u8]]) -> Result<Vec<u8>, NoMemory> {
     match names {
-        [] => sentence(alloc, b"none is", &[]),
-        [a] => sentence(alloc, b"~ is", &[*a]),
-        [a, b] => sentence(alloc, b"~ and ~ are", &[*a, *b]),
-        [a, b, c] => sentence(alloc, b"~, ~ and ~ are", &[*a, *b, *c]),
-        [a, b, c, ..] => sentence(alloc, b"~, ~, ~ and others are", &[*a, *b, *c]),
+        [] => sentence(alloc, b"none is there yet", &[]),
+        [a] => sentence(alloc, b"there is ~", &[*a]),
+        [a, b] => sentence(alloc, b"there are ~ and ~", &[*a, *b]),
+        [a, b, c] => sentence(alloc, b"there are ~, ~ and ~", &[*a, *b, *c]),
+        [a, b, c, ..] => sentence(alloc, b"there are ~, ~, ~ and others", &[*a, *b, *c]),
     }
 }
 
@@ -110,11 +111,10 @@ fn unknown_item<'t>(
     Ok(None)
 }
 
-// Which clause behind a place declares the name, in words.
-fn later(
+// Which clause declares the name, in words.
+fn declaring(
     alloc: Global,
     text: &[u8],
-    behind: usize,
     sort: Sort,
     name: &[u8],
 ) -> Result<Option<Vec<u8>>, NoMemory> {
@@ -124,7 +124,7 @@ fn later(
             break;
         };
         let (word, args) = parts_of(clause.pattern.term());
-        if clause.span.from >= behind && word == sort.word() && is_first(args, name) {
+        if word == sort.word() && is_first(args, name) {
             return Ok(Some(clause_words(alloc, clause.number, clause.first_line)?));
         }
     }
