@@ -49,6 +49,7 @@ pub use laws::{
     printed_clause_is_read_back, printed_term_is_read_back, read_names_hold_no_control_bytes,
     reading_is_unique,
 };
+pub use printed_names::{ReadName, name_at};
 pub use quote::read_quoted;
 pub use read::{read_clause, read_term};
 pub use tc_lists::NoMemory;

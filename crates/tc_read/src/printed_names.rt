@@ -28,7 +28,10 @@ fn quoted_name<'a>(alloc: Global, bytes: &'a [u8]) -> ReadName<'a>
     Ok(Some((Name::from_vec(alloc, name)?, rest_from(bytes, end))))
 }
 
-/// The name at the front, and what stands behind it. A plain one has at most so many bytes.
+/// The name at the front, as it is printed, and what stands behind it.
+///
+/// A plain one has at most so many bytes; one in quotes is any that can't be written plainly. `[]` is
+/// none.
 pub fn name_at<'a>(alloc: Global, bytes: &'a [u8], limit: usize) -> ReadName<'a>
     ensures { IfOk result (λ r. seen r ≡ name_at limit bytes.now) }
 {
