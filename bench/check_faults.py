@@ -175,6 +175,8 @@ def missing_grant(example, draw):
 
 def missing_comma(example, draw):
     place, _ = draw.choice([t for t in example.code if t[1] == ","])
+    if re.match(r"\w\w", example.text[place - 1] + example.text[place + 1]):
+        return None
     return replaced("comma", example, place, ",", "", "a comma left out")
 
 
@@ -225,7 +227,7 @@ def main():
         run = subprocess.run(program, input=fault.text.encode(), stdout=subprocess.PIPE, stderr=subprocess.DEVNULL)
         said = run.stdout.decode()
         lines = shown_lines(said)
-        is_right = fault.line in lines or f", line {fault.line})?" in said
+        is_right = fault.line in lines or f", line {fault.line})" in said
         is_right = is_right and run.returncode == (0 if fault.kind == "grant" else 2)
         right += is_right
         mark = "right" if is_right else "WRONG"

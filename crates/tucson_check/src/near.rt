@@ -22,7 +22,7 @@ pub fn nearest<'a>(name: &[u8], names: &[&'a [u8]]) -> Option<&'a [u8]> {
 }
 
 // How many letters stand between what two names begin and end with alike; 3 where these are more
-// than two, or more than what is alike.
+// than two, or more than what is alike and not two that have changed places.
 fn difference(name: &[u8], other: &[u8]) -> usize {
     let longer = name.len().max(other.len());
     if longer > MOST_COMPARED {
@@ -33,7 +33,18 @@ fn difference(name: &[u8], other: &[u8]) -> usize {
     let right = other.get(before..).unwrap_or(&[]);
     let alike = before.saturating_add(alike_behind(left, right));
     let differing = longer.saturating_sub(alike);
-    if differing > alike { 3 } else { differing.min(3) }
+    if differing > alike && !(alike > 0 && begin_swapped(left, right)) {
+        return 3;
+    }
+    differing.min(3)
+}
+
+// Whether two names begin with the same two letters, the other way round.
+fn begin_swapped(name: &[u8], other: &[u8]) -> bool {
+    match (name, other) {
+        ([a, b, ..], [c, d, ..]) => *a == *d && *b == *c,
+        _ => false,
+    }
 }
 
 // How many bytes two names begin with alike.

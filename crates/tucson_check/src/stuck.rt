@@ -3,7 +3,7 @@ use crate::advice::{Finding, found, place_words};
 use crate::bytes::byte_advice;
 use crate::parts::first_of;
 use crate::spans::{Span, line_ends, line_start, part};
-use crate::syntax::{Stuck, Why};
+use crate::syntax::{Odd, Stuck, Why};
 use crate::tokens::Kind;
 use crate::words::is_clause_word;
 use std::alloc::Global;
@@ -83,8 +83,8 @@ fn open_advice(
     open: Span,
     at: &Stuck,
 ) -> Result<Finding, NoMemory> {
-    if let Some((comma, name)) = at.excess {
-        return excess_advice(alloc, text, comma, name);
+    if let Some(odd) = at.odd {
+        return odd_advice(alloc, text, odd);
     }
     let mark = if at.why == Why::ClauseEnd {
         at.here.span
@@ -104,26 +104,34 @@ fn open_advice(
     found(alloc, mark, b"a bracket is still open here: the ~ of @", &names)
 }
 
-// A name has more arguments than it may have, so a bracket is missing before a comma, or one too
-// many.
-fn excess_advice(
-    alloc: Global,
-    text: &[u8],
-    comma: Span,
-    name: Span,
-) -> Result<Finding, NoMemory> {
-    found(
-        alloc,
-        comma,
-        b"the brackets don't fit: by them this comma gives ~ an argument too many",
-        &[part(text, name)],
-    )
+// Somewhere the brackets can't be as they are meant.
+fn odd_advice(alloc: Global, text: &[u8], odd: Odd) -> Result<Finding, NoMemory> {
+    match odd {
+        Odd::Excess(comma, name) => found(
+            alloc,
+            comma,
+            b"the brackets don't fit: by them this comma gives ~ an argument too many",
+            &[part(text, name)],
+        ),
+        Odd::Outside(comma) => found(
+            alloc,
+            comma,
+            b"the brackets don't fit: by them this comma stands outside of the clause's",
+            &[],
+        ),
+        Odd::Doubled(open) => found(
+            alloc,
+            open,
+            b"the brackets don't fit: this one isn't closed, and none is wanted here",
+            &[],
+        ),
+    }
 }
 
 // A bracket closes none, or one of the other kind.
 fn closing_advice(alloc: Global, text: &[u8], at: &Stuck) -> Result<Finding, NoMemory> {
-    if let Some((comma, name)) = at.excess {
-        return excess_advice(alloc, text, comma, name);
+    if let Some(odd) = at.odd {
+        return odd_advice(alloc, text, odd);
     }
     let closing = part(text, at.here.span);
     let Some(open) = at.open else {

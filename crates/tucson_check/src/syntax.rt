@@ -4,7 +4,7 @@
 //! up to the first that can't follow.
 use crate::spans::{Span, line_start, part, rest};
 use crate::tokens::{Kind, Token, next_token};
-use crate::words::{TESTS, is_clause_word, most_arguments};
+use crate::words::{TESTS, begins_with_name, is_clause_word, most_arguments};
 use std::alloc::Global;
 use tc_lists::NoMemory;
 use tc_term::MOST_BRACKETS;
@@ -48,8 +48,19 @@ pub struct Stuck {
     /// The innermost bracket that is open, and how many are.
     pub open: Option<Span>,
     pub count: usize,
-    /// The first comma behind which a name has more arguments than it may have, and that name.
-    pub excess: Option<(Span, Span)>,
+    /// Where the brackets first can't be as they are meant.
+    pub odd: Option<Odd>,
+}
+
+/// A token by which brackets can't be as they are meant.
+#[derive(Clone, Copy, Debug)]
+pub enum Odd {
+    /// A comma behind which this name has more arguments than it may have.
+    Excess(Span, Span),
+    /// A comma that stands in no bracket.
+    Outside(Span),
+    /// A bracket before a first argument that has none.
+    Doubled(Span),
 }
 
 // What a bracket that stands open is for.
@@ -90,7 +101,7 @@ struct Walker<'a> {
     holds: bool,
     name: Option<Span>,
     before: Token,
-    excess: Option<(Span, Span)>,
+    odd: Option<Odd>,
 }
 
 const STRICT: Loose = Loose {
@@ -136,7 +147,7 @@ impl<'a> Walker<'a> {
             holds: false,
             name: None,
             before: end_token(from),
-            excess: None,
+            odd: None,
         }
     }
 
@@ -152,7 +163,7 @@ impl<'a> Walker<'a> {
             holds: self.holds,
             open,
             count: self.frames.len(),
-            excess: self.excess,
+            odd: self.odd,
         }
     }
 
@@ -233,9 +244,21 @@ impl<'a> Walker<'a> {
     // A round bracket opens.
     fn open(&mut self, token: Token) -> Result<Why, NoMemory> {
         if self.name.is_some() {
-            self.push(Bracket::Call, token)
-        } else {
-            self.push(Bracket::Group, token)
+            return self.push(Bracket::Call, token);
+        }
+        if let Some(frame) = self.frames.last() {
+            let is_first = frame.bracket == Bracket::Call && frame.commas == 0;
+            if is_first && begins_with_name(part(self.text, frame.name)) {
+                self.note(Odd::Doubled(token.span));
+            }
+        }
+        self.push(Bracket::Group, token)
+    }
+
+    // Notes what is odd, where nothing was before.
+    fn note(&mut self, odd: Odd) {
+        if self.odd.is_none() {
+            self.odd = Some(odd);
         }
     }
 
@@ -307,21 +330,23 @@ impl<'a> Walker<'a> {
 
     fn comma(&mut self, token: Token) -> Why {
         self.set_loose(STRICT);
-        let text = self.text;
-        if let Some(frame) = self.frames.last_mut() {
-            if frame.bracket == Bracket::Tail {
-                return Why::Bar;
-            }
-            frame.commas = frame.commas.saturating_add(1);
-            if frame.most == 3 && frame.commas == 1 && !begins_guard(text, token.span.to) {
-                frame.most = most_behind_event(part(text, frame.name));
-            }
-            let exceeds = frame.bracket == Bracket::Call && frame.commas >= frame.most;
-            if exceeds && self.excess.is_none() {
-                self.excess = Some((token.span, frame.name));
-            }
-        }
         self.holds = false;
+        let text = self.text;
+        let Some(frame) = self.frames.last_mut() else {
+            self.note(Odd::Outside(token.span));
+            return Why::Fine;
+        };
+        if frame.bracket == Bracket::Tail {
+            return Why::Bar;
+        }
+        frame.commas = frame.commas.saturating_add(1);
+        let name = frame.name;
+        if frame.commas == 1 && is_reaction(text, name) && !begins_guard(text, token.span.to) {
+            frame.most = 2;
+        }
+        if frame.bracket == Bracket::Call && frame.commas >= frame.most {
+            self.note(Odd::Excess(token.span, name));
+        }
         Why::Fine
     }
 
@@ -361,9 +386,9 @@ fn begins_guard(text: &[u8], from: usize) -> bool {
     false
 }
 
-// How many arguments there are of this name where the second is no guard.
-fn most_behind_event(name: &[u8]) -> usize {
-    if name == b"reaction".as_slice() { 2 } else { 3 }
+// Whether the name is that of a reaction.
+fn is_reaction(text: &[u8], name: Span) -> bool {
+    part(text, name) == b"reaction".as_slice()
 }
 
 fn is_round_bracket(bracket: Bracket) -> bool {

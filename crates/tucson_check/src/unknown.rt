@@ -9,6 +9,9 @@ use tc_config::Config;
 use tc_lists::{NoMemory, append_number};
 use tc_term::Term;
 
+/// How many of the names that are declared are named.
+const MOST_NAMED: usize = 3;
+
 /// What would be right in a clause that uses a name of this sort which the clauses before, `config`,
 /// don't declare.
 pub fn unknown_advice(
@@ -40,24 +43,41 @@ pub fn unknown_advice(
             &[sort.phrase(), name, place.as_slice()],
         );
     }
-    let known = known_words(alloc, &names)?;
-    found(
+    if names.is_empty() {
+        return found(
+            alloc,
+            mark,
+            b"@ is declared by @(NAME). in an earlier clause",
+            &[sort.phrase(), sort.word()],
+        );
+    }
+    let known = known_words(alloc, text, sort, &names)?;
+    let mut finding = found(
         alloc,
         mark,
-        b"@ is declared by @(NAME). in an earlier clause; @",
-        &[sort.phrase(), sort.word(), known.as_slice()],
-    )
+        b"@ is declared by @(NAME). in an earlier clause; so far",
+        &[sort.phrase(), sort.word()],
+    )?;
+    finding.advice.extend_from_slice(&known)?;
+    Ok(finding)
 }
 
-// Which names are declared.
-fn known_words(alloc: Global, names: &[&[u8]]) -> Result<Vec<u8>, NoMemory> {
-    match names {
-        [] => sentence(alloc, b"none is there yet", &[]),
-        [a] => sentence(alloc, b"there is ~", &[*a]),
-        [a, b] => sentence(alloc, b"there are ~ and ~", &[*a, *b]),
-        [a, b, c] => sentence(alloc, b"there are ~, ~ and ~", &[*a, *b, *c]),
-        [a, b, c, ..] => sentence(alloc, b"there are ~, ~, ~ and others", &[*a, *b, *c]),
+// Which names are declared, the first few with their places.
+fn known_words(
+    alloc: Global,
+    text: &[u8],
+    sort: Sort,
+    names: &[&[u8]],
+) -> Result<Vec<u8>, NoMemory> {
+    let mut words = Vec::new(alloc);
+    for name in names.iter().take(MOST_NAMED) {
+        let place = declaring(alloc, text, sort, name)?.unwrap_or(Vec::new(alloc));
+        words.extend_from_slice(&sentence(alloc, b", ~ (@)", &[*name, place.as_slice()])?)?;
     }
+    if names.len() > MOST_NAMED {
+        words.extend_from_slice(b" and others")?;
+    }
+    Ok(words)
 }
 
 // The first name of a sort that a clause uses and that isn't among those, with its place.

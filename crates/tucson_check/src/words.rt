@@ -35,6 +35,11 @@ pub fn is_clause_word(word: &[u8]) -> bool {
     form_of(word).is_some()
 }
 
+/// Whether the first argument behind this word has no brackets round it.
+pub fn begins_with_name(word: &[u8]) -> bool {
+    is_clause_word(word) || word == b"reaction".as_slice()
+}
+
 /// How the clause is written that begins with this word.
 pub fn form_of(word: &[u8]) -> Option<&'static [u8]> {
     match word {
