@@ -1,8 +1,7 @@
 //! The clauses of a text, one behind another, with their places.
-use crate::spans::{Span, line_ends, part, rest};
-use crate::tokens::{Kind, behind_layout, next_token};
 use std::alloc::Global;
 use tc_lists::NoMemory;
+use tc_places::{Span, behind_layout, line_ends, part, rest};
 use tc_read::next_clause;
 use tc_term::{Pattern, Term};
 
@@ -94,33 +93,6 @@ fn clause_at(alloc: Global, text: &[u8]) -> Result<Option<(Pattern, usize)>, NoM
         Err(Some(_)) => Ok(None),
         Err(None) => Err(NoMemory),
     }
-}
-
-/// Where the clause ends that begins at a place: behind its full stop, or else behind its last token.
-pub fn clause_end(text: &[u8], from: usize) -> usize {
-    let mut at = from;
-    for _ in from..text.len() {
-        let Some(token) = next_token(text, at) else {
-            break;
-        };
-        at = token.span.to;
-        if token.kind == Kind::End || token.kind == Kind::Other {
-            break;
-        }
-    }
-    at
-}
-
-/// Where the last token ends before the full stop of a clause.
-pub fn last_end(text: &[u8], whole: Span) -> usize {
-    let mut at = whole.from;
-    for _ in whole.from..whole.to {
-        match next_token(text, at) {
-            Some(token) if token.span.to < whole.to => at = token.span.to,
-            _ => break,
-        }
-    }
-    at
 }
 
 /// Name and arguments of a term; of a number and of a variable none.

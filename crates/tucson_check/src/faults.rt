@@ -1,17 +1,16 @@
 //! The fault of a text: its clause, its place, and what would be right.
-use crate::advice::{Finding, found, found_nowhere};
-use crate::clauses::{Walk, clause_end, last_end};
-use crate::near::Sort;
-use crate::parts::{argument, first_of, first_variable};
+use crate::clauses::Walk;
 use crate::reactions::reaction_advice;
 use crate::shapes::shape_advice;
-use crate::spans::{Span, line_ends, part, rest};
-use crate::stuck::stuck_advice;
-use crate::syntax::{Why, clause_stop};
+use crate::sorts::Sort;
 use crate::unknown::{twice_advice, unknown_advice};
 use std::alloc::Global;
 use tc_config::{ConfigCause, ConfigFault, read_config};
 use tc_lists::NoMemory;
+use tc_places::{
+    Finding, Span, Why, argument, clause_end, clause_stop, first_of, first_variable, found,
+    found_nowhere, last_end, line_ends, part, rest, stuck_advice,
+};
 use tc_read::{ReadFault, read_clause};
 use tc_term::Term;
 

@@ -1,12 +1,10 @@
 //! What would be right in a script.
-use crate::advice::{Finding, found};
 use crate::clauses::parts_of;
-use crate::parts::{arguments, find, first_of, inside, split};
 use crate::shapes::{name_advice, primitive_advice};
-use crate::spans::Span;
 use std::alloc::Global;
 use tc_lists::NoMemory;
 use tc_model::{line_of, primitive_of};
+use tc_places::{Finding, Span, arguments, find, first_of, found, inside, part, split};
 use tc_read::{ReadFault, read_term};
 use tc_term::{Pattern, Term};
 
@@ -18,7 +16,12 @@ pub fn items_advice(
     list: &Term,
 ) -> Result<Finding, NoMemory> {
     if list.as_cell().is_none() {
-        return found(alloc, span, b"a script is a list: [CENTRE ? OPERATION, ..]", &[]);
+        return found(
+            alloc,
+            span,
+            b"a script is a list: [CENTRE ? OPERATION, ..]",
+            &[],
+        );
     }
     let inner = inside(text, span).unwrap_or(span);
     for item in split(alloc, text, inner)? {
@@ -26,7 +29,12 @@ pub fn items_advice(
             return Ok(finding);
         }
     }
-    found(alloc, span, b"a script is a list: [CENTRE ? OPERATION, ..]", &[])
+    found(
+        alloc,
+        span,
+        b"a script is a list: [CENTRE ? OPERATION, ..]",
+        &[],
+    )
 }
 
 // What would be right in an item, where it is none.
@@ -52,7 +60,7 @@ fn item_advice(alloc: Global, text: &[u8], item: Span) -> Result<Option<Finding>
 
 /// The term that a span spells, if it does.
 pub fn term_at(alloc: Global, text: &[u8], span: Span) -> Result<Option<Pattern>, NoMemory> {
-    match read_term(alloc, crate::spans::part(text, span)) {
+    match read_term(alloc, part(text, span)) {
         Ok(term) => Ok(Some(term)),
         Err(ReadFault::NoMemory) => Err(NoMemory),
         Err(_) => Ok(None),
@@ -80,7 +88,12 @@ fn ask_advice(
     let mark = first_of(text, behind);
     let (name, args) = parts_of(op);
     if name.is_empty() {
-        return found(alloc, mark, b"an operation is no number and no variable: out(T), in(T) ..", &[]);
+        return found(
+            alloc,
+            mark,
+            b"an operation is no number and no variable: out(T), in(T) ..",
+            &[],
+        );
     }
     if primitive_of(name).is_none() {
         return primitive_advice(alloc, text, mark);
@@ -92,16 +105,14 @@ fn ask_advice(
         };
         return second_advice(alloc, text, whole, name);
     }
-    found(alloc, mark, b"get_spec has no argument, and each other operation has one: ~", &[name])
+    if args.is_empty() {
+        return found(alloc, mark, b"~ has an argument: @(T)", &[name, name]);
+    }
+    found(alloc, mark, b"~ has no argument", &[name])
 }
 
 // An operation has two arguments or more.
-fn second_advice(
-    alloc: Global,
-    text: &[u8],
-    span: Span,
-    name: &[u8],
-) -> Result<Finding, NoMemory> {
+fn second_advice(alloc: Global, text: &[u8], span: Span, name: &[u8]) -> Result<Finding, NoMemory> {
     let args = arguments(alloc, text, span)?;
     let mark = args.get(1).copied().unwrap_or(span);
     found(

@@ -4,25 +4,16 @@
 //! rest finds the place, and says what would be right.
 #![tactic(auto)]
 
-mod advice;
-mod bytes;
 mod clauses;
-mod excerpt;
 mod faults;
 mod items;
-mod near;
-mod parts;
 mod phases;
 mod reactions;
 mod report;
 mod shapes;
-mod spans;
-mod stuck;
-mod syntax;
-mod tokens;
+mod sorts;
 mod unknown;
 mod warnings;
-mod words;
 
 use faults::fault_of;
 use report::{append_fault, append_summary};
@@ -34,9 +25,13 @@ use tc_lists::NoMemory;
 use warnings::append_warnings;
 
 const GOOD: u8 = 0;
+
 const WRITE_FAULT: u8 = 1;
+
 const REFUSED: u8 = 2;
+
 const READ_FAULT: u8 = 5;
+
 const NO_MEMORY: u8 = 6;
 
 fn main(rt: HostRuntime) -> ExitCode {
@@ -44,9 +39,7 @@ fn main(rt: HostRuntime) -> ExitCode {
     let mut said = Vec::new(alloc);
     let status = match read_all(alloc, &mut StdSource::new(rt.stdin()), MOST_BYTES) {
         Ok(text) => check(alloc, &text, &mut said),
-        Err(InputFault::TooLong) => {
-            refuse(alloc, b"", 0, ConfigCause::Length, &mut said)
-        }
+        Err(InputFault::TooLong) => { refuse(alloc, b"", 0, ConfigCause::Length, &mut said) }
         Err(InputFault::Failed) => Ok(READ_FAULT),
         Err(InputFault::NoMemory) => Err(NoMemory),
     };

@@ -15,7 +15,9 @@ pub enum Idle {
 }
 
 const REQUEST: (Phase, Sign) = (Phase::Pre, Sign::Neither);
+
 const SUCCESS: (Phase, Sign) = (Phase::Post, Sign::Success);
+
 const FAILURE: (Phase, Sign) = (Phase::Post, Sign::Failure);
 
 // The events of an operation.

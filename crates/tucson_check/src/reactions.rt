@@ -1,14 +1,13 @@
 //! What would be right in a reaction.
-use crate::advice::{Finding, found};
 use crate::clauses::parts_of;
-use crate::near::nearest;
-use crate::parts::{arguments, first_of, leaves};
-use crate::spans::{Span, part};
-use crate::words::{EVENTS, GOALS, GUARDED_GOALS, TESTS, most_arguments};
 use crate::items::term_at;
 use std::alloc::Global;
 use tc_lists::NoMemory;
 use tc_model::{MOST_GOALS, MOST_TESTS, SpecCause, event_op_of};
+use tc_places::{
+    EVENTS, Finding, GOALS, GUARDED_GOALS, Span, TESTS, arguments, first_of, found, leaves,
+    most_arguments, nearest, part,
+};
 use tc_spec::{SpecFault, read_spec};
 use tc_term::{Name, Term};
 
@@ -21,8 +20,7 @@ pub fn reaction_advice(alloc: Global, text: &[u8], span: Span) -> Result<Finding
         (Some(SpecCause::Goal), [_, _, body]) => body_advice(alloc, text, *body, true),
         (Some(SpecCause::Count), [.., body]) => count_advice(alloc, text, *body),
         (Some(SpecCause::Shape), [_, guard, _])
-            if part(text, first_of(text, span)) == b"reaction".as_slice() =>
-        {
+            if part(text, first_of(text, span)) == b"reaction".as_slice() => {
             guard_advice(alloc, text, *guard)
         }
         (Some(SpecCause::Size), _) => found(
@@ -64,7 +62,12 @@ fn head_advice(alloc: Global, text: &[u8], head: Span) -> Result<Finding, NoMemo
         return found(alloc, head, b"an event has one argument: ~", &[name]);
     }
     if let Some(near) = nearest(name, &EVENTS) {
-        return found(alloc, mark, b"there is no event ~; did you mean ~?", &[name, near]);
+        return found(
+            alloc,
+            mark,
+            b"there is no event ~; did you mean ~?",
+            &[name, near],
+        );
     }
     found(
         alloc,
@@ -93,7 +96,12 @@ fn guard_advice(alloc: Global, text: &[u8], guard: Span) -> Result<Finding, NoMe
         }
         return test_advice(alloc, *test, name);
     }
-    found(alloc, guard, b"a guard is request, response, success, failure or true", &[])
+    found(
+        alloc,
+        guard,
+        b"a guard is request, response, success, failure or true",
+        &[],
+    )
 }
 
 // A test is none.
@@ -104,7 +112,12 @@ fn test_advice(alloc: Global, mark: Span, name: &[u8]) -> Result<Finding, NoMemo
         _ => nearest(name, &TESTS),
     };
     if let Some(near) = near {
-        return found(alloc, mark, b"~ is no test of a guard; did you mean ~?", &[name, near]);
+        return found(
+            alloc,
+            mark,
+            b"~ is no test of a guard; did you mean ~?",
+            &[name, near],
+        );
     }
     found(
         alloc,
@@ -118,16 +131,16 @@ fn test_advice(alloc: Global, mark: Span, name: &[u8]) -> Result<Finding, NoMemo
 fn count_advice(alloc: Global, text: &[u8], body: Span) -> Result<Finding, NoMemory> {
     let goals = leaves(alloc, text, body)?;
     let mark = goals.get(MOST_GOALS).copied().unwrap_or(body);
-    found(alloc, mark, b"a body has at most 64 goals, and this is one more", &[])
+    found(
+        alloc,
+        mark,
+        b"a body has at most 64 goals, and this is one more",
+        &[],
+    )
 }
 
 // The first goal of a body that is none.
-fn body_advice(
-    alloc: Global,
-    text: &[u8],
-    body: Span,
-    guarded: bool,
-) -> Result<Finding, NoMemory> {
+fn body_advice(alloc: Global, text: &[u8], body: Span, guarded: bool) -> Result<Finding, NoMemory> {
     let before: &[u8] = if guarded {
         b"reaction(out(a),true,"
     } else {
@@ -142,12 +155,7 @@ fn body_advice(
 }
 
 // A goal is none.
-fn goal_advice(
-    alloc: Global,
-    text: &[u8],
-    goal: Span,
-    guarded: bool,
-) -> Result<Finding, NoMemory> {
+fn goal_advice(alloc: Global, text: &[u8], goal: Span, guarded: bool) -> Result<Finding, NoMemory> {
     let mark = first_of(text, goal);
     let Some(term) = term_at(alloc, text, goal)? else {
         return found(alloc, goal, b"it is no goal", &[]);
@@ -175,10 +183,20 @@ fn goal_advice(
         );
     }
     if is_word {
-        return found(alloc, goal, b"the goal ~ has another number of arguments", &[name]);
+        return found(
+            alloc,
+            goal,
+            b"the goal ~ has another number of arguments",
+            &[name],
+        );
     }
     if let Some(near) = nearest(name, words) {
-        return found(alloc, mark, b"there is no goal ~; did you mean ~?", &[name, near]);
+        return found(
+            alloc,
+            mark,
+            b"there is no goal ~; did you mean ~?",
+            &[name, near],
+        );
     }
     found(
         alloc,

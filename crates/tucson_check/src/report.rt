@@ -1,9 +1,9 @@
 //! What is written of a faulty text, and of one without a fault.
-use crate::excerpt::append_excerpt;
 use crate::faults::Fault;
 use std::alloc::Global;
 use tc_config::{Config, ConfigCause};
 use tc_lists::{NoMemory, append_number};
+use tc_places::append_excerpt;
 
 /// Appends what a person is to know of a fault.
 pub fn append_fault(
@@ -12,7 +12,12 @@ pub fn append_fault(
     fault: &Fault,
     into: &mut Vec<u8>,
 ) -> Result<(), NoMemory> {
-    append_clause(fault.clause as usize, fault.first_line, fault.last_line, into)?;
+    append_clause(
+        fault.clause as usize,
+        fault.first_line,
+        fault.last_line,
+        into,
+    )?;
     into.extend_from_slice(words_of(fault.cause))?;
     into.push(b'\n')?;
     if let Some(mark) = fault.finding.mark {

@@ -1,14 +1,13 @@
 //! What would be right where a clause has no form of a clause.
-use crate::advice::{Finding, found};
 use crate::clauses::{atom, parts_of};
 use crate::items::items_advice;
-use crate::near::nearest;
-use crate::parts::{arguments, find, first_of};
-use crate::spans::{Span, part};
-use crate::words::{CLAUSE_WORDS, PRIMITIVES, form_of};
 use std::alloc::Global;
 use tc_lists::NoMemory;
 use tc_model::primitive_of;
+use tc_places::{
+    CLAUSE_WORDS, Finding, PRIMITIVES, Span, arguments, find, first_of, form_of, found, nearest,
+    part,
+};
 use tc_term::Term;
 
 /// What would be right in a clause that is this term.
@@ -97,7 +96,12 @@ fn names_advice(
 pub fn primitive_advice(alloc: Global, text: &[u8], mark: Span) -> Result<Finding, NoMemory> {
     let name = part(text, mark);
     if let Some(near) = nearest(name, &PRIMITIVES) {
-        return found(alloc, mark, b"there is no operation ~; did you mean ~?", &[name, near]);
+        return found(
+            alloc,
+            mark,
+            b"there is no operation ~; did you mean ~?",
+            &[name, near],
+        );
     }
     found(
         alloc,
@@ -123,7 +127,12 @@ pub fn name_advice(
               or stands in quotes",
             &[own],
         ),
-        Term::Int(_) => found(alloc, span, b"~ is a number; a name begins with a small letter", &[own]),
+        Term::Int(_) => found(
+            alloc,
+            span,
+            b"~ is a number; a name begins with a small letter",
+            &[own],
+        ),
         Term::Comp(..) | Term::Atom(_) => found(
             alloc,
             span,

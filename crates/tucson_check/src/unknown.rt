@@ -1,12 +1,12 @@
 //! What would be right where a name isn't declared, or is declared twice.
-use crate::advice::{Finding, found, sentence};
 use crate::clauses::{Walk, atom, parts_of};
-use crate::near::{Sort, declared, nearest};
-use crate::parts::{arguments, first_of, inside, split};
-use crate::spans::{Span, part};
+use crate::sorts::{Sort, declared};
 use std::alloc::Global;
 use tc_config::Config;
 use tc_lists::{NoMemory, append_number};
+use tc_places::{
+    Finding, Span, arguments, first_of, found, inside, nearest, part, sentence, split,
+};
 use tc_term::Term;
 
 /// How many of the names that are declared are named.
@@ -24,7 +24,12 @@ pub fn unknown_advice(
 ) -> Result<Finding, NoMemory> {
     let names = declared(alloc, config, sort)?;
     let Some((mark, name)) = unknown_name(alloc, text, span, term, sort, &names)? else {
-        return found(alloc, first_of(text, span), b"a name isn't declared before", &[]);
+        return found(
+            alloc,
+            first_of(text, span),
+            b"a name isn't declared before",
+            &[],
+        );
     };
     if let Some(near) = nearest(name, &names) {
         let place = declaring(alloc, text, sort, near)?.unwrap_or(Vec::new(alloc));
@@ -180,10 +185,7 @@ pub fn twice_advice(
     let is_grant = word == b"grant".as_slice();
     let mark = match arguments(alloc, text, span)?.first() {
         Some(first) if !is_grant => *first,
-        _ => Span {
-            from: span.from,
-            to: span.to.saturating_sub(1),
-        },
+        _ => span,
     };
     let count = if is_grant { 3 } else { 1 };
     let mut walk = Walk::new(text);

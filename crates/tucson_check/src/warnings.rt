@@ -1,17 +1,15 @@
 //! Warnings: what is no fault, and is hardly meant.
-use crate::advice::sentence;
-use crate::clauses::{Clause, Walk, atom, last_end, parts_of};
-use crate::parts::{arguments, inside, split};
+use crate::clauses::{Clause, Walk, atom, parts_of};
 use crate::phases::{Idle, why_idle};
 use crate::report::append_clause;
-use crate::spans::{Span, line_ends, part};
 use indexmap::IndexSet;
 use std::alloc::Global;
 use tc_config::{AgentConf, CentreConf, Config};
 use tc_lists::NoMemory;
 use tc_model::primitive_of;
+use tc_places::{Span, arguments, inside, last_end, line_ends, part, sentence, split};
 use tc_policy::Grant;
-use tc_term::{Name, Term};
+use tc_term::{MOST_NODES, Name, Term};
 
 // What is kept while warnings are looked for.
 #[derive(Drop)]
@@ -98,7 +96,11 @@ impl<'a> Watch<'a> {
         if !self.has_scripts || has_script(agent) {
             return Ok(());
         }
-        let words = sentence(self.alloc, b"the agent ~ has no script", &[agent.name.bytes()])?;
+        let words = sentence(
+            self.alloc,
+            b"the agent ~ has no script",
+            &[agent.name.bytes()],
+        )?;
         append_warning(clause, clause.first_line, &words, into)
     }
 
@@ -158,7 +160,7 @@ impl<'a> Watch<'a> {
     fn denied(&mut self, role: u32, list: &Term) -> Result<Vec<Denied>, NoMemory> {
         let mut denied = Vec::new(self.alloc);
         let mut left = list;
-        for place in 0..tc_term::MOST_NODES {
+        for place in 0..MOST_NODES {
             let Some((item, tail)) = left.as_cell() else {
                 break;
             };
@@ -274,7 +276,11 @@ fn denied_words(alloc: Global, config: &Config, grant: Grant) -> Result<Vec<u8>,
 // Says why a reaction to an operation does nothing.
 fn idle_words(alloc: Global, why: Idle, op: &[u8]) -> Result<Vec<u8>, NoMemory> {
     match why {
-        Idle::Head => sentence(alloc, b"~ is no event, so nothing triggers this reaction", &[op]),
+        Idle::Head => sentence(
+            alloc,
+            b"no event is ~, so nothing triggers this reaction",
+            &[op],
+        ),
         Idle::Guard => sentence(alloc, b"the guard holds of no event ~", &[op]),
         Idle::Goal(goal) => sentence(
             alloc,

@@ -6,6 +6,7 @@ use tc_lists::NoMemory;
 
 /// How much of a line is shown before a mark, and behind its beginning.
 const BEFORE: usize = 70;
+
 const BEHIND: usize = 50;
 
 /// How many lines of a clause are shown before the marked one.

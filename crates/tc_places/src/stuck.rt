@@ -38,8 +38,18 @@ pub fn stuck_advice(
             b"`|` stands in a list alone, before its tail, as in [A|T]",
             &[],
         ),
-        Why::Deep => found(alloc, at.here.span, b"at most 200 brackets may be open", &[]),
-        Why::Fine => found(alloc, first_of(text, Span::at(from)), b"it is no clause", &[]),
+        Why::Deep => found(
+            alloc,
+            at.here.span,
+            b"at most 200 brackets may be open",
+            &[],
+        ),
+        Why::Fine => found(
+            alloc,
+            first_of(text, Span::at(from)),
+            b"it is no clause",
+            &[],
+        ),
     }
 }
 
@@ -63,7 +73,12 @@ fn end_advice(alloc: Global, text: &[u8], at: &Stuck) -> Result<Finding, NoMemor
         );
     }
     if is_comma && at.why == Why::ClauseEnd {
-        return found(alloc, at.before.span, b"a term is missing behind the comma", &[]);
+        return found(
+            alloc,
+            at.before.span,
+            b"a term is missing behind the comma",
+            &[],
+        );
     }
     if is_comma {
         return found(
@@ -73,16 +88,16 @@ fn end_advice(alloc: Global, text: &[u8], at: &Stuck) -> Result<Finding, NoMemor
             &[],
         );
     }
-    found(alloc, behind(at), b"a full stop ends a clause: it is missing here", &[])
+    found(
+        alloc,
+        behind(at),
+        b"a full stop ends a clause: it is missing here",
+        &[],
+    )
 }
 
 // A bracket is open where the clause ends, or seems to end.
-fn open_advice(
-    alloc: Global,
-    text: &[u8],
-    open: Span,
-    at: &Stuck,
-) -> Result<Finding, NoMemory> {
+fn open_advice(alloc: Global, text: &[u8], open: Span, at: &Stuck) -> Result<Finding, NoMemory> {
     if let Some(odd) = at.odd {
         return odd_advice(alloc, text, odd);
     }
@@ -101,7 +116,12 @@ fn open_advice(
             &names,
         );
     }
-    found(alloc, mark, b"a bracket is still open here: the ~ of @", &names)
+    found(
+        alloc,
+        mark,
+        b"a bracket is still open here: the ~ of @",
+        &names,
+    )
 }
 
 // Somewhere the brackets can't be as they are meant.
@@ -135,7 +155,12 @@ fn closing_advice(alloc: Global, text: &[u8], at: &Stuck) -> Result<Finding, NoM
     }
     let closing = part(text, at.here.span);
     let Some(open) = at.open else {
-        return found(alloc, at.here.span, b"no bracket is open that ~ closes", &[closing]);
+        return found(
+            alloc,
+            at.here.span,
+            b"no bracket is open that ~ closes",
+            &[closing],
+        );
     };
     let place = place_words(alloc, text, open.from)?;
     found(
@@ -173,7 +198,11 @@ fn two_terms_advice(
             &[],
         );
     }
-    let mark = if is_next_line(text, at) { behind(at) } else { at.here.span };
+    let mark = if is_next_line(text, at) {
+        behind(at)
+    } else {
+        at.here.span
+    };
     if at.count == 0 && is_clause_word(here) {
         return found(
             alloc,
@@ -219,7 +248,14 @@ fn no_term_advice(
         return comment_advice(alloc, text, mark);
     }
     if at.here.kind == Kind::End {
-        return end_advice(alloc, text, &Stuck { why: Why::ClauseEnd, ..*at });
+        return end_advice(
+            alloc,
+            text,
+            &Stuck {
+                why: Why::ClauseEnd,
+                ..*at
+            },
+        );
     }
     if at.here.span.from <= from {
         return found(alloc, at.here.span, b"no clause begins with ~", &[here]);

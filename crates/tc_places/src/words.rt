@@ -7,7 +7,15 @@ pub const CLAUSE_WORDS: [&[u8]; 7] = [
 
 /// What an agent may do at a centre.
 pub const PRIMITIVES: [&[u8]; 9] = [
-    b"out", b"in", b"rd", b"inp", b"rdp", b"no", b"nop", b"set_spec", b"get_spec",
+    b"out",
+    b"in",
+    b"rd",
+    b"inp",
+    b"rdp",
+    b"no",
+    b"nop",
+    b"set_spec",
+    b"get_spec",
 ];
 
 /// What a reaction may react to.
@@ -17,14 +25,36 @@ pub const EVENTS: [&[u8]; 10] = [
 
 /// The goals of a body without a guard.
 pub const GOALS: [&[u8]; 13] = [
-    b"out_r", b"in_r", b"rd_r", b"no_r", b"pre", b"post", b"success", b"failure", b"true",
-    b"current_agent", b"current_tc", b"current_op", b"current_tuple",
+    b"out_r",
+    b"in_r",
+    b"rd_r",
+    b"no_r",
+    b"pre",
+    b"post",
+    b"success",
+    b"failure",
+    b"true",
+    b"current_agent",
+    b"current_tc",
+    b"current_op",
+    b"current_tuple",
 ];
 
 /// The goals of a body behind a guard.
 pub const GUARDED_GOALS: [&[u8]; 13] = [
-    b"out", b"in", b"rd", b"no", b"pre", b"post", b"success", b"failure", b"true",
-    b"current_agent", b"current_tc", b"current_op", b"current_tuple",
+    b"out",
+    b"in",
+    b"rd",
+    b"no",
+    b"pre",
+    b"post",
+    b"success",
+    b"failure",
+    b"true",
+    b"current_agent",
+    b"current_tc",
+    b"current_op",
+    b"current_tuple",
 ];
 
 /// The tests of a guard.

@@ -70,4 +70,3 @@ fn quote_advice(alloc: Global, mark: Span, inside: &[u8]) -> Result<Finding, NoM
         &[],
     )
 }
-

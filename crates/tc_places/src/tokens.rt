@@ -49,6 +49,33 @@ pub fn next_token(text: &[u8], from: usize) -> Option<Token> {
     }
 }
 
+/// Where the clause ends that begins at a place: behind its full stop, or else behind its last token.
+pub fn clause_end(text: &[u8], from: usize) -> usize {
+    let mut at = from;
+    for _ in from..text.len() {
+        let Some(token) = next_token(text, at) else {
+            break;
+        };
+        at = token.span.to;
+        if token.kind == Kind::End || token.kind == Kind::Other {
+            break;
+        }
+    }
+    at
+}
+
+/// Where the last token ends before the full stop of a clause.
+pub fn last_end(text: &[u8], whole: Span) -> usize {
+    let mut at = whole.from;
+    for _ in whole.from..whole.to {
+        match next_token(text, at) {
+            Some(token) if token.span.to < whole.to => at = token.span.to,
+            _ => break,
+        }
+    }
+    at
+}
+
 /// The place behind the layout that stands at a place.
 pub fn behind_layout(text: &[u8], from: usize) -> usize {
     let mut at = from;
@@ -96,7 +123,10 @@ fn kind_of(first: u8, after: &[u8]) -> (Kind, usize) {
         return (Kind::Variable, word_length(after));
     }
     if first.is_ascii_digit() {
-        let digits = after.iter().take_while(|byte| byte.is_ascii_digit()).count();
+        let digits = after
+            .iter()
+            .take_while(|byte| byte.is_ascii_digit())
+            .count();
         return (Kind::Number, digits.saturating_add(1));
     }
     match first {

@@ -45,7 +45,11 @@ pub fn line_number(text: &[u8], place: usize) -> usize {
 /// Where the line of a place begins.
 pub fn line_start(text: &[u8], place: usize) -> usize {
     let before = front(text, place);
-    let length = before.iter().rev().take_while(|byte| **byte != b'\n').count();
+    let length = before
+        .iter()
+        .rev()
+        .take_while(|byte| **byte != b'\n')
+        .count();
     before.len().saturating_sub(length)
 }
 

@@ -191,7 +191,11 @@ impl<'a> Walker<'a> {
             to: token.span.from,
         };
         let layout = part(self.text, layout);
-        let indent = layout.iter().rev().take_while(|byte| **byte != b'\n').count();
+        let indent = layout
+            .iter()
+            .rev()
+            .take_while(|byte| **byte != b'\n')
+            .count();
         indent < layout.len()
             && indent <= self.indent
             && is_clause_word(part(self.text, token.span))
