@@ -174,7 +174,8 @@ fn ground_advice(alloc: Global, text: &[u8], span: Span) -> Result<Finding, NoMe
     found(
         alloc,
         mark,
-        b"~ is a variable, and a tuple has none; an atom begins with a small letter, or stands in quotes",
+        b"~ is a variable, and a tuple has none; an atom begins with a small letter, or stands in \
+          quotes",
         &[part(text, mark)],
     )
 }

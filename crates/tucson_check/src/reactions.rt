@@ -122,7 +122,8 @@ fn test_advice(alloc: Global, mark: Span, name: &[u8]) -> Result<Finding, NoMemo
     found(
         alloc,
         mark,
-        b"~ is no test of a guard; there are request, response, success and failure, and true alone",
+        b"~ is no test of a guard; there are request, response, success and failure, and true \
+          alone",
         &[name],
     )
 }

@@ -123,8 +123,8 @@ pub fn name_advice(
         Term::Var(_) => found(
             alloc,
             span,
-            b"~ begins with a capital or `_`, so it is a variable; a name begins with a small letter, \
-              or stands in quotes",
+            b"~ begins with a capital or `_`, so it is a variable; a name begins with a small \
+              letter, or stands in quotes",
             &[own],
         ),
         Term::Int(_) => found(

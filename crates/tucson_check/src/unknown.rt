@@ -12,8 +12,8 @@ use tc_term::Term;
 /// How many of the names that are declared are named.
 const MOST_NAMED: usize = 3;
 
-/// What would be right in a clause that uses a name of this sort which the clauses before, `config`,
-/// don't declare.
+/// What would be right in a clause that uses a name of this sort that the clauses before it don't
+/// declare; `config` is what these set up.
 pub fn unknown_advice(
     alloc: Global,
     text: &[u8],
