@@ -1,7 +1,4 @@
-//! Where a text stops being a clause.
-//!
-//! The tokens are gone through with the brackets that stand open, as the grammar of clauses has it,
-//! up to the first that can't follow.
+//! Where a text stops being a clause: at its first token that can't follow.
 use crate::spans::{Span, line_start, part, rest};
 use crate::tokens::{Kind, Token, next_token};
 use crate::words::{TESTS, begins_with_name, is_clause_word, most_arguments};
@@ -72,8 +69,7 @@ enum Bracket {
     Tail,
 }
 
-// A bracket that stands open: where, behind which name, how many arguments that may have, how many
-// commas there are, and how loose the operators behind the last one are.
+// A bracket that stands open, behind a name that may have so many arguments, with its commas.
 #[derive(Clone, Copy)]
 struct Frame {
     bracket: Bracket,
