@@ -1,6 +1,7 @@
 //! The parts of a term by their places in the text.
 use crate::spans::{Span, part};
 use crate::tokens::{Kind, Token, next_token};
+use crate::words::TESTS;
 use std::alloc::Global;
 use tc_lists::NoMemory;
 
@@ -174,4 +175,19 @@ pub fn first_variable(text: &[u8], span: Span) -> Option<Span> {
         at = token.span.to;
     }
     None
+}
+
+/// Whether a guard may stand at a place: its first word is a test's, in brackets or not.
+pub fn begins_guard(text: &[u8], from: usize) -> bool {
+    let mut at = from;
+    for _ in 0..4 {
+        let Some(token) = next_token(text, at) else {
+            return false;
+        };
+        if token.kind != Kind::Open {
+            return TESTS.iter().any(|word| *word == part(text, token.span));
+        }
+        at = token.span.to;
+    }
+    false
 }

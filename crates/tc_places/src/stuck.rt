@@ -163,9 +163,14 @@ fn closing_advice(alloc: Global, text: &[u8], at: &Stuck) -> Result<Finding, NoM
         );
     };
     let place = place_words(alloc, text, open.from)?;
+    let mark = if is_next_line(text, at) {
+        behind(at)
+    } else {
+        at.here.span
+    };
     found(
         alloc,
-        at.here.span,
+        mark,
         b"~ doesn't close the ~ of @",
         &[closing, part(text, open), place.as_slice()],
     )
@@ -190,7 +195,7 @@ fn two_terms_advice(
             &[before],
         );
     }
-    if at.here.kind == Kind::Open && at.before.kind == Kind::Name {
+    if at.here.kind == Kind::Open && at.before.kind == Kind::Name && !is_next_line(text, at) {
         return found(
             alloc,
             at.here.span,

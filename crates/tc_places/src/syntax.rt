@@ -1,10 +1,8 @@
-//! Where a text stops being a clause.
-//!
-//! The tokens are gone through with the brackets that stand open, as the grammar of clauses has it,
-//! up to the first that can't follow.
+//! Where a text stops being a clause: at its first token that can't follow.
+use crate::parts::begins_guard;
 use crate::spans::{Span, line_start, part, rest};
 use crate::tokens::{Kind, Token, next_token};
-use crate::words::{TESTS, begins_with_name, is_clause_word, most_arguments};
+use crate::words::{begins_with_name, is_clause_word, most_arguments};
 use std::alloc::Global;
 use tc_lists::NoMemory;
 use tc_term::MOST_BRACKETS;
@@ -72,8 +70,7 @@ enum Bracket {
     Tail,
 }
 
-// A bracket that stands open: where, behind which name, how many arguments that may have, how many
-// commas there are, and how loose the operators behind the last one are.
+// A bracket that stands open, behind a name that may have so many arguments, with its commas.
 #[derive(Clone, Copy)]
 struct Frame {
     bracket: Bracket,
@@ -213,7 +210,7 @@ impl<'a> Walker<'a> {
             Kind::Name | Kind::Quoted => self.named(token),
             Kind::Symbol => return Ok(self.signed(token)),
             Kind::Open => return self.open(token),
-            Kind::OpenList => return self.push(Bracket::List, token),
+            Kind::OpenList => return self.open_list(token),
             Kind::CloseList if self.before.kind == Kind::OpenList => {
                 self.frames.pop();
                 self.holds = true;
@@ -250,19 +247,37 @@ impl<'a> Walker<'a> {
         if self.name.is_some() {
             return self.push(Bracket::Call, token);
         }
-        if let Some(frame) = self.frames.last() {
-            let is_first = frame.bracket == Bracket::Call && frame.commas == 0;
-            if is_first && begins_with_name(part(self.text, frame.name)) {
-                self.note(Odd::Doubled(token.span));
-            }
+        if self.is_doubled() {
+            self.note(Odd::Doubled(token.span));
         }
         self.push(Bracket::Group, token)
     }
 
-    // Notes what is odd, where nothing was before.
+    // A square bracket opens.
+    fn open_list(&mut self, token: Token) -> Result<Why, NoMemory> {
+        if self.before.kind == Kind::OpenList {
+            self.note(Odd::Doubled(token.span));
+        }
+        self.push(Bracket::List, token)
+    }
+
+    // Whether a bracket here stands before a first argument that has none, or in such a bracket.
+    fn is_doubled(&self) -> bool {
+        match self.frames.last() {
+            Some(frame) if frame.bracket == Bracket::Call => {
+                frame.commas == 0 && begins_with_name(part(self.text, frame.name))
+            }
+            Some(_) => matches!(self.before.kind, Kind::Open | Kind::OpenList),
+            None => false,
+        }
+    }
+
+    // Notes what is odd. The first counts; but a doubled bracket, which may be meant, least.
     fn note(&mut self, odd: Odd) {
-        if self.odd.is_none() {
-            self.odd = Some(odd);
+        match self.odd {
+            None => self.odd = Some(odd),
+            Some(Odd::Doubled(_)) if !matches!(odd, Odd::Doubled(_)) => self.odd = Some(odd),
+            _ => {}
         }
     }
 
@@ -345,7 +360,8 @@ impl<'a> Walker<'a> {
         }
         frame.commas = frame.commas.saturating_add(1);
         let name = frame.name;
-        if frame.commas == 1 && is_reaction(text, name) && !begins_guard(text, token.span.to) {
+        let is_reaction = part(text, name) == b"reaction".as_slice();
+        if is_reaction && frame.commas == 1 && !begins_guard(text, token.span.to) {
             frame.most = 2;
         }
         if frame.bracket == Bracket::Call && frame.commas >= frame.most {
@@ -373,26 +389,6 @@ impl<'a> Walker<'a> {
             _ => Why::Closing,
         }
     }
-}
-
-// Whether a guard may stand at a place: its first word is a test's, in brackets or not.
-fn begins_guard(text: &[u8], from: usize) -> bool {
-    let mut at = from;
-    for _ in 0..4 {
-        let Some(token) = next_token(text, at) else {
-            return false;
-        };
-        if token.kind != Kind::Open {
-            return TESTS.iter().any(|word| *word == part(text, token.span));
-        }
-        at = token.span.to;
-    }
-    false
-}
-
-// Whether the name is that of a reaction.
-fn is_reaction(text: &[u8], name: Span) -> bool {
-    part(text, name) == b"reaction".as_slice()
 }
 
 fn is_round_bracket(bracket: Bracket) -> bool {
