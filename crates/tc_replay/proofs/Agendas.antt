@@ -39,11 +39,6 @@ module _ {X : Type 0} where
       ∙ (append_assoc fs (take k bs) (drop (k + 1) bs ++ cs)
       ∙ ap (λ xs. fs ++ xs) (sym (append_assoc (take k bs) (drop (k + 1) bs) cs)))
 
-  -- there is nothing at a place behind the last
-  without-past : (xs : List X) (k : ℕ) → length xs ≤ k → without k xs ≡ xs
-  without-past xs k past =
-      ap₂ (λ ys zs. ys ++ zs) (take_all k xs past) (drop_all (k + 1) xs (omega (arith, past))) ∙ append-nil xs
-
 -- the members of the batches round one
 around : (bs : List Batch) (at : ℕ) (b : Batch) → at < length bs → b ≡ get_or bs at b
     → members_in bs ≡ members_in (take at bs) ++ (members_of b ++ members_in (drop (at + 1) bs))
