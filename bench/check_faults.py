@@ -1,12 +1,13 @@
 #!/usr/bin/env python3
-"""bench/check_faults.py [--show] [PROGRAM ..]
+"""bench/check_faults.py [--show] [--seed N] [PROGRAM ..]
 
-Makes 130 typing errors in the examples, one at a time, runs `./tucson check` (or PROGRAM) on each, and says which of
-them are shown at their line. --show prints what was typed and what is said of it, so that each can be looked at.
+Makes 130 typing errors in the examples, as they stand or with their long clauses on several lines, one at a time, runs
+`./tucson check` (or PROGRAM) on each, and says which of them are shown at their line. --show prints what is said of
+each, so that it can be looked at.
 
-Which errors are made is drawn from a number, so each run makes the same ones. An error's line is that on which it was
-typed; of a grant that was left out it is that of the first item of a script that wants it. The status is 0 where all
-are shown at their line.
+Which errors are made is drawn from a number, so each run with that number makes the same ones. An error's line is that
+on which it was typed; of a grant that was left out it is that of the first item of a script that wants it. A name that
+is misspelt where it is declared counts as shown where the advice names that line. The status is 0 where all are shown.
 """
 import pathlib
 import random
@@ -26,15 +27,15 @@ def spread(text):
     """The text with its longer clauses on several lines, as people write them."""
     lines = []
     for line in text.splitlines():
+        is_long = len(line) > 60 and line.startswith(("spec", "script"))
         made, depth = "", 0
         for match in TOKEN.finditer(line):
-            token, end = match.group(), match.end()
-            depth += token in "([" and len(token) == 1
-            depth -= token in ")]" and len(token) == 1
-            behind = line[end:end + 1] if end < len(line) else ""
-            made += token + (" " if behind == " " else "")
-            if token == "," and 1 <= depth <= 3 and len(line) > 60 and line.startswith(("spec", "script")):
-                made = made.rstrip() + "\n" + "    " * depth
+            token = match.group()
+            depth += (token in "([") - (token in ")]")
+            if is_long and token == "," and 1 <= depth <= 3:
+                made += ",\n" + "    " * depth
+            else:
+                made += token + (" " if line.startswith(" ", match.end()) else "")
         lines.append(made)
     return "\n".join(lines) + "\n"
 
