@@ -23,8 +23,8 @@ pub const EVENTS: [&[u8]; 10] = [
     b"out", b"in", b"rd", b"inp", b"rdp", b"no", b"nop", b"out_r", b"in_r", b"rd_r",
 ];
 
-/// The goals of a body without a guard.
-pub const GOALS: [&[u8]; 13] = [
+// The goals of a body without a guard.
+const GOALS: [&[u8]; 13] = [
     b"out_r",
     b"in_r",
     b"rd_r",
@@ -40,8 +40,8 @@ pub const GOALS: [&[u8]; 13] = [
     b"current_tuple",
 ];
 
-/// The goals of a body behind a guard.
-pub const GUARDED_GOALS: [&[u8]; 13] = [
+// The goals of a body behind a guard.
+const GUARDED_GOALS: [&[u8]; 13] = [
     b"out",
     b"in",
     b"rd",
@@ -59,6 +59,11 @@ pub const GUARDED_GOALS: [&[u8]; 13] = [
 
 /// The tests of a guard.
 pub const TESTS: [&[u8]; 5] = [b"request", b"response", b"success", b"failure", b"true"];
+
+/// The goals of a body, behind a guard or without one.
+pub fn goal_words(guarded: bool) -> &'static [&'static [u8]] {
+    if guarded { &GUARDED_GOALS } else { &GOALS }
+}
 
 /// Whether a clause begins with this word.
 pub fn is_clause_word(word: &[u8]) -> bool {

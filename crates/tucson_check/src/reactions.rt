@@ -5,7 +5,7 @@ use std::alloc::Global;
 use tc_lists::NoMemory;
 use tc_model::{MOST_GOALS, MOST_TESTS, SpecCause, event_op_of};
 use tc_places::{
-    EVENTS, Finding, GOALS, GUARDED_GOALS, Span, TESTS, arguments, first_of, found, leaves,
+    EVENTS, Finding, Span, TESTS, arguments, first_of, found, goal_words, leaves, lent,
     most_arguments, nearest, part,
 };
 use tc_spec::{SpecFault, read_spec};
@@ -66,7 +66,7 @@ fn head_advice(alloc: Global, text: &[u8], head: Span) -> Result<Finding, NoMemo
             alloc,
             mark,
             b"there is no event ~; did you mean ~?",
-            &[name, near],
+            &[lent(name), lent(near)],
         );
     }
     found(
@@ -116,7 +116,7 @@ fn test_advice(alloc: Global, mark: Span, name: &[u8]) -> Result<Finding, NoMemo
             alloc,
             mark,
             b"~ is no test of a guard; did you mean ~?",
-            &[name, near],
+            &[lent(name), lent(near)],
         );
     }
     found(
@@ -171,9 +171,9 @@ fn goal_advice(alloc: Global, text: &[u8], goal: Span, guarded: bool) -> Result<
         } else {
             b"in a reaction without a guard the goal ~ is written ~"
         };
-        return found(alloc, mark, pattern, &[name, other]);
+        return found(alloc, mark, pattern, &[lent(name), lent(other)]);
     }
-    let words: &[&[u8]] = if guarded { &GUARDED_GOALS } else { &GOALS };
+    let words = goal_words(guarded);
     let is_word = words.iter().any(|word| *word == name);
     if is_word && args.len() > 1 && most_arguments(name) == 1 {
         return found(
@@ -196,7 +196,7 @@ fn goal_advice(alloc: Global, text: &[u8], goal: Span, guarded: bool) -> Result<
             alloc,
             mark,
             b"there is no goal ~; did you mean ~?",
-            &[name, near],
+            &[lent(name), lent(near)],
         );
     }
     found(

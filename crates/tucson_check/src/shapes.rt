@@ -5,8 +5,8 @@ use std::alloc::Global;
 use tc_lists::NoMemory;
 use tc_model::primitive_of;
 use tc_places::{
-    CLAUSE_WORDS, Finding, PRIMITIVES, Span, arguments, find, first_of, form_of, found, nearest,
-    part,
+    CLAUSE_WORDS, Finding, PRIMITIVES, Span, arguments, find, first_of, form_of, found, lent,
+    nearest, part,
 };
 use tc_term::Term;
 
@@ -49,7 +49,7 @@ pub fn shape_advice(
             alloc,
             first_of(text, span),
             b"~ has another number of arguments: @",
-            &[word, form],
+            &[lent(word), lent(form)],
         ),
     }
 }
@@ -67,7 +67,12 @@ fn word_advice(alloc: Global, text: &[u8], span: Span) -> Result<Finding, NoMemo
         );
     };
     let form = form_of(near).unwrap_or(&[]);
-    found(alloc, mark, b"did you mean ~, as in @", &[near, form])
+    found(
+        alloc,
+        mark,
+        b"did you mean ~, as in @",
+        &[lent(near), lent(form)],
+    )
 }
 
 // The first of the names that is none, or a primitive that is none.
@@ -100,7 +105,7 @@ pub fn primitive_advice(alloc: Global, text: &[u8], mark: Span) -> Result<Findin
             alloc,
             mark,
             b"there is no operation ~; did you mean ~?",
-            &[name, near],
+            &[lent(name), lent(near)],
         );
     }
     found(

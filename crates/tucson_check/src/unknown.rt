@@ -5,7 +5,7 @@ use std::alloc::Global;
 use tc_config::Config;
 use tc_lists::{NoMemory, append_number};
 use tc_places::{
-    Finding, Span, arguments, first_of, found, inside, nearest, part, sentence, split,
+    Finding, Span, arguments, first_of, found, inside, lent, nearest, part, sentence, split,
 };
 use tc_term::Term;
 
@@ -37,7 +37,7 @@ pub fn unknown_advice(
             alloc,
             mark,
             b"@ is declared by @(NAME). in an earlier clause; did you mean ~ (@)?",
-            &[sort.phrase(), sort.word(), near, place.as_slice()],
+            &[sort.phrase(), sort.word(), lent(near), place.as_slice()],
         );
     }
     if let Some(place) = declaring(alloc, text, sort, name)? {
@@ -45,7 +45,7 @@ pub fn unknown_advice(
             alloc,
             mark,
             b"@ is declared before it is used, and ~ is declared in @",
-            &[sort.phrase(), name, place.as_slice()],
+            &[sort.phrase(), lent(name), place.as_slice()],
         );
     }
     if names.is_empty() {
@@ -77,7 +77,7 @@ fn known_words(
     let mut words = Vec::new(alloc);
     for name in names.iter().take(MOST_NAMED) {
         let place = declaring(alloc, text, sort, name)?.unwrap_or(Vec::new(alloc));
-        words.extend_from_slice(&sentence(alloc, b", ~ (@)", &[*name, place.as_slice()])?)?;
+        words.extend_from_slice(&sentence(alloc, b", ~ (@)", &[lent(name), place.as_slice()])?)?;
     }
     if names.len() > MOST_NAMED {
         words.extend_from_slice(b" and others")?;

@@ -7,7 +7,7 @@ use std::alloc::Global;
 use tc_config::{AgentConf, CentreConf, Config};
 use tc_lists::NoMemory;
 use tc_model::primitive_of;
-use tc_places::{Span, arguments, inside, last_end, line_ends, part, sentence, split};
+use tc_places::{Span, arguments, inside, last_end, lent, line_ends, part, sentence, split};
 use tc_policy::Grant;
 use tc_term::{MOST_NODES, Name, Term};
 
@@ -269,7 +269,14 @@ fn denied_words(alloc: Global, config: &Config, grant: Grant) -> Result<Vec<u8>,
     sentence(
         alloc,
         b"~ is denied to the role ~ at ~: grant(@,@,@). isn't there",
-        &[primitive, role, centre, role, centre, primitive],
+        &[
+            lent(primitive),
+            lent(role),
+            lent(centre),
+            lent(role),
+            lent(centre),
+            lent(primitive),
+        ],
     )
 }
 
@@ -285,7 +292,7 @@ fn idle_words(alloc: Global, why: Idle, op: &[u8]) -> Result<Vec<u8>, NoMemory> 
         Idle::Goal(goal) => sentence(
             alloc,
             b"no event ~ that comes here meets the goal ~, so this reaction never fires",
-            &[op, goal],
+            &[lent(op), lent(goal)],
         ),
     }
 }
