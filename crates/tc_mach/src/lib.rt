@@ -1,0 +1,10 @@
+//! Whole texts, read back. For trial.
+#![tactic(auto)]
+
+mod lines;
+mod reading;
+mod texts;
+
+pub use lines::{Line, LogResult, TextRow, Version};
+pub use reading::Reading;
+pub use texts::{Text, TextFault};
