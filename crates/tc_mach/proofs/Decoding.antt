@@ -5,6 +5,7 @@ use Rattle.std.proofs.lemmas.Grind.{flat_map-append}
 use Rattle.std.proofs.lemmas.List.Elements.{All-append, All-cons, All-head, All-nil, All-tail}
 use Rattle.std.proofs.lemmas.Option.{none-some, same_Some}
 use Rattle.tc_mach.specs.declared.lines.Version.{Version}
+use Rattle.tc_mach.specs.Laws.{IsOneLine}
 use Rattle.tc_mach.specs.Lines.{HasLine, line_text}
 use Rattle.tc_mach.specs.Machine.{Stage, Start, Done, next, go_on, takes, IsBare, AreBare, AreAll, Rest}
 use Rattle.tc_mach.specs.Texts.{IsBegun, IsFirstFault, IsText, ended, HasNoEnd, histories_lines, lines_of, logs_lines, text_of}
@@ -17,11 +18,27 @@ use Rattle.tc_mach.proofs.Completing.{AreDue, completes, histories}
 use Rattle.tc_mach.proofs.LineEnds.{ended-one}
 use Rattle.tc_mach.proofs.Machine.{all_pass, takes-append, takes-rest}
 
--- the text of a line is one line of bytes
-pub record IsOneLine (text : List ℕ) : Type 0 where
-  pub line : List ℕ
-  pub clean : HasNoEnd line
-  pub is : text ≡ ended line
+-- lines that have come so far: none, or the first tells the version
+abbrev pub StartsWith : Version → List Line → Type 0
+StartsWith v [] = Unit {0}
+StartsWith v (l ∷ ls) = l ≡ First v
+
+-- the version that the line tells, if it is the first
+abbrev pub version_or : Version → Line → Version
+version_or u (First x) = x
+version_or u (Centre n) = u
+version_or u (Agent n) = u
+version_or u (line.Entry e) = u
+version_or u (Reaction i) = u
+version_or u (Row r) = u
+version_or u (End b) = u
+
+-- the first line and the last can be had in each version
+abbrev pub has_first : (A : List (List ℕ)) (v w : Version) → HasLine v A (First w)
+has_first A v w = tt
+
+abbrev pub has_end : (A : List (List ℕ)) (v : Version) (b : Bool) → HasLine v A (End b)
+has_end A v b = tt
 
 module _ (A : List (List ℕ))
     (one : (v : Version) (l m : Line) (r s : List ℕ) → HasLine v A l → HasLine v A m → line_text v A l ++ r ≡ line_text v A m ++ s → (l ≡ m) × (r ≡ s))
@@ -93,11 +110,6 @@ module _ (A : List (List ℕ))
           lines = refl;
         })
 
-    -- lines that have come so far: none, or the first tells the version
-    data StartsWith (v : Version) : List Line → Type 0 where
-      with_none : StartsWith v []
-      with_first : (ls : List Line) → StartsWith v (First v ∷ ls)
-
     -- the lines of a text behind those that have come
     record Behind (v : Version) (ls : List Line) (t : Text) (x : List ℕ) : Type 0 where
       more : List Line
@@ -106,18 +118,9 @@ module _ (A : List (List ℕ))
       next : (k : Line) (ks : List Line) → more ≡ k ∷ ks → HasLine v A k × (line_text t.version A k ≡ line_text v A k)
       all : All (HasLine t.version A) more
 
-    version_or : Version → Line → Version
-    version_or u (First x) = x
-    version_or u (Centre n) = u
-    version_or u (Agent n) = u
-    version_or u (line.Entry e) = u
-    version_or u (Reaction i) = u
-    version_or u (Row r) = u
-    version_or u (End b) = u
-
     behind : (v : Version) (ls : List Line) (t : Text) (x : List ℕ) → StartsWith v ls → All (HasLine v A) ls → All (HasLine t.version A) (lines_of C A t)
         → texts v ls ++ x ≡ texts t.version (lines_of C A t) → Behind v ls t x
-    behind v [] t x with_none ours theirs same = record {
+    behind v [] t x starts ours theirs same = record {
       more = lines_of C A t;
       lines = refl;
       text = same;
@@ -127,13 +130,14 @@ module _ (A : List (List ℕ))
       where
         first : (k : Line) → k ≡ First t.version → HasLine v A k × (line_text t.version A k ≡ line_text v A k)
         first k e = subst (λ l. HasLine v A l × (line_text t.version A l ≡ line_text v A l)) (sym e) (tt, refl)
-    behind v (First v ∷ ls) t x (with_first ls) ours theirs same =
+    behind v (l ∷ ls) t x starts ours theirs same =
         let version : v ≡ t.version = ap (version_or v)
-        (one v (First v) (First t.version) (texts v ls ++ x) (texts t.version (histories_lines C t.histories ++ (logs_lines A t.logs ++ End t.blocked ∷ []))) tt tt
-        (sym (append_assoc (line_text v A (First v)) (texts v ls) x) ∙ same)).0 in
+        (sym starts
+        ∙ (one v l (First t.version) (texts v ls ++ x) (texts t.version (histories_lines C t.histories ++ (logs_lines A t.logs ++ End t.blocked ∷ [])))
+        (All-head (HasLine v A) l ls ours) tt (sym (append_assoc (line_text v A l) (texts v ls) x) ∙ same)).0) in
         let good : All (HasLine v A) (lines_of C A t) = subst (λ w. All (HasLine w A) (lines_of C A t)) (sym version) theirs in
-        let on = front v (First v ∷ ls) (lines_of C A t) x ours good (same ∙ ap (λ w. texts w (lines_of C A t)) (sym version)) in
-        let rest : All (HasLine v A) on.0 = All-behind (First v ∷ ls) on.0 (subst (All (HasLine v A)) on.1 good) in
+        let on = front v (l ∷ ls) (lines_of C A t) x ours good (same ∙ ap (λ w. texts w (lines_of C A t)) (sym version)) in
+        let rest : All (HasLine v A) on.0 = All-behind (l ∷ ls) on.0 (subst (All (HasLine v A)) on.1 good) in
         record {
           more = on.0;
           lines = on.1;
@@ -145,6 +149,17 @@ module _ (A : List (List ℕ))
         All-behind : (us ws : List Line) → All (HasLine v A) (us ++ ws) → All (HasLine v A) ws
         All-behind [] ws all = all
         All-behind (u ∷ us) ws all = All-behind us ws (All-tail (HasLine v A) u (us ++ ws) all)
+
+    -- two texts with the same bytes have the same lines
+    pub texts-same_lines : (t u : Text) (bytes : List ℕ) → IsText C A t bytes → IsText C A u bytes → lines_of C A u ≡ lines_of C A t
+    texts-same_lines t u bytes is also =
+        let on = behind t.version (lines_of C A t) u [] refl is.lines also.lines
+        (append-nil (texts t.version (lines_of C A t)) ∙ (sym (grouped t) ∙ (sym is.is ∙ (also.is ∙ grouped u)))) in
+        by on.more on.lines on.text on.all
+      where
+        by : (more : List Line) → lines_of C A u ≡ lines_of C A t ++ more → [] ≡ texts u.version more → All (HasLine u.version A) more → lines_of C A u ≡ lines_of C A t
+        by [] lines text all = lines ∙ append-nil (lines_of C A t)
+        by (k ∷ ks) lines text all = absurd (some u.version k (texts u.version ks) (All-head (HasLine u.version A) k ks all) (sym text))
 
     -- a line may follow others in the lines of a text
     goes_on : (ls : List Line) (s : Stage) (t : Text) (k : Line) (ks : List Line) → takes C A Start ls ≡ Some s → length t.histories ≡ length C → length t.logs ≡ length A
@@ -169,28 +184,22 @@ module _ (A : List (List ℕ))
           },
         )
 
-    has_first : (v w : Version) → HasLine v A (First w)
-    has_first v w = tt
-
-    has_end : (v : Version) (b : Bool) → HasLine v A (End b)
-    has_end v b = tt
-
-    first-same : (v w : Version) (ls ms : List Line) → First v ∷ ls ≡ First w ∷ ms → v ≡ w
-    first-same v w ls ms e = ap (λ l. version_or v (get_or l 0 (First v))) e
+    first-same : (v w : Version) (l : Line) (ls ms : List Line) → l ≡ First v → l ∷ ls ≡ First w ∷ ms → v ≡ w
+    first-same v w l ls ms is e = ap (version_or v) (sym is) ∙ ap (λ k. version_or v (get_or k 0 l)) e
 
     -- lines that have come begin a text
     begun : (v : Version) (ls : List Line) (s : Stage) → StartsWith v ls → All (HasLine v A) ls → takes C A Start ls ≡ Some s
-        → AreDue (HasLine v A) (has_first v) (has_end v) C A Start → AreDue (HasLine v A) (has_first v) (has_end v) C A s → IsBegun C A (texts v ls)
-    begun v [] s with_none good taken names due =
-        let hs = histories (HasLine v A) (has_first v) (has_end v) C A C names.0 names.1 in
+        → AreDue (HasLine v A) (has_first A v) (has_end A v) C A Start → AreDue (HasLine v A) (has_first A v) (has_end A v) C A s → IsBegun C A (texts v ls)
+    begun v [] s starts good taken names due =
+        let hs = histories (HasLine v A) (has_first A v) (has_end A v) C A C names.0 names.1 in
         let on = text_from v (First v ∷ hs.0) (record { version = v; rest = hs.0; histories = hs.1; lines = refl }) refl (All-cons (HasLine v A) (First v) hs.0 tt hs.2) in
         record { text = on.0; rest = texts v (First v ∷ hs.0); is = on.1 }
-    begun v (First v ∷ ls) s (with_first ls) good taken names due =
-        let more = completes (HasLine v A) (has_first v) (has_end v) C A s due in
-        let all = takes-rest C A Start (First v ∷ ls) s more.lines (all_bare v (First v ∷ ls) good) taken more.rest in
-        let on = text_from v (First v ∷ (ls ++ more.lines)) all (first-same v all.version (ls ++ more.lines) all.rest all.lines)
-        (All-append (HasLine v A) (First v ∷ ls) more.lines good more.are) in
-        record { text = on.0; rest = texts v more.lines; is = subst (IsText C A on.0) (flat_map-append (line_text v A) (First v ∷ ls) more.lines) on.1 }
+    begun v (l ∷ ls) s starts good taken names due =
+        let more = completes (HasLine v A) (has_first A v) (has_end A v) C A s due in
+        let all = takes-rest C A Start (l ∷ ls) s more.lines (all_bare v (l ∷ ls) good) taken more.rest in
+        let on = text_from v (l ∷ (ls ++ more.lines)) all (first-same v all.version l (ls ++ more.lines) all.rest starts all.lines)
+        (All-append (HasLine v A) (l ∷ ls) more.lines good more.are) in
+        record { text = on.0; rest = texts v more.lines; is = subst (IsText C A on.0) (flat_map-append (line_text v A) (l ∷ ls) more.lines) on.1 }
 
     -- where no line can follow, and the end hasn't come or isn't that of the bytes, the next line is at fault
     module _ (v : Version) (ls : List Line) (s : Stage) (starts : StartsWith v ls) (good : All (HasLine v A) ls) (taken : takes C A Start ls ≡ Some s)
@@ -228,7 +237,7 @@ module _ (A : List (List ℕ))
               goes_on ls s t k ks taken whole all lines
               (stuck k more is.0 (front ∙ ap (λ l. l ++ more) (ap ended same.0 ∙ sym one_line.is)))
 
-      pub fault : (bytes : List ℕ) → bytes ≡ texts v ls ++ x → AreDue (HasLine v A) (has_first v) (has_end v) C A Start → AreDue (HasLine v A) (has_first v) (has_end v) C A s
+      pub fault : (bytes : List ℕ) → bytes ≡ texts v ls ++ x → AreDue (HasLine v A) (has_first A v) (has_end A v) C A Start → AreDue (HasLine v A) (has_first A v) (has_end A v) C A s
           → IsFirstFault C A bytes (length ls + 1)
       fault bytes split names due =
           let lines = bytes_of v ls good in

@@ -4,3 +4,6 @@ pub mod Growing
 pub mod Steps
 pub mod LineEnds
 pub mod Decoding
+pub mod Coming
+pub mod OneText
+pub mod OneAnswer

