@@ -21,6 +21,8 @@ mod numbers;
 #[cfg(test)]
 mod pieces;
 #[cfg(test)]
+mod read_lines;
+#[cfg(test)]
 mod sessions;
 #[cfg(test)]
 mod streams;

@@ -11,12 +11,12 @@ use Rattle.tc_model.specs.declared.limits.TheConstants.{MOST_BUDGET}
 use Rattle.tc_config.specs.Configurations.{IsCentre, IsConfig, agent_names, centre_names, configuration, items_of}
 use Rattle.tc_config.specs.Drafts.{IsDraft, config_of}
 use Rattle.tc_config.specs.Meanings.{agent, centre}
-use Rattle.tc_config.specs.Names.{place_of}
+use Rattle.tc_names.specs.Names.{place_of}
 use Rattle.tc_config.specs.declared.configs.AgentConf.{AgentConf}
 use Rattle.tc_config.specs.declared.configs.CentreConf.{CentreConf}
 use Rattle.tc_config.specs.declared.draft.Draft.{Draft}
 use Rattle.tc_config.specs.declared.limits.TheConstants.{MOST_CENTRES, MOST_ROLES, MOST_AGENTS, USUAL_BUDGET}
-use Rattle.tc_config.proofs.Declared.{place-within}
+use Rattle.tc_names.proofs.Declared.{place-within}
 use Rattle.tc_config.proofs.Growth.{config-agent, config-centre, config-role}
 
 -- a centre as it is declared is one

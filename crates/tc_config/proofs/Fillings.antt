@@ -13,7 +13,8 @@ use Rattle.tc_config.specs.Causes.{IsFaulty, IsFaultless, IsFirstFault, rank}
 use Rattle.tc_config.specs.Configurations.{Configuration, IsConfig, agent_names, centre_names, configuration, items_in}
 use Rattle.tc_config.specs.Drafts.{IsDraft, config_of}
 use Rattle.tc_config.specs.Meanings.{AreItems, changed, with_script}
-use Rattle.tc_config.specs.Names.{IsUnknown, place_of}
+use Rattle.tc_config.specs.Names.{IsUnknown}
+use Rattle.tc_names.specs.Names.{place_of}
 use Rattle.tc_config.specs.declared.configs.AgentConf.{AgentConf}
 use Rattle.tc_config.specs.declared.configs.CentreConf.{CentreConf}
 use Rattle.tc_config.specs.declared.draft.Draft.{Draft}

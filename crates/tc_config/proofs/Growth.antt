@@ -13,12 +13,12 @@ use Rattle.tc_model.specs.declared.scripts.ScriptItem.{ScriptItem}
 use Rattle.tc_policy.specs.declared.grants.Grant.{Grant}
 use Rattle.tc_config.specs.Configurations.{Configuration, HasCentres, IsAgent, IsCentre, IsConfig, IsGrant, agent_names, centre_names, items_in, items_of}
 use Rattle.tc_config.specs.Meanings.{agent, changed, with_clause, with_script, with_tuple}
-use Rattle.tc_config.specs.Names.{place_of}
+use Rattle.tc_names.specs.Names.{place_of}
 use Rattle.tc_config.specs.declared.configs.AgentConf.{AgentConf}
 use Rattle.tc_config.specs.declared.configs.CentreConf.{CentreConf}
 use Rattle.tc_config.specs.declared.limits.TheConstants.{MOST_CENTRES, MOST_ROLES, MOST_AGENTS, MOST_ITEMS}
 use Rattle.tc_config.proofs.Changed.{All-changed, length-changed, map-changed, sum_by-changed}
-use Rattle.tc_config.proofs.Declared.{differ-push}
+use Rattle.tc_names.proofs.Declared.{differ-push}
 
 -- what is in range stays so
 pub IsGrant-longer : (c e : Configuration) → length c.centres ≤ length e.centres → length c.role_names ≤ length e.role_names

@@ -5,9 +5,9 @@ use Rattle.tc_model.specs.Asks.{operand_of}
 use Rattle.tc_model.specs.Within.{HasVarsBelow}
 use Rattle.tc_model.specs.declared.scripts.ScriptItem.{ScriptItem}
 use Rattle.tc_config.specs.Meanings.{AreItems}
-use Rattle.tc_config.specs.Names.{place_of}
+use Rattle.tc_names.specs.Names.{place_of}
 use Rattle.tc_model.specs.declared.lines.Line.{Line}
-use Rattle.tc_config.proofs.Declared.{place-within}
+use Rattle.tc_names.proofs.Declared.{place-within}
 
 -- one more
 pub AreItems-push : (names : List (List ℕ)) (ls : List Line) (is : List ScriptItem) (l : Line) (i : ScriptItem)

@@ -2,7 +2,6 @@ pub mod Arguments
 pub mod Cells
 pub mod OneForm
 pub mod Spelling
-pub mod Declared
 pub mod Changed
 pub mod Items
 pub mod Growth

@@ -10,7 +10,8 @@ use Rattle.tc_policy.specs.Places.{grant}
 use Rattle.tc_spec.specs.Written.{IsWrittenAs}
 use Rattle.tc_config.specs.Configurations.{Configuration, agent_names, centre_names, items_in}
 use Rattle.tc_config.specs.Forms.{IsFormOf}
-use Rattle.tc_config.specs.Names.{IsDeclared, IsUnknown, place_of}
+use Rattle.tc_config.specs.Names.{IsDeclared, IsUnknown}
+use Rattle.tc_names.specs.Names.{place_of}
 use Rattle.tc_config.specs.declared.configs.CentreConf.{CentreConf}
 use Rattle.tc_config.specs.declared.faults.ConfigCause.{ConfigCause}
 use Rattle.tc_config.specs.declared.faults.ConfigCause.TheVariants as cause

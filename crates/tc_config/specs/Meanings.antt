@@ -10,7 +10,7 @@ use Rattle.tc_spec.specs.Written.{IsWrittenAs}
 use Rattle.tc_config.specs.Causes.{IsFaultless}
 use Rattle.tc_config.specs.Configurations.{Configuration, agent_names, centre_names}
 use Rattle.tc_config.specs.Forms.{IsFormOf}
-use Rattle.tc_config.specs.Names.{place_of}
+use Rattle.tc_names.specs.Names.{place_of}
 use Rattle.tc_config.specs.declared.configs.AgentConf.{AgentConf}
 use Rattle.tc_config.specs.declared.configs.CentreConf.{CentreConf}
 use Rattle.tc_config.specs.declared.forms.Form.{Form}

@@ -4,8 +4,8 @@ ghost use Rattle.tc_config.specs.Configurations.{nothing};
 ghost use Rattle.tc_config.specs.Drafts.{IsDraft, config_of};
 
 use crate::configs::{AgentConf, CentreConf, Config};
-use crate::names::Names;
 use std::alloc::Global;
+use tc_names::Names;
 use tc_policy::Roles;
 use tc_term::Name;
 

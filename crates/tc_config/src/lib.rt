@@ -21,7 +21,6 @@ mod growing;
 mod laws;
 mod limits;
 mod lines;
-mod names;
 mod reading;
 mod words;
 

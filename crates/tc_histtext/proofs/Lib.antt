@@ -1,10 +1,4 @@
 pub mod Agents
 pub mod Texts
-pub mod ReadWords
-pub mod Repeated
-pub mod ClauseTexts
-pub mod ReadOperations
-pub mod ReadOutcomes
 pub mod OneText
 pub mod OneRun
-pub mod ReadItems

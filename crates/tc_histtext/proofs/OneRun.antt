@@ -11,9 +11,10 @@ use Rattle.tc_model.specs.declared.outcomes.Outcome.TheVariants as outcome
 use Rattle.tc_desk.specs.Logs.{is_blocked}
 use Rattle.tc_desk.specs.declared.rows.LogRow.{LogRow}
 use Rattle.tc_histtext.specs.Lines.{HasForm, HasLines, HaveLines}
-use Rattle.tc_histtext.specs.Text.{end_text, histories_text, logs_text, run_text, version_text}
-use Rattle.tc_histtext.specs.declared.versions.Version.{Version}
-use Rattle.tc_histtext.specs.declared.versions.Version.TheVariants.{One, Two}
+use Rattle.tc_histline.specs.Text.{end_text, version_text}
+use Rattle.tc_histtext.specs.Text.{histories_text, logs_text, run_text}
+use Rattle.tc_histline.specs.declared.versions.Version.{Version}
+use Rattle.tc_histline.specs.declared.versions.Version.TheVariants.{One, Two}
 use Rattle.tc_histtext.proofs.OneText.{StopsHistory, apart, histories-one}
 
 -- an outcome of an answer had its tuple chosen

@@ -3,8 +3,9 @@ use Rattle.std.proofs.Common.{◌≡◌, ℕ, List, [], ◌∷◌, ◌++◌, len
 use Rattle.std.specs.List.{flat_map}
 use Rattle.std.proofs.lemmas.List.Concat.{flat_map-append}
 use Rattle.tc_model.specs.declared.entries.Entry.{Entry}
-use Rattle.tc_histtext.specs.Text.{entry_text, row_text, histories_text, history_text, log_text, logs_text, agent_heading, centre_heading}
-use Rattle.tc_histtext.specs.declared.versions.Version.{Version}
+use Rattle.tc_histline.specs.Text.{entry_text, row_text, agent_heading, centre_heading}
+use Rattle.tc_histtext.specs.Text.{histories_text, history_text, log_text, logs_text}
+use Rattle.tc_histline.specs.declared.versions.Version.{Version}
 use Rattle.tc_desk.specs.declared.rows.LogRow.{LogRow}
 
 -- a heading, and then the texts of a list, one after another

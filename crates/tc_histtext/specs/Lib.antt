@@ -1,7 +1,2 @@
-pub mod Headings
 pub mod Text
-pub mod Words
-pub mod Operations
-pub mod Outcomes
 pub mod Lines
-pub mod Items

@@ -1,53 +1,19 @@
-//! The text of histories and logs, line by line: headings, entries with their reactions, and rows.
+//! The text of histories and logs.
 //!
-//! What a text is, specs/Text defines, by version. After want of memory the lent text is as before.
-//! The parts, one behind another, are the text of a run, so a caller may write it away in pieces as
-//! it grows. An operation, a reply, a result and a refusal can be printed alone too.
+//! What a text is, specs/Text defines, by version. It is printed line by line, by the calls of
+//! tc_histline, which stand here too: the parts, one behind another, are the text of a run, so a
+//! caller may write it away in pieces as it grows.
 //!
-//! A text tells its histories: no two lists of them share one (`texts_tell_their_histories`). What
-//! is read of a line is a function on lists, in specs/Words to specs/Items, for each version; the
-//! files that are named read_.. have its code, so far for operations, outcomes, replies and
-//! reactions.
-//!
-//! ```
-//! let mut text = Vec::new(alloc);
-//! print_version(Version::One, &mut text)?;
-//! print_heading(alloc, Heading::Centre, core.name(), &mut text)?;
-//! for entry in core.history() {
-//!     print_entry(alloc, core.agents(), entry, &mut text)?; // call a 1 out(p(1)) = done
-//! }
-//! print_heading(alloc, Heading::Agent, &agent, &mut text)?;
-//! for row in log {
-//!     print_row(alloc, Version::One, row, &mut text)?; // 1 c done
-//! }
-//! print_end(false, &mut text)?;
-//! ```
+//! A text tells its histories: no two lists of them share one (`texts_tell_their_histories`).
 #![tactic(auto)]
 
-mod answers;
-mod entries;
-mod headings;
-mod items;
 mod laws;
-mod operations;
-mod read_items;
-mod read_operations;
-mod read_outcomes;
-mod read_words;
-mod rows;
-mod versions;
 
-pub use answers::print_reply;
-pub use entries::print_entry;
-pub use headings::{Heading, print_end, print_heading, print_version};
-pub use laws::{
-    entries_of_runs_have_agents, items_are_read_again, parts_of_lines_are_read_again,
-    text_grows_by_parts, texts_tell_their_histories,
+pub use laws::{entries_of_runs_have_agents, text_grows_by_parts, texts_tell_their_histories};
+pub use tc_histline::{
+    Heading, Version, print_end, print_entry, print_heading, print_op, print_refusal, print_reply,
+    print_result, print_row, print_version,
 };
-pub use operations::print_op;
-pub use read_operations::WrittenOp;
-pub use rows::{print_refusal, print_result, print_row};
-pub use versions::Version;
 
 /// Memory has run out.
 pub use tc_lists::NoMemory;

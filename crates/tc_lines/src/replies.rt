@@ -1,9 +1,9 @@
 //! Replies, a line each.
 ghost use Rattle.std.specs.Prelude.{◌≡◌, ◌++◌, OnErr, OnOk};
 ghost use mathlib.Core.List.{IsPrefix};
-ghost use Rattle.tc_histtext.specs.Text.{reply_text};
-ghost use Rattle.tc_histtext.specs.Text.{refusal_text as refusal_words};
-ghost use Rattle.tc_histtext.specs.declared.versions.Version.TheVariants.{One};
+ghost use Rattle.tc_histline.specs.Text.{reply_text};
+ghost use Rattle.tc_histline.specs.Text.{refusal_text as refusal_words};
+ghost use Rattle.tc_histline.specs.declared.versions.Version.TheVariants.{One};
 ghost use Rattle.tc_lines.specs.Replies.{error_line, reply_line};
 
 use std::alloc::Global;

@@ -12,8 +12,8 @@ use Rattle.tc_desk.specs.declared.rows.Refusal.TheVariants as refusal
 use Rattle.tc_desk.specs.declared.desks.Served.{Served}
 use Rattle.tc_desk.specs.declared.desks.Served.TheVariants as desk_served
 use Rattle.tc_desk.specs.declared.desks.Seen.TheVariants.{Answered}
-use Rattle.tc_histtext.specs.Text.{refusal_text, reply_text, result_text}
-use Rattle.tc_histtext.specs.declared.versions.Version.TheVariants.{One}
+use Rattle.tc_histline.specs.Text.{refusal_text, reply_text, result_text}
+use Rattle.tc_histline.specs.declared.versions.Version.TheVariants.{One}
 use Rattle.tc_lines.specs.Replies.{error_line, reply_line}
 use Rattle.tc_lines.specs.declared.requests.BadLine.{BadLine}
 use Rattle.tc_lines.specs.declared.requests.LineAsk.{LineAsk}

@@ -5,8 +5,8 @@ use Rattle.tc_model.specs.declared.asks.Ask.{Ask}
 use Rattle.tc_model.specs.declared.outcomes.Reply.{Reply}
 use Rattle.tc_desk.specs.Desks.{DeskState, Keeps, Makes, Refuses, HasRowOfPoll, TellsFull, Stays}
 use Rattle.tc_desk.specs.Desks.{Gets, Leaves}
-use Rattle.tc_histtext.specs.Text.{refusal_text, reply_text, result_text}
-use Rattle.tc_histtext.specs.declared.versions.Version.TheVariants.{One}
+use Rattle.tc_histline.specs.Text.{refusal_text, reply_text, result_text}
+use Rattle.tc_histline.specs.declared.versions.Version.TheVariants.{One}
 use Rattle.tc_desk.specs.declared.rows.Refusal.{Refusal}
 use Rattle.tc_desk.specs.declared.rows.Refusal.TheVariants as refusal
 use Rattle.tc_desk.specs.declared.desks.Served.{Served}

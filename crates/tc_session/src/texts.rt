@@ -3,8 +3,8 @@ ghost use Rattle.std.specs.Prelude.{◌≡◌, ◌++◌, ◌+◌, ◌<◌, ◌�
 ghost use Rattle.std.specs.Prelude.{slice_get, vec_len, vec_capacity};
 ghost use mathlib.Core.List.{IsPrefix};
 ghost use Rattle.tc_desk.specs.declared.rows.LogRow.{LogRow};
-ghost use Rattle.tc_histtext.specs.Text.{result_text};
-ghost use Rattle.tc_histtext.specs.declared.versions.Version.TheVariants.{One};
+ghost use Rattle.tc_histline.specs.Text.{result_text};
+ghost use Rattle.tc_histline.specs.declared.versions.Version.TheVariants.{One};
 ghost use Rattle.tc_lines.specs.Replies.{error_line, reply_line};
 
 use std::alloc::Global;

@@ -1,10 +1,12 @@
 //! Histories and logs, handed on line by line.
 ghost use Rattle.std.specs.Prelude.{◌≡◌, ◌<◌, [], All, OnOk, length};
 ghost use Rattle.tc_model.specs.Calls.{id_of};
-ghost use Rattle.tc_histtext.specs.Text.{end_text, entry_text, history_text};
-ghost use Rattle.tc_histtext.specs.declared.versions.Version.TheVariants.{Two};
-ghost use Rattle.tc_histtext.specs.Text.{log_text, row_text, version_text};
-ghost use Rattle.tc_histtext.specs.Headings.{heading_text};
+ghost use Rattle.tc_histline.specs.Text.{end_text, entry_text};
+ghost use Rattle.tc_histtext.specs.Text.{history_text};
+ghost use Rattle.tc_histline.specs.declared.versions.Version.TheVariants.{Two};
+ghost use Rattle.tc_histline.specs.Text.{row_text, version_text};
+ghost use Rattle.tc_histtext.specs.Text.{log_text};
+ghost use Rattle.tc_histline.specs.Headings.{heading_text};
 ghost use Rattle.tc_io.specs.Flow.{HandsOn, flow};
 
 use crate::pieces::spill;

@@ -8,7 +8,7 @@ use Rattle.tc_config.specs.Good.{IsGood, origin_of}
 use Rattle.tc_config.specs.declared.configs.CentreConf.{CentreConf}
 use Rattle.tc_desk.specs.declared.rows.LogRow.{LogRow}
 use Rattle.tc_histtext.specs.Lines.{HasLines, HaveLines}
-use Rattle.tc_histtext.specs.declared.versions.Version.TheVariants.{Two}
+use Rattle.tc_histline.specs.declared.versions.Version.TheVariants.{Two}
 use Rattle.tc_histtext.proofs.Agents.{ours-run}
 use Rattle.tc_histtext.proofs.OneRun.{has_lines, run_text-one}
 use Rattle.tc_model.specs.Choices.{TheFirst}

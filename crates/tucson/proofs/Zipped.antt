@@ -5,7 +5,7 @@ use Rattle.std.proofs.lemmas.Option.{same_Some}
 use Rattle.tc_io.specs.declared.sinks.SinkFault.{SinkFault}
 use Rattle.tc_model.specs.declared.entries.Entry.{Entry}
 use Rattle.tc_histtext.specs.Text.{history_text, histories_text, log_text, logs_text}
-use Rattle.tc_histtext.specs.declared.versions.Version.{Version}
+use Rattle.tc_histline.specs.declared.versions.Version.{Version}
 use Rattle.tc_desk.specs.declared.rows.LogRow.{LogRow}
 use Rattle.tc_config.specs.declared.configs.AgentConf.{AgentConf}
 use Rattle.tc_io.specs.Flow.{Flow, HandsOn}

@@ -6,7 +6,7 @@ use Rattle.tc_model.specs.declared.entries.Entry.{Entry}
 use Rattle.tc_desk.specs.Logs.{is_blocked}
 use Rattle.tc_desk.specs.declared.rows.LogRow.{LogRow}
 use Rattle.tc_histtext.specs.Text.{run_text}
-use Rattle.tc_histtext.specs.declared.versions.Version.TheVariants.{Two}
+use Rattle.tc_histline.specs.declared.versions.Version.TheVariants.{Two}
 use Rattle.tc_config.specs.Configurations.{Configuration, agent_names, centre_names}
 use Rattle.tc_config.specs.Good.{origin_of}
 use Rattle.tc_config.specs.declared.configs.CentreConf.{CentreConf}

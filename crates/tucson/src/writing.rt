@@ -9,7 +9,7 @@ ghost use Rattle.tc_config.specs.Configurations.{agent_names, centre_names};
 ghost use Rattle.tc_config.specs.Good.{IsGood};
 ghost use Rattle.tc_desk.specs.Logs.{is_blocked, rows_of};
 ghost use Rattle.tc_histtext.specs.Text.{histories_text, logs_text};
-ghost use Rattle.tc_histtext.specs.declared.versions.Version.TheVariants.{Two};
+ghost use Rattle.tc_histline.specs.declared.versions.Version.TheVariants.{Two};
 ghost use Rattle.tc_runner.specs.Cores.{AreCores, histories};
 ghost use Rattle.tc_runner.specs.Runs.{HasCores, IsGoodRun};
 ghost use Rattle.tc_io.specs.Flow.{HandsOn, flow};

@@ -4,11 +4,11 @@ use Rattle.tc_model.specs.Scripts.{Lines}
 use Rattle.tc_config.specs.Configurations.{agent_names, centre_names, configuration, items_in}
 use Rattle.tc_config.specs.Drafts.{config_of}
 use Rattle.tc_config.specs.Meanings.{changed, with_script}
-use Rattle.tc_config.specs.Names.{place_of}
+use Rattle.tc_names.specs.Names.{place_of}
 use Rattle.tc_config.specs.declared.limits.TheConstants.{MOST_ITEMS}
 use Rattle.tc_config.proofs.Changed.{refilled-changed}
 use Rattle.tc_config.proofs.Declarations.{known_by}
-use Rattle.tc_config.proofs.Declared.{place-within}
+use Rattle.tc_names.proofs.Declared.{place-within}
 use Rattle.tc_config.proofs.Fillings.{all-known, centres-there, draft-script, first-agent, first-count, found_items, right-script}
 use Rattle.tc_config.proofs.Growth.{config-script}
 use Rattle.tc_config.proofs.Items.{length-items, operands-within}

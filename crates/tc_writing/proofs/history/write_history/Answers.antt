@@ -1,6 +1,6 @@
 use Rattle.std.proofs.Common.{◌≡◌, Err, refl, rules}
 use Rattle.std.specs.List.{flat_map}
-use Rattle.tc_histtext.specs.Text.{centre_heading, entry_text}
+use Rattle.tc_histline.specs.Text.{centre_heading, entry_text}
 use Rattle.tc_io.proofs.Flows.{amid}
 use Rattle.tc_io.specs.declared.sinks.SinkFault.TheVariants.{NoMemory}
 use Rattle.tc_writing.proofs.Lines.{line-amid, line-handed, printed, unprinted}

@@ -1,5 +1,5 @@
 use Rattle.std.proofs.Common.{Ok}
-use Rattle.tc_histtext.specs.Text.{centre_heading, entry_text}
+use Rattle.tc_histline.specs.Text.{centre_heading, entry_text}
 use Rattle.tc_io.specs.Flow.{HandsOn, flow}
 use Rattle.tc_writing.proofs.Lines.{begun}
 use Rattle.tc_writing.proofs.history.write_history.Given as goal

@@ -1,7 +1,7 @@
 use Rattle.std.proofs.Common.{◌≡◌, Err, refl, rules}
 use Rattle.std.specs.List.{flat_map}
-use Rattle.tc_histtext.specs.Text.{agent_heading, row_text}
-use Rattle.tc_histtext.specs.declared.versions.Version.TheVariants.{Two}
+use Rattle.tc_histline.specs.Text.{agent_heading, row_text}
+use Rattle.tc_histline.specs.declared.versions.Version.TheVariants.{Two}
 use Rattle.tc_io.proofs.Flows.{amid}
 use Rattle.tc_io.specs.declared.sinks.SinkFault.TheVariants.{NoMemory}
 use Rattle.tc_writing.proofs.Lines.{line-amid, line-handed, printed, unprinted}

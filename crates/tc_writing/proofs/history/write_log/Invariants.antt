@@ -1,6 +1,6 @@
 use Rattle.std.proofs.Common.{Ok}
-use Rattle.tc_histtext.specs.Text.{agent_heading, row_text}
-use Rattle.tc_histtext.specs.declared.versions.Version.TheVariants.{Two}
+use Rattle.tc_histline.specs.Text.{agent_heading, row_text}
+use Rattle.tc_histline.specs.declared.versions.Version.TheVariants.{Two}
 use Rattle.tc_io.specs.Flow.{HandsOn, flow}
 use Rattle.tc_writing.proofs.Lines.{begun}
 use Rattle.tc_writing.proofs.history.write_log.Given as goal

@@ -3,7 +3,7 @@ use Rattle.std.specs.Prelude.{slice_get}
 use Rattle.std.proofs.lemmas.Option.{slice_get_read}
 use Rattle.tc_config.specs.declared.configs.AgentConf.{AgentConf}
 use Rattle.tc_histtext.specs.Text.{log_text}
-use Rattle.tc_histtext.specs.declared.versions.Version.TheVariants.{Two}
+use Rattle.tc_histline.specs.declared.versions.Version.TheVariants.{Two}
 use Rattle.tucson.proofs.Zipped.{log_of, logs-zipped, part-amid, part-handed, parts-handed, text_is}
 use Rattle.tucson.proofs.writing.write_logs.Goals as goal
 

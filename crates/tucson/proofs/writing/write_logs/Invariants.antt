@@ -1,5 +1,5 @@
 use Rattle.std.proofs.Common.{Ok}
-use Rattle.tc_histtext.specs.declared.versions.Version.TheVariants.{Two}
+use Rattle.tc_histline.specs.declared.versions.Version.TheVariants.{Two}
 use Rattle.tc_io.specs.Flow.{HandsOn, flow}
 use Rattle.tucson.proofs.Zipped.{first, log_of}
 use Rattle.tucson.proofs.writing.write_logs.Given as goal

@@ -1,8 +1,9 @@
 use Rattle.std.proofs.Common.{◌≡◌, ◌∙◌, ◌++◌, [], Err, ap, rules, append_assoc}
 use Rattle.tc_config.specs.Configurations.{agent_names, centre_names}
 use Rattle.tc_desk.specs.Logs.{is_blocked, rows_of}
-use Rattle.tc_histtext.specs.Text.{end_text, histories_text, logs_text, version_text}
-use Rattle.tc_histtext.specs.declared.versions.Version.TheVariants.{Two}
+use Rattle.tc_histline.specs.Text.{end_text, version_text}
+use Rattle.tc_histtext.specs.Text.{histories_text, logs_text}
+use Rattle.tc_histline.specs.declared.versions.Version.TheVariants.{Two}
 use Rattle.tc_runner.specs.Cores.{histories}
 use Rattle.tc_io.proofs.Flows.{amid}
 use Rattle.tucson.proofs.Zipped.{text_is, then_last, then_more}

@@ -1,0 +1,13 @@
+pub mod Found
+pub mod ReadWords
+pub mod Repeated
+pub mod ClauseTexts
+pub mod ReadOperations
+pub mod ReadOutcomes
+pub mod OneLine
+pub mod ReadItems
+pub mod ReadRows
+pub mod ReadEntries
+pub mod ReadLines
+pub mod OneLineText
+pub mod TypedLines

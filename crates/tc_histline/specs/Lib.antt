@@ -1,0 +1,11 @@
+pub mod Headings
+pub mod Text
+pub mod Words
+pub mod Operations
+pub mod Outcomes
+pub mod Items
+pub mod Lines
+pub mod Rows
+pub mod Entries
+pub mod WrittenLines
+pub mod TypedLines

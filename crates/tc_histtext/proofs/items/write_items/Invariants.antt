@@ -1,7 +1,0 @@
-use Rattle.std.proofs.Common.{◌≡◌, ◌++◌, take}
-use Rattle.tc_histtext.specs.Text.{items_text}
-use Rattle.tc_histtext.proofs.items.write_items.Given as goal
-
--- the reactions so far are written
-abbrev pub invariant-loop-item : goal.invariant-loop-item
-invariant-loop-item l = l.into.items ≡ l.fn.into.items ++ items_text (take l.item-index l.items)
