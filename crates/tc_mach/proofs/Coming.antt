@@ -156,3 +156,8 @@ module _ (C A : List (List ℕ)) where
           ∙ (ap (flat_map (line_text r.version A)) (sym whole.lines)
           ∙ (ap (λ v. flat_map (line_text v A) (lines_of C A t)) (sym whole.version) ∙ sym (grouped C A t)))));
     }
+
+-- what stands behind a line is shorter
+pub behind-shorter : (A : List (List ℕ)) → LineLaws A → (v : Version) (l : Line) (size : ℕ) (rest : List ℕ) → HasLine v A l → rest ≡ line_text v A l ++ drop size rest → length (drop size rest) < length rest
+behind-shorter A laws v l size rest has front =
+    omega (arith, some-byte A laws v l has, ap length front, length-append (line_text v A l) (drop size rest))

@@ -1,5 +1,6 @@
 //! Texts, read back.
-ghost use Rattle.std.specs.Prelude.{◌≡◌, ◌≢◌, ◌<◌, ◌^◌, ℕ, All, AllPairs, IfErr, IfOk, length};
+ghost use Rattle.std.specs.Prelude.{◌≡◌, ◌≢◌, ◌<◌, ◌≤◌, ◌^◌, ℕ, All, AllPairs, IfErr, IfOk, drop};
+ghost use Rattle.std.specs.Prelude.{length};
 ghost use Rattle.tc_model.specs.Typed.{AreBytes};
 ghost use Rattle.tc_mach.specs.Answers.{IsFound, IsTextFault, IsThisLine, IsWant};
 ghost use Rattle.tc_mach.specs.Laws.{LineLaws};
@@ -107,13 +108,21 @@ fn find(
         if !reading.take(alloc, centres, agents, line)? {
             return Ok(Found::Fault(count + 1));
         }
-        rest = &rest[size..];
+        rest = behind(rest, size);
         count += 1;
     }
     match reading.finish() {
         Some(text) => Ok(Found::Text(text)),
         None => Ok(Found::Fault(count + 1)),
     }
+}
+
+// What stands behind so many bytes.
+fn behind(bytes: &[u8], size: usize) -> &[u8]
+    requires within { size ≤ length bytes.now }
+    ensures { result.now ≡ drop size bytes.now }
+{
+    &bytes[size..]
 }
 
 // Tells contracts that the names are bytes, and does nothing.
