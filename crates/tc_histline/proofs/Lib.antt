@@ -11,3 +11,5 @@ pub mod ReadEntries
 pub mod ReadLines
 pub mod OneLineText
 pub mod TypedLines
+pub mod LineFeeds
+pub mod LineEnds

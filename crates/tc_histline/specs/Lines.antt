@@ -1,5 +1,5 @@
 -- Lines: the text of each, and which lines there are.
-use Rattle.std.specs.Prelude.{◌≡◌, ◌<◌, ◌++◌, ℕ, List, [], drop, length}
+use Rattle.std.specs.Prelude.{◌≡◌, ◌≢◌, ◌<◌, ◌++◌, ◌∷◌, ℕ, List, [], All, drop, length}
 use Rattle.tc_model.specs.Calls.{id_of}
 use Rattle.tc_model.specs.Typed.{AreBytes, Is32, Is64, IsTyped}
 use Rattle.tc_model.specs.declared.entries.Entry.{Entry}
@@ -84,6 +84,16 @@ HasLine v agents (line.Entry e) = HasEntryLine v agents e
 HasLine v agents (line.Reaction i) = HasItemLine i
 HasLine v agents (line.Row row) = HasRowLine v row
 HasLine v agents (line.End blocked) = Unit {0}
+
+-- no line feed stands there
+abbrev pub HasNoFeed : List ℕ → Type 0
+HasNoFeed bytes = All (λ b. b ≢ 10) bytes
+
+-- the last byte is a line feed, and no other
+pub record EndsOnce (bytes : List ℕ) : Type 0 where
+  pub front : List ℕ
+  pub clean : HasNoFeed front
+  pub ends : bytes ≡ front ++ 10 ∷ []
 
 -- the line stands at the front of the bytes, so many bytes long
 pub record IsLineAt (v : Version) (agents : List (List ℕ)) (bytes : List ℕ) (l : Line) (size : ℕ)

@@ -2,7 +2,7 @@
 ghost use Rattle.std.specs.Prelude.{◌≡◌, ◌≢◌, ◌++◌, AllPairs, List, ℕ};
 ghost use Rattle.tc_lists.specs.AtFront.{AlwaysTakes, IsReadAgain};
 ghost use Rattle.tc_histline.specs.Items.{HasItemLine, item_at};
-ghost use Rattle.tc_histline.specs.Lines.{HasLine, line_text};
+ghost use Rattle.tc_histline.specs.Lines.{EndsOnce, HasLine, line_text};
 ghost use Rattle.tc_histline.specs.Operations.{IsWrittenIn, op_at, written_text};
 ghost use Rattle.tc_histline.specs.Outcomes.{IsOutcomeIn, IsToldIn, ended, ended_text, outcome_at};
 ghost use Rattle.tc_histline.specs.Outcomes.{told_at};
@@ -37,4 +37,10 @@ pub fn lines_of_one_text_are_one()
     ensures { (v : Version) (agents : List (List ℕ)) (l m : Line) (rest more : List ℕ)
         → AllPairs ◌≢◌ agents → HasLine v agents l → HasLine v agents m
         → line_text v agents l ++ rest ≡ line_text v agents m ++ more → (l ≡ m) × (rest ≡ more) }
+{}
+
+/// A line has one line feed, its last byte.
+pub fn lines_end_once()
+    ensures { (v : Version) (agents : List (List ℕ)) (l : Line) → HasLine v agents l
+        → EndsOnce (line_text v agents l) }
 {}
