@@ -56,7 +56,7 @@ quote-part word text clean = feedless-append word (quoted text) clean (feedless-
 
 applied-part : (p : Primitive) (operand : List ℕ) → HasNoFeed (primitive_name p) → HasNoFeed operand → HasNoFeed (applied_text p operand)
 applied-part p operand name is =
-    feedless-joined (primitive_name p ∷ codes "(" ∷ operand ∷ codes ")" ∷ []) (name, feedless (codes "(") refl, is, feedless (codes ")") refl, tt)
+    feedless-joined (primitive_name p ∷ codes "(" ∷ operand ∷ codes ")" ∷ []) (name, (feedless (codes "(") refl, (is, (feedless (codes ")") refl, tt))))
 
 op-part : (v : Version) (o : Op) → IsWrittenIn v (written_op o) → HasNoFeed (op_text o)
 op-part v (Out t) is = applied-part primitive.Out (canonical t) (feedless (primitive_name primitive.Out) refl) (feedless-tuple t is)
@@ -124,12 +124,12 @@ refusal-part v refusal.TooBig is = feedless (codes "too big") refl
 refusal-part v refusal.NotGround is = feedless (codes "not ground") refl
 refusal-part v (refusal.BadSpec bad) is =
     feedless-joined (codes "bad spec " ∷ decimal bad.clause ∷ codes " " ∷ cause_text bad.cause ∷ [])
-    (feedless (codes "bad spec ") refl, feedless-decimal bad.clause (omega (arith, is)), feedless (codes " ") refl, cause-part bad.cause, tt)
+    (feedless (codes "bad spec ") refl, (feedless-decimal bad.clause (omega (arith, is)), (feedless (codes " ") refl, (cause-part bad.cause, tt))))
 refusal-part v refusal.TurnsSpent is = feedless (codes "turns spent") refl
 refusal-part One (refusal.Full weight pending) is = feedless (codes "full") refl
 refusal-part Two (refusal.Full weight pending) is =
     feedless-joined (codes "full " ∷ decimal weight ∷ codes " " ∷ decimal pending ∷ [])
-    (feedless (codes "full ") refl, feedless-decimal weight is.0, feedless (codes " ") refl, feedless-decimal pending is.1, tt)
+    (feedless (codes "full ") refl, (feedless-decimal weight is.0, (feedless (codes " ") refl, (feedless-decimal pending is.1, tt))))
 refusal-part v refusal.NoMemory is = absurd is
 
 result-part : (v : Version) (r : LogResult) → IsResultIn v r → HasNoFeed (result_text v r)
@@ -158,7 +158,7 @@ place-part n small = feedless-decimal n (omega (arith, small))
 call-part : (agents : List (List ℕ)) (id : CallId) → IsTypedId id → HasNoFeed (call_text agents id)
 call-part agents id is =
     feedless-joined (atom_text (get_or agents id.agent []) ∷ codes " " ∷ decimal id.number ∷ [])
-    (feedless-atom (get_or agents id.agent []), feedless (codes " ") refl, feedless-decimal id.number is.number, tt)
+    (feedless-atom (get_or agents id.agent []), (feedless (codes " ") refl, (feedless-decimal id.number is.number, tt)))
 
 pub line-ends : (v : Version) (agents : List (List ℕ)) (l : Line) → HasLine v agents l → EndsOnce (line_text v agents l)
 line-ends v agents (line.First One) is = ends (codes "tucson 1" ∷ []) (feedless (codes "tucson 1") refl, tt)
@@ -166,48 +166,23 @@ line-ends v agents (line.First Two) is = ends (codes "tucson 2" ∷ []) (feedles
 line-ends v agents (line.End true) is = ends (codes "end blocked" ∷ []) (feedless (codes "end blocked") refl, tt)
 line-ends v agents (line.End false) is = ends (codes "end ended" ∷ []) (feedless (codes "end ended") refl, tt)
 line-ends v agents (line.Centre name) is =
-    ends (codes "centre " ∷ atom_text name ∷ []) (feedless (codes "centre ") refl, feedless-atom name, tt)
+    ends (codes "centre " ∷ atom_text name ∷ []) (feedless (codes "centre ") refl, (feedless-atom name, tt))
 line-ends v agents (line.Agent name) is =
-    ends (codes "agent " ∷ atom_text name ∷ []) (feedless (codes "agent ") refl, feedless-atom name, tt)
+    ends (codes "agent " ∷ atom_text name ∷ []) (feedless (codes "agent ") refl, (feedless-atom name, tt))
 line-ends v agents (line.Reaction (Fired p c es)) is =
     ends (codes "  " ∷ decimal p ∷ codes " fired " ∷ decimal c ∷ effects_text es ∷ [])
-    (feedless (codes "  ") refl, place-part p is.0.0, feedless (codes " fired ") refl, place-part c is.0.1, effects-part es is.0.2, tt)
+    (feedless (codes "  ") refl, (place-part p is.0.0, (feedless (codes " fired ") refl, (place-part c is.0.1, (effects-part es is.0.2, tt)))))
 line-ends v agents (line.Reaction (Failed p c g es)) is =
-    ends (codes "  " ∷ decimal p ∷ codes " failed " ∷ decimal c ∷ codes " at " ∷ decimal g ∷ effects_text es ∷ []) (
-      feedless (codes "  ") refl,
-      place-part p is.0.0,
-      feedless (codes " failed ") refl,
-      place-part c is.0.1,
-      feedless (codes " at ") refl,
-      place-part g is.0.2,
-      effects-part es is.0.3,
-      tt,
-    )
+    ends (codes "  " ∷ decimal p ∷ codes " failed " ∷ decimal c ∷ codes " at " ∷ decimal g ∷ effects_text es ∷ []) (feedless (codes "  ") refl, (place-part p is.0.0, (feedless (codes " failed ") refl, (place-part c is.0.1, (feedless (codes " at ") refl, (place-part g is.0.2, (effects-part es is.0.3, tt)))))))
 line-ends v agents (line.Row row) is =
     ends (decimal row.number ∷ codes " " ∷ atom_text row.centre ∷ codes " " ∷ result_text v row.result ∷ [])
-    (feedless-decimal row.number is.number, feedless (codes " ") refl, feedless-atom row.centre, feedless (codes " ") refl, result-part v row.result is.written, tt)
+    (feedless-decimal row.number is.number, (feedless (codes " ") refl, (feedless-atom row.centre, (feedless (codes " ") refl, (result-part v row.result is.written, tt)))))
 line-ends v agents (line.Entry (Called id o r items)) is =
     subst (λ es. EndsOnce (line_text v agents (line.Entry (Called id o r es)))) (sym is.written.2)
-    (ends (codes "call " ∷ call_text agents id ∷ codes " " ∷ op_text o ∷ codes " = " ∷ outcome_text r ∷ []) (
-      feedless (codes "call ") refl,
-      call-part agents id is.typed.0,
-      feedless (codes " ") refl,
-      op-part v o is.written.0,
-      feedless (codes " = ") refl,
-      outcome-part v r is.written.1,
-      tt,
-    ))
+    (ends (codes "call " ∷ call_text agents id ∷ codes " " ∷ op_text o ∷ codes " = " ∷ outcome_text r ∷ []) (feedless (codes "call ") refl, (call-part agents id is.typed.0, (feedless (codes " ") refl, (op-part v o is.written.0, (feedless (codes " = ") refl, (outcome-part v r is.written.1, tt)))))))
 line-ends v agents (line.Entry (Gave id r items)) is =
     subst (λ es. EndsOnce (line_text v agents (line.Entry (Gave id r es)))) (sym is.written.1)
     (ends (codes "give " ∷ call_text agents id ∷ codes " = " ∷ outcome_text r ∷ [])
-    (feedless (codes "give ") refl, call-part agents id is.typed.0, feedless (codes " = ") refl, outcome-part v r is.written.0, tt))
+    (feedless (codes "give ") refl, (call-part agents id is.typed.0, (feedless (codes " = ") refl, (outcome-part v r is.written.0, tt)))))
 line-ends v agents (line.Entry (Looked id asked told)) is =
-    ends (codes "look " ∷ call_text agents id ∷ codes " " ∷ decimal asked ∷ codes " = " ∷ told_text told ∷ []) (
-      feedless (codes "look ") refl,
-      call-part agents id is.typed.0,
-      feedless (codes " ") refl,
-      feedless-decimal asked is.typed.1,
-      feedless (codes " = ") refl,
-      told-part v told is.written,
-      tt,
-    )
+    ends (codes "look " ∷ call_text agents id ∷ codes " " ∷ decimal asked ∷ codes " = " ∷ told_text told ∷ []) (feedless (codes "look ") refl, (call-part agents id is.typed.0, (feedless (codes " ") refl, (feedless-decimal asked is.typed.1, (feedless (codes " = ") refl, (told-part v told is.written, tt))))))

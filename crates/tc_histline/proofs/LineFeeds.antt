@@ -21,7 +21,7 @@ use Rattle.tc_histline.specs.Lines.{HasNoFeed}
 
 -- words and digits
 
-no_feed : ℕ → Bool
+abbrev no_feed : ℕ → Bool
 no_feed b = not (b == 10)
 
 -- a text that can be looked through
