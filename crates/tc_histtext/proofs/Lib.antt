@@ -2,3 +2,15 @@ pub mod Agents
 pub mod Texts
 pub mod OneText
 pub mod OneRun
+pub mod Machine
+pub mod Completing
+pub mod Growing
+pub mod Steps
+pub mod LineEnds
+pub mod LineLaws
+pub mod Regrouping
+pub mod Decoding
+pub mod Coming
+pub mod OneList
+pub mod OneAnswer
+pub mod Unknown

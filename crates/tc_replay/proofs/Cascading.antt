@@ -1,5 +1,5 @@
 -- What items record fixes where a cascade leads.
-use Rattle.std.proofs.Common.{◌≡◌, ℕ, zero, suc, ◌<◌, ◌⊎◌, inl, inr, List, [], ◌∷◌, ◌++◌, Contains, AllPairs, refl, sym, ap₂, subst, ◌∙◌, ⊎_elim, arith}
+use Rattle.std.proofs.Common.{◌≡◌, ℕ, zero, suc, ◌<◌, ◌≤◌, length, take, take_all, ◌⊎◌, inl, inr, List, [], ◌∷◌, ◌++◌, Contains, AllPairs, refl, sym, ap₂, subst, ◌∙◌, ⊎_elim, arith}
 use Rattle.tc_lists.proofs.Pairs.{AllPairs-tail}
 use Rattle.tc_term.specs.Tree.{Tree}
 use Rattle.tc_model.specs.Choices.{Choice}
@@ -70,3 +70,46 @@ module _ (clauses : List Rule) where
         let same = triggers-same (e ∷ []) a.first b.first a.triggers b.triggers in
         cascades-same items (record { tuples = tuples; triggered = b.first }) x y
         (subst (λ ms. Cascades choice clauses setting items (record { tuples = tuples; triggered = ms }) x) same a.cascades) b.cascades
+
+    -- items behind others
+    cascades_join : (is js : List Item) (w mid end : Wave) → Cascades choice clauses setting is w mid → Cascades choice clauses setting js mid end
+        → Cascades choice clauses setting (is ++ js) w end
+    cascades_join [] js w mid end a b = subst (λ (q : Wave). Cascades choice clauses setting js q end) a b
+    cascades_join (i ∷ is) js w mid end a b = (a.0, a.1, cascades_join is js a.0 mid end a.2 b)
+
+    cascades_split : (is js : List Item) (w end : Wave) → Cascades choice clauses setting (is ++ js) w end
+        → (mid : Wave) × Cascades choice clauses setting is w mid × Cascades choice clauses setting js mid end
+    cascades_split [] js w end c = (w, refl, c)
+    cascades_split (i ∷ is) js w end c =
+        let s = cascades_split is js c.0 end c.2 in
+        (s.0, (c.0, c.1, s.1), s.2)
+
+    module _ (e : Occurrence) (tuples : List Tree) where
+      -- no item yet
+      pub begins-first : (is : List Item) (first : List Member) → is ≡ [] → Triggers clauses (e ∷ []) first
+          → Begins choice clauses setting e tuples is (record { tuples = tuples; triggered = first })
+      begins-first is first none triggers =
+          subst (λ js. Begins choice clauses setting e tuples js (record { tuples = tuples; triggered = first })) (sym none)
+          (record { first = first; triggers = triggers; cascades = refl })
+
+      -- one more item
+      pub begins-more : (is : List Item) (i : Item) (w next : Wave) → Begins choice clauses setting e tuples is w
+          → IsTried choice clauses setting w i next → Begins choice clauses setting e tuples (is ++ i ∷ []) next
+      begins-more is i w next b tried = record {
+        first = b.first;
+        triggers = b.triggers;
+        cascades = cascades_join is (i ∷ []) (record { tuples = tuples; triggered = b.first }) w next b.cascades (next, tried, refl);
+      }
+
+      -- an item that can't be tried where the items before it lead
+      pub begins-none : (is : List Item) (i : Item) (js : List Item) (w end : Wave) → Begins choice clauses setting e tuples is w
+          → ((next : Wave) → IsTried choice clauses setting w i next → ⊥) → Begins choice clauses setting e tuples (is ++ i ∷ js) end → ⊥
+      begins-none is i js w end b none all =
+          let s = cascades_split is (i ∷ js) (record { tuples = tuples; triggered = all.first }) end all.cascades in
+          let same = begins-same e tuples is s.0 w (record { first = all.first; triggers = all.triggers; cascades = s.1 }) b in
+          none s.2.0 (subst (λ (q : Wave). IsTried choice clauses setting q i s.2.0) same s.2.1)
+
+      -- all items
+      pub begins-all : (is : List Item) (n : ℕ) (w : Wave) → length is ≤ n → Begins choice clauses setting e tuples (take n is) w
+          → Begins choice clauses setting e tuples is w
+      begins-all is n w all b = subst (λ js. Begins choice clauses setting e tuples js w) (take_all n is all) b

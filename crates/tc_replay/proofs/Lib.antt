@@ -4,6 +4,9 @@ pub mod Followed
 pub mod Steps
 pub mod Equal
 pub mod Bodies
+pub mod Agendas
 pub mod Cascading
+pub mod Tried
+pub mod Endings
 pub mod Firsts
 pub mod QuietPoints

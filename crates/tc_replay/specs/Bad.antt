@@ -15,7 +15,8 @@ pub record IsBadAt (origin : Origin) (history : List Entry) (number : ℕ) : Typ
   pub run : IsRun origin (take place history)
   pub bad : MatchOption (slice_get history place)
       ((place ≡ length history) × (IsQuiescent (after_history (opening origin) history) → ⊥))
-      (λ e. IsLegal AnyOne origin (take place history) (after_history (opening origin) (take place history)) e → ⊥)
+      (λ e. IsLegal AnyOne origin (take place history)
+      (after_history (opening origin) (take place history)) e → ⊥)
 
 -- a run to a quiet state
 pub record IsQuietRun (origin : Origin) (history : List Entry) : Type 0 where

@@ -1,3 +1,5 @@
 pub mod Following
 pub mod Meeting
+pub mod Agendas
+pub mod Replays
 pub mod Bad

@@ -1,5 +1,8 @@
 //! The body of a reaction, beside the item that is recorded of it.
-ghost use Rattle.std.specs.Prelude.{◌≡◌, ◌≤◌, ◌+◌, ◌↔◌, [], false, IfOk, OnErr, IsTrue};
+ghost use Rattle.std.specs.Prelude.{◌≡◌, ◌≤◌, ◌+◌, ◌↔◌, ◌∷◌, [], false, IfOk, OnOk, OnErr, IsTrue};
+ghost use Rattle.tc_term.specs.Equations.{Solvable};
+ghost use Rattle.tc_term.specs.Variables.{raised, var_bound};
+ghost use Rattle.tc_unify.specs.Met.{met};
 ghost use Rattle.tc_model.specs.Bodies.{IsBody, IsFired, IsFailed};
 ghost use Rattle.tc_model.specs.Choices.{AnyOne};
 ghost use Rattle.tc_model.specs.Tuples.{after_effects, after_item};
@@ -142,7 +145,7 @@ fn fires(
 {
     let goals = r.goals();
     let vars = r.vars();
-    if !store.meet(r.head(), vars, e.term())? {
+    if !meet_head(store, r, e)? {
         return Ok(false);
     }
     lead(alloc, goals, vars, e, context, recorded, store, bag)
@@ -176,7 +179,7 @@ fn fails(
     if goals.len() <= place {
         return Ok(false);
     }
-    if !store.meet(r.head(), vars, e.term())? {
+    if !meet_head(store, r, e)? {
         return Ok(is_first(number, recorded));
     }
     if !lead(
@@ -192,6 +195,19 @@ fn fails(
         return Ok(false);
     }
     is_stuck(alloc, &goals[place], vars, e, context, store, bag)
+}
+
+// Whether the head of a reaction and the term of an event can be made equal. Then the store holds
+// their equation alone.
+fn meet_head(store: &mut Store, r: &Reaction, e: &Event) -> Result<bool, NoMemory>
+    ensures met { IfOk result (λ y. IsTrue y
+        → store.new ≡ met r.now.vars r.now.head e.now.term) }
+    ensures apart { IfOk result (λ y. y ≡ false → Solvable (r.now.vars + var_bound e.now.term)
+        ((r.now.head, raised r.now.vars e.now.term) ∷ []) → ⊥) }
+    ensures solvable { OnOk result (Solvable store.new.vars store.new.pairs) }
+{
+    let met = store.meet(r.head(), r.vars(), e.term())?;
+    Ok(met)
 }
 
 // Whether this is the number of the first goal, and nothing is recorded before it.

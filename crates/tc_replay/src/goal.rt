@@ -197,7 +197,8 @@ fn is_absent(alloc: Global, t: &Term, store: &mut Store, bag: &Bag) -> Result<bo
         → NoneOf (Matches store.old.vars store.old.pairs (tree_of t.now)) (tuples_of bag.now.now)) }
     ensures same { IfOk result (λ y. IsTrue y → store.new ≡ store.old) }
     ensures some { IfOk result (λ y. y ≡ false
-        → NoneOf (Matches store.old.vars store.old.pairs (tree_of t.now)) (tuples_of bag.now.now) → ⊥) }
+        → NoneOf (Matches store.old.vars store.old.pairs (tree_of t.now)) (tuples_of bag.now.now)
+        → ⊥) }
     ensures vars { store.new.vars ≡ store.old.vars }
     ensures solvable { Solvable store.new.vars store.new.pairs }
 {

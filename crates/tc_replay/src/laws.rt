@@ -1,5 +1,6 @@
 //! What recorded choices fix.
-ghost use Rattle.std.specs.Prelude.{◌≡◌, ◌≢◌, ◌≤◌, ◌++◌, ◌∷◌, [], false, List, Some, ℕ, length, take, slice_get};
+ghost use Rattle.std.specs.Prelude.{◌≡◌, ◌≢◌, ◌≤◌, ◌++◌, ◌∷◌, [], false, List, Some, ℕ, length};
+ghost use Rattle.std.specs.Prelude.{take, slice_get};
 ghost use Rattle.tc_term.specs.Tree.{Tree};
 ghost use Rattle.tc_model.specs.Cascades.{Begins, Wave};
 ghost use Rattle.tc_model.specs.Choices.{Choice, AnyOne};
@@ -9,7 +10,8 @@ ghost use Rattle.tc_model.specs.declared.items.Effect.{Effect};
 ghost use Rattle.tc_model.specs.State.{IsQuiescent, Origin, after_history, opening};
 ghost use Rattle.tc_model.specs.declared.entries.Entry.{Entry};
 ghost use Rattle.tc_replay.specs.Bad.{IsBadAt, IsGave, IsNoGave, IsQuietRun};
-ghost use Rattle.tc_replay.specs.Following.{HasNoStep, IsFollowed, LeadsNowhere, LeadsThere, has_effect};
+ghost use Rattle.tc_replay.specs.Following.{HasNoStep, IsFollowed, LeadsNowhere, LeadsThere};
+ghost use Rattle.tc_replay.specs.Following.{has_effect};
 ghost use Rattle.tc_model.specs.Events.{Occurrence, Setting};
 ghost use Rattle.tc_model.specs.Reactions.{Rule};
 ghost use Rattle.tc_model.specs.declared.items.Item.{Item};
@@ -46,7 +48,8 @@ pub fn plain_goals_do_one_thing()
         → Does AnyOne scene g m a → Does AnyOne scene g m b → moved a m ≡ moved b m }
 {}
 
-/// At most one entry of a history is the first that isn't legal, and a run to a quiet state has none.
+/// At most one entry of a history is the first that isn't legal, and a run to a quiet state has
+/// none.
 pub fn one_entry_is_the_first_bad_one()
     ensures one { (origin : Origin) (history : List Entry) (n m : ℕ) → IsBadAt origin history n
         → IsBadAt origin history m → n ≡ m }
@@ -54,8 +57,8 @@ pub fn one_entry_is_the_first_bad_one()
         → IsBadAt origin history n → ⊥ }
 {}
 
-/// In a run to a quiet state, the state before an entry is quiet exactly where the entry is no answer to
-/// a request.
+/// In a run to a quiet state, the state before an entry is quiet exactly where the entry is no
+/// answer to a request.
 pub fn entries_tell_quiet_points()
     ensures before { (origin : Origin) (history : List Entry) → IsQuietRun origin history → (n : ℕ)
         (e : Entry) → slice_get history n ≡ Some e → IsNoGave e

@@ -1,5 +1,6 @@
 //! Goals of a body, one after another, beside the effects that are recorded.
-ghost use Rattle.std.specs.Prelude.{◌≡◌, ◌≤◌, ◌<◌, ◌+◌, [], false, length, slice_get, IfOk, IsTrue, All, if◌then◌else◌};
+ghost use Rattle.std.specs.Prelude.{◌≡◌, ◌≤◌, ◌<◌, ◌+◌, [], false, length, slice_get, IfOk, IsTrue};
+ghost use Rattle.std.specs.Prelude.{All, if◌then◌else◌};
 ghost use Rattle.std.specs.Option.{option_copied};
 ghost use Rattle.tc_term.specs.Equations.{Solvable};
 ghost use Rattle.tc_term.specs.Variables.{var_bound};
@@ -17,8 +18,8 @@ use tc_unify::Store;
 
 /// Whether goals, of a body with so many variables, lead on with exactly these effects.
 ///
-/// Where they do, they lead to one end alone, and the equations and the tuples are those there. Else
-/// both may have changed.
+/// Where they do, they lead to one end alone, and the equations and the tuples are those there.
+/// Else both may have changed.
 pub fn lead(
     alloc: Global,
     goals: &[Goal],

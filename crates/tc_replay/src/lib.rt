@@ -1,12 +1,14 @@
-//! Bodies beside what is recorded of them: whether the goals of a reaction may have had these
-//! effects, whatever was chosen; and what recorded choices fix.
+//! Cascades and bodies beside what is recorded of them: whether these may be the items of a cascade
+//! from an event, and whether the goals of a reaction may have had these effects, whatever was
+//! chosen; and what recorded choices fix.
 //!
 //! What is recorded leaves one way at most, so nothing is searched or chosen here, and nothing is
-//! served: no code that runs bodies is used.
+//! served: no code that runs bodies or cascades is used.
 //!
 //! ```text
-//! if !is_body(alloc, &mut store, &reaction, &event, &context, &item, &mut bag)? {
-//!     // no choice leads to this item; the bag is as before
+//! let ending = Ending::Whole; // or Over, where the items are those of a phase that was refused
+//! if !is_cascade(alloc, &mut store, &spec, &event, &context, 100, &items, ending, &mut bag)? {
+//!     // no choice leads to these items; the bag has the marks that it had
 //! }
 //! ```
 //!
@@ -14,6 +16,9 @@
 //!
 //! | File | Holds |
 //! |---|---|
+//! | cascade | whether a cascade has these items and ends so |
+//! | trying | one item: the triggered reaction that it tells, tried; and what an event triggers |
+//! | agenda | the triggered reactions that are left |
 //! | body | whether a body may have fired with these effects, or failed at this goal |
 //! | leading | goals, one after another |
 //! | goal | one goal, by the effect that is recorded next; and whether a goal can do nothing |
@@ -21,13 +26,17 @@
 //! | laws | what recorded choices fix |
 #![tactic(auto)]
 
+mod agenda;
 mod body;
+mod cascade;
 mod goal;
 mod laws;
 mod leading;
 mod meeting;
+mod trying;
 
 pub use body::is_body;
+pub use cascade::{Ending, is_cascade};
 pub use goal::{follow, is_stuck};
 pub use laws::{
     a_body_is_followed_goal_by_goal, entries_tell_quiet_points, items_fix_the_cascade,

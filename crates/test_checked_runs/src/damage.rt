@@ -1,8 +1,7 @@
 //! Texts that are damaged on purpose, each of which the check has to tell.
-use crate::checking::check;
-use crate::fault::Fault;
 use std::alloc::Global;
 use tc_lists::NoMemory;
+use test_run_check::{Fault, check};
 
 /// How a text is damaged.
 #[derive(Clone, Copy, PartialEq, Eq, Debug)]

@@ -1,16 +1,13 @@
 //! What is damaged, and a line on whether the check tells it.
-use crate::checking::check;
 use crate::damage::{Damage, replaced, told};
-use crate::draws::{Draws, next_drawn};
-use crate::fault::Fault;
 use crate::lines::{append_outcome, append_verdict};
 use crate::running::run;
-use crate::texts::append_all;
 use std::alloc::Global;
 use std::sync::Wait;
 use std::thread::Threads;
 use tc_desk::NoGate;
 use tc_lists::append_number;
+use test_run_check::{Draws, Fault, append_all, check, next_drawn};
 
 // A configuration whose texts are damaged by hand.
 const SMALL: &[u8] = b"centre(c).\nrole(r).\ngrant(r,c,out).\ngrant(r,c,in).\ngrant(r,c,rd).\n\

@@ -1,10 +1,8 @@
 //! The lines that are printed on runs.
-use crate::checking::check;
-use crate::fault::Fault;
 use crate::running::Ran;
-use crate::texts::append_all;
 use std::alloc::Global;
 use tc_lists::{NoMemory, append_number};
+use test_run_check::{Fault, append_all, check};
 
 /// Appends what is run, how it has ended, and whether its text is right.
 pub fn append_line(

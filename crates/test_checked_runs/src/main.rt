@@ -1,12 +1,6 @@
 //! Runs whole configurations with one to 64 workers, and holds every text against a check of its own.
 //!
-//! The check (`checking`) shares no code with what serves calls: it reads the configuration, goes
-//! through the text call by call, and works out each line by plain lists of tuples and requests.
-//! Bodies of reactions are run over such a list too, and a cascade is a list of events.
-//! Only which agent calls next at a centre is taken from the text. That call has to be the one that
-//! the agent's script asks next, with the values that came before; so the histories of all centres
-//! together are those of calls that can have been made one after another, in script order. Whatever
-//! else stands in the text, a letter more or less, is told as wrong.
+//! The check is that of test_run_check, which shares no code with what serves calls.
 //!
 //! What is run, a line for each run:
 //!
@@ -24,30 +18,13 @@
 //! In that table a configuration stands behind each line `%% NAME`, and before the first a comment.
 #![tactic(auto)]
 
-mod agents;
-mod bodies;
-mod cascades;
-mod centres;
-mod checking;
-mod clauses;
 mod damage;
-mod draws;
-mod equations;
-mod fault;
-mod fixed;
 mod gates;
 mod harm;
 mod lines;
-mod lists;
-mod numbers;
-mod parts;
-mod reactive;
 mod report;
 mod rows;
 mod running;
-mod texts;
-mod values;
-mod worlds;
 
 use harm::report_damage;
 use report::{report_crowd, report_drawn, report_fixed, report_gate, report_rows};

@@ -1,17 +1,16 @@
 //! What is run, and a line on what has come of each run.
-use crate::draws::{Draws, next_drawn};
-use crate::fault::Fault;
-use crate::fixed::{crowd, lock, meeting, pairs, ring};
 use crate::gates::Held;
 use crate::lines::{append_line, append_verdict, append_workers};
-use crate::reactive::{barrier, counter, philosophers, replaced};
 use crate::rows::{Row, rows};
 use crate::running::run;
-use crate::texts::{append_all, append_count};
 use std::alloc::Global;
 use std::sync::Wait;
 use std::thread::Threads;
 use tc_desk::NoGate;
+use test_run_check::{
+    Draws, Fault, append_all, append_count, barrier, counter, crowd, lock, meeting, next_drawn,
+    pairs, philosophers, replaced, ring,
+};
 
 /// With how many workers each configuration is run.
 const WORKERS: [u64; 5] = [1, 2, 4, 8, 64];

@@ -1,7 +1,7 @@
 //! The rows of a table: configurations, each behind a line with its name.
-use crate::texts::{append, append_all};
 use std::alloc::Global;
 use tc_lists::NoMemory;
+use test_run_check::{append, append_all};
 
 /// A configuration and its name.
 #[derive(Drop)]

@@ -23,5 +23,5 @@ returns-clause-added c =
           draft-agent d c.push.new.list c.add.new.self c.args.name c.args.role c.in-Some.role c.requires.draft
           (subst IsName c.bytes.ensures c.tell_name.ensures) (sym c.place.ensures ∙ c.in-Some.is)
           (sym c.place-2.ensures ∙ none_from_is_some c.place-2.result (sym c.is_some.ensures ∙ c.if-is_some.false))
-          (omega arith) (c.in_ok-add.ensures ∙ ap (λ n. d.known_agents ++ n ∷ []) c.in_ok-known.ensures) grown;
+          (omega arith) (c.in_ok-add.ensures.added ∙ ap (λ n. d.known_agents ++ n ∷ []) c.in_ok-known.ensures) grown;
     }

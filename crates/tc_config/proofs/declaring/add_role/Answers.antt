@@ -15,5 +15,5 @@ returns-clause-added c =
           draft-role d c.push.new.list c.add.new.self c.args.name c.requires.draft
           (subst IsName c.bytes.ensures c.tell_name.ensures)
           (sym c.place.ensures ∙ none_from_is_some c.place.result (sym c.is_some.ensures ∙ c.if-is_some.false))
-          (omega arith) (c.in_ok-add.ensures ∙ ap (λ n. d.known_roles ++ n ∷ []) c.in_ok-known.ensures) c.in_ok-push.ensures;
+          (omega arith) (c.in_ok-add.ensures.added ∙ ap (λ n. d.known_roles ++ n ∷ []) c.in_ok-known.ensures) c.in_ok-push.ensures;
     }

@@ -1,15 +1,11 @@
 use Rattle.std.proofs.Common.{◌≡◌, ◌+◌, ◌-◌, [], length, length-take, All, sym, ap, subst, ◌∙◌, arith}
 use Rattle.std.proofs.lemmas.Bool.{true≢false}
 use Rattle.std.proofs.lemmas.List.Elements.{All-take}
-use Rattle.tc_term.specs.Equations.{Equations, Solvable}
-use Rattle.tc_term.specs.TreeView.{tree_of}
-use Rattle.tc_term.specs.Variables.{var_bound}
-use Rattle.tc_term.proofs.Numbered.{var_bound-pattern}
-use Rattle.tc_unify.proofs.MetTerms.{met-same}
+use Rattle.tc_term.specs.Equations.{Equations}
 use Rattle.tc_bag.specs.Stock.{tuples_of}
 use Rattle.tc_goals.specs.Moments.{moment}
 use Rattle.tc_model.specs.Within.{HasVarsBelow, terms_of}
-use Rattle.tc_model.proofs.Rules.{rule_goals, rule_head, rule_vars}
+use Rattle.tc_model.proofs.Rules.{rule_goals}
 use Rattle.tc_replay.proofs.Bodies.{begun_met, not_failed_outside, apart_failed, apart_only, fails_before, fails_yes, fails_no}
 use Rattle.tc_replay.proofs.body.fails.Goals as goal
 
@@ -23,41 +19,23 @@ returns-then-goals-place-clause-no c = λ _.
     not_failed_outside c.args.r.now c.args.e.now c.args.context.now (tuples_of c.args.bag.now.now) c.args.number c.args.recorded.now
     (λ some few. omega (arith, some, few, c.if-goals-place.true, ap length c.goals-goals.ensures.goals))
 
-pub meet-requires-clause-bound : goal.meet-requires-clause-bound
-meet-requires-clause-bound c =
-    let inside = (rule_head c.args.r.now c.head.ensures.rule).bound in
-    omega (arith, inside, ap var_bound c.head.ensures.head, c.vars-vars.ensures.vars)
-
-pub meet-requires-clause-few : goal.meet-requires-clause-few
-meet-requires-clause-few c =
-    let pattern = c.term.ensures.event.term in
-    let bound = var_bound-pattern c.args.e.now.term pattern in
-    let few = rule_vars c.args.r.now c.vars-vars.ensures.rule in
-    omega (arith, few, c.vars-vars.ensures.vars, bound, pattern.template.few, ap var_bound c.term.ensures.term)
-
 pub returns-then-not-branch-clause-yes : goal.returns-then-not-branch-clause-yes
 returns-then-not-branch-clause-yes c = λ y.
-    let apart = subst (λ (s : Equations). Solvable s.vars s.pairs → ⊥)
-    (met-same c.vars-vars.result c.args.r.now.vars (tree_of c.head.result.now) c.args.r.now.head c.term.result.now
-    c.args.e.now.term c.vars-vars.ensures.vars c.head.ensures.head c.term.ensures.term)
-    (c.in_ok-meet.ensures.apart c.if-not-branch.true) in
+    let apart = c.in_ok-meet_head.ensures.apart c.if-not-branch.true in
     let first = c.is_first.ensures.0 y in
     apart_failed c.args.r.now c.args.e.now c.args.context.now (tuples_of c.args.bag.now.now) apart
     c.goals-goals.ensures.rule.some c.args.number c.args.recorded.now first.0 first.1
 
 pub returns-then-not-branch-clause-no : goal.returns-then-not-branch-clause-no
 returns-then-not-branch-clause-no c = λ n fails.
-    let apart = subst (λ (s : Equations). Solvable s.vars s.pairs → ⊥)
-    (met-same c.vars-vars.result c.args.r.now.vars (tree_of c.head.result.now) c.args.r.now.head c.term.result.now
-    c.args.e.now.term c.vars-vars.ensures.vars c.head.ensures.head c.term.ensures.term)
-    (c.in_ok-meet.ensures.apart c.if-not-branch.true) in
+    let apart = c.in_ok-meet_head.ensures.apart c.if-not-branch.true in
     let first = apart_only c.args.r.now c.args.e.now c.args.context.now (tuples_of c.args.bag.now.now) apart
     c.goals-goals.ensures.rule.some c.args.number c.args.recorded.now fails in
     true≢false (sym (c.is_first.ensures.1 first) ∙ n)
 
 pub lead-requires-clause-width : goal.lead-requires-clause-width
 lead-requires-clause-width c =
-    omega (arith, ap (λ (s : Equations). s.vars) (c.in_ok-meet.ensures.met c.if-not-branch.false), ap var_bound c.term.ensures.term)
+    omega (arith, ap (λ (s : Equations). s.vars) (c.in_ok-meet_head.ensures.met c.if-not-branch.false), c.vars-vars.ensures.vars)
 
 pub lead-requires-clause-goals : goal.lead-requires-clause-goals
 lead-requires-clause-goals c =
@@ -79,18 +57,15 @@ lead-requires-clause-next c =
 
 pub returns-then-not-branch-2-clause-no : goal.returns-then-not-branch-2-clause-no
 returns-then-not-branch-2-clause-no c = λ _.
-    let is = c.in_ok-meet.ensures.met c.if-not-branch.false
-    ∙ met-same c.vars-vars.result c.args.r.now.vars (tree_of c.head.result.now) c.args.r.now.head c.term.result.now
-    c.args.e.now.term c.vars-vars.ensures.vars c.head.ensures.head c.term.ensures.term in
     let us = tuples_of c.args.bag.now.now in
     let at : c.args.number ≡ (c.args.number - 1) + 1 = omega (arith, c.if-number-eq0.false) in
-    fails_before c.args.r.now c.args.e.now c.args.context.now us c.vars-vars.result c.goals-goals.result.now (moment c.meet.new.self us []) c.args.recorded.now
-    (begun_met c.args.r.now c.args.e.now c.args.context.now us c.meet.new.self is) c.vars-vars.ensures.vars c.goals-goals.ensures.goals
+    fails_before c.args.r.now c.args.e.now c.args.context.now us c.vars-vars.result c.goals-goals.result.now (moment c.meet_head.new.store us []) c.args.recorded.now
+    (begun_met c.args.r.now c.args.e.now c.args.context.now us c.meet_head.new.store (c.in_ok-meet_head.ensures.met c.if-not-branch.false)) c.vars-vars.ensures.vars c.goals-goals.ensures.goals
     (c.args.number - 1) c.args.number at (c.in_ok-lead.ensures.no c.if-not-branch-2.true)
 
 pub is_stuck-requires-clause-width : goal.is_stuck-requires-clause-width
 is_stuck-requires-clause-width c =
-    omega (arith, c.lead.ensures.vars, ap (λ (s : Equations). s.vars) (c.in_ok-meet.ensures.met c.if-not-branch.false), ap var_bound c.term.ensures.term)
+    omega (arith, c.lead.ensures.vars, ap (λ (s : Equations). s.vars) (c.in_ok-meet_head.ensures.met c.if-not-branch.false), c.vars-vars.ensures.vars)
 
 pub is_stuck-requires-clause-goal : goal.is_stuck-requires-clause-goal
 is_stuck-requires-clause-goal c =
@@ -101,26 +76,20 @@ is_stuck-requires-clause-goal c =
 
 pub returns-clause-yes : goal.returns-clause-yes
 returns-clause-yes c =
-    let is = c.in_ok-meet.ensures.met c.if-not-branch.false
-    ∙ met-same c.vars-vars.result c.args.r.now.vars (tree_of c.head.result.now) c.args.r.now.head c.term.result.now
-    c.args.e.now.term c.vars-vars.ensures.vars c.head.ensures.head c.term.ensures.term in
     let us = tuples_of c.args.bag.now.now in
     let at : c.args.number ≡ (c.args.number - 1) + 1 = omega (arith, c.if-number-eq0.false) in
-    fails_yes c.args.r.now c.args.e.now c.args.context.now us c.vars-vars.result c.goals-goals.result.now (moment c.meet.new.self us []) c.args.recorded.now
-    (begun_met c.args.r.now c.args.e.now c.args.context.now us c.meet.new.self is) c.vars-vars.ensures.vars c.goals-goals.ensures.goals
+    fails_yes c.args.r.now c.args.e.now c.args.context.now us c.vars-vars.result c.goals-goals.result.now (moment c.meet_head.new.store us []) c.args.recorded.now
+    (begun_met c.args.r.now c.args.e.now c.args.context.now us c.meet_head.new.store (c.in_ok-meet_head.ensures.met c.if-not-branch.false)) c.vars-vars.ensures.vars c.goals-goals.ensures.goals
     (c.args.number - 1) c.args.number at
     c.index-goals-place.result c.lead.new.store (tuples_of c.lead.new.bag.now) c.if-goals-place.false c.index-goals-place.is
     (c.in_ok-lead.ensures.yes c.if-not-branch-2.false) c.is_stuck.result c.is_stuck.ensures.stuck
 
 pub returns-clause-no : goal.returns-clause-no
 returns-clause-no c =
-    let is = c.in_ok-meet.ensures.met c.if-not-branch.false
-    ∙ met-same c.vars-vars.result c.args.r.now.vars (tree_of c.head.result.now) c.args.r.now.head c.term.result.now
-    c.args.e.now.term c.vars-vars.ensures.vars c.head.ensures.head c.term.ensures.term in
     let us = tuples_of c.args.bag.now.now in
     let at : c.args.number ≡ (c.args.number - 1) + 1 = omega (arith, c.if-number-eq0.false) in
-    fails_no c.args.r.now c.args.e.now c.args.context.now us c.vars-vars.result c.goals-goals.result.now (moment c.meet.new.self us []) c.args.recorded.now
-    (begun_met c.args.r.now c.args.e.now c.args.context.now us c.meet.new.self is) c.vars-vars.ensures.vars c.goals-goals.ensures.goals
+    fails_no c.args.r.now c.args.e.now c.args.context.now us c.vars-vars.result c.goals-goals.result.now (moment c.meet_head.new.store us []) c.args.recorded.now
+    (begun_met c.args.r.now c.args.e.now c.args.context.now us c.meet_head.new.store (c.in_ok-meet_head.ensures.met c.if-not-branch.false)) c.vars-vars.ensures.vars c.goals-goals.ensures.goals
     (c.args.number - 1) c.args.number at
     c.index-goals-place.result c.lead.new.store (tuples_of c.lead.new.bag.now) c.if-goals-place.false c.index-goals-place.is
     (c.in_ok-lead.ensures.yes c.if-not-branch-2.false) c.is_stuck.result c.is_stuck.ensures.moves

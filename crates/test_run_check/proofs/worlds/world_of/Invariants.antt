@@ -1,5 +1,5 @@
 use Rattle.std.proofs.Common.{◌-◌, ◌≤◌, length}
-use Rattle.test_checked_runs.proofs.worlds.world_of.Given as goal
+use Rattle.test_run_check.proofs.worlds.world_of.Given as goal
 
 abbrev pub invariant-loop-world : goal.invariant-loop-world
 invariant-loop-world l = l.from ≤ length l.configuration

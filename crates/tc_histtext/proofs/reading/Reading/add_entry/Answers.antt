@@ -1,0 +1,21 @@
+use Rattle.std.proofs.Common.{ap, sym, subst, ◌∙◌}
+use Rattle.tc_histline.specs.declared.lines.Line.TheVariants as line
+use Rattle.tc_histtext.proofs.Steps.{Grows, adds_entry, some_history}
+use Rattle.tc_histtext.proofs.reading.Reading.add_entry.Goals as goal
+
+pub push_last-requires : goal.push_last-requires
+push_last-requires c =
+    let r = c.args.self.now in
+    record { some = some_history c.args.centres.now c.args.agents.now r.place r.histories.items r.logs.items (sym c.is_in_history.ensures ∙ c.if-not-is_in_history.false) c.requires.sound }
+
+pub returns : goal.returns
+returns c =
+    let r = c.args.self.now in
+    let centres = c.args.centres.now in
+    let agents = c.args.agents.now in
+    let entry = line.Entry c.args.entry in
+    let on = subst (λ q. Grows centres agents r.place r.version r.histories.items r.logs.items r.blocked entry q r.version c.push_last.new.lists.items r.logs.items r.blocked)
+    (sym c.place_behind-self.ensures)
+    (adds_entry centres agents r.place r.version r.histories.items c.push_last.new.lists.items r.logs.items r.blocked c.args.entry
+    (sym c.is_in_history.ensures ∙ c.if-not-is_in_history.false) c.requires.bare c.in_ok-push_last.ensures c.requires.sound) in
+    record { next = on.0; lines = on.1; sound = on.2 }
