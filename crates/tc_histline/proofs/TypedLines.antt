@@ -1,5 +1,5 @@
 -- What is read is a line, since the types of its parts promise the rest.
-use Rattle.std.proofs.Common.{◌≡◌, ◌-◌, ◌+◌, ℕ, List, [], ◌++◌, length, drop, Some, All, refl, sym, ap, subst, ◌∙◌, arith, length-append}
+use Rattle.std.proofs.Common.{◌≡◌, ◌≤◌, ◌-◌, ◌+◌, ℕ, List, [], ◌++◌, length, drop, Some, All, refl, sym, ap, subst, ◌∙◌, arith, length-append}
 use Rattle.std.proofs.lemmas.List.Elements.{All-nil}
 use Rattle.tc_lists.proofs.Parts.{drop_behind}
 use Rattle.tc_model.specs.Reactions.{AreClauses, Rule, clauses_text}
@@ -16,6 +16,7 @@ use Rattle.tc_histline.specs.TypedLines.{IsTypedLine}
 use Rattle.tc_histline.specs.WrittenLines.{IsCallIn, IsLineWritten, line_at}
 use Rattle.tc_histline.specs.declared.lines.Line.{Line}
 use Rattle.tc_histline.specs.declared.lines.Line.TheVariants as line
+use Rattle.tc_histline.specs.declared.lines.WrittenLine.{WrittenLine}
 use Rattle.tc_histline.specs.declared.lines.WrittenLine.TheVariants.{Plain, Replacing}
 use Rattle.tc_histline.specs.declared.read_operations.WrittenOp.TheVariants as op
 use Rattle.tc_histline.specs.declared.versions.Version.{Version}
@@ -86,6 +87,12 @@ module _ (v : Version) (agents : List (List ℕ)) where
     whole = omega (arith, behind, ap length stands, length-append (line_text v agents l) rest);
     stands = stands ∙ ap (λ more. line_text v agents l ++ more) (sym (drop_behind bytes (line_text v agents l) rest size stands behind));
   }
+
+  -- what stands behind a line is no longer than the bytes
+  pub rest-within : (bytes : List ℕ) (w : WrittenLine) (rest : List ℕ) → line_at v agents bytes ≡ Some (w, rest) → length rest ≤ length bytes
+  rest-within bytes w rest found =
+      let both = takes-some (IsLineWritten v agents) (written_line_text v agents) bytes (line_at v agents bytes) w rest (line_at-takes v agents bytes) found in
+      omega (arith, ap length both.1, length-append (written_line_text v agents w) rest)
 
   pub plain-stands : (bytes : List ℕ) (l : Line) (rest : List ℕ) (size : ℕ) → line_at v agents bytes ≡ Some (Plain l, rest) → IsTypedLine l
       → size + length rest ≡ length bytes → IsLineAt v agents bytes l size
