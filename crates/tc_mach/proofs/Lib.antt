@@ -1,9 +1,0 @@
-pub mod Machine
-pub mod Completing
-pub mod Growing
-pub mod Steps
-pub mod LineEnds
-pub mod Decoding
-pub mod Coming
-pub mod OneText
-pub mod OneAnswer

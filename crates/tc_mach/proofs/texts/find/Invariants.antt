@@ -1,9 +1,0 @@
-use Rattle.std.proofs.Common.{length}
-use Rattle.tc_mach.proofs.Coming.{HasCome}
-use Rattle.tc_mach.proofs.texts.find.Given as goal
-
-abbrev pub invariant-loop-rest : goal.invariant-loop-rest
-invariant-loop-rest l = HasCome l.centres l.agents l.text l.reading l.rest l.count
-
-abbrev pub decreases-loop-rest : goal.decreases-loop-rest
-decreases-loop-rest l = length l.rest
