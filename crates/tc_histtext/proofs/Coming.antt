@@ -97,7 +97,7 @@ module _ (C A : List (List ℕ)) where
         split ∙ (ap (λ x. flat_map (line_text v A) (k ∷ ks) ++ x) front
             ∙ (sym (append_assoc (flat_map (line_text v A) (k ∷ ks)) (line_text v A l) more)
             ∙ ap (λ x. x ++ more) (ap (λ x. flat_map (line_text v A) (k ∷ ks) ++ x) (sym (append-nil (line_text v A l)))
-                ∙ (sym (flat_map-append (line_text v A) (k ∷ ks) (l ∷ [])) ∙ ap (flat_map (line_text v A)) (sym same))))),
+            ∙ (sym (flat_map-append (line_text v A) (k ∷ ks) (l ∷ [])) ∙ ap (flat_map (line_text v A)) (sym same))))),
       )
 
   -- one more has come

@@ -43,7 +43,6 @@ module _ (A : List (List ℕ))
     (one : (v : Version) (l m : Line) (r s : List ℕ) → HasLine v A l → HasLine v A m → line_text v A l ++ r ≡ line_text v A m ++ s → (l ≡ m) × (r ≡ s))
     (ends : (v : Version) (l : Line) → HasLine v A l → EndsOnce (line_text v A l))
     (bare : (v : Version) (l : Line) → HasLine v A l → IsBare l) where
-
   abbrev texts : Version → List Line → List ℕ
   texts v ls = flat_map (line_text v A) ls
 
@@ -204,7 +203,6 @@ module _ (A : List (List ℕ))
     module _ (v : Version) (ls : List Line) (s : Stage) (starts : StartsWith v ls) (good : All (HasLine v A) ls) (taken : takes C A Start ls ≡ Some s)
         (x : List ℕ) (stuck : (k : Line) (r : List ℕ) → HasLine v A k → x ≡ line_text v A k ++ r → next C A s k ≡ None)
         (early : x ≡ [] → s ≡ Done → ⊥) where
-
       no_more : (t : Text) → length t.histories ≡ length C → length t.logs ≡ length A → (on : Behind v ls t x) → ⊥
       no_more t whole all on = by on.more on.lines on.text on.next
         where
@@ -249,8 +247,8 @@ module _ (A : List (List ℕ))
             begun = subst (IsBegun C A) (sym lines.same) (begun v ls s starts good taken names due);
             faulty = λ line more clean front begins.
                 no_line begins.text line begins.rest more clean front begins.is.histories begins.is.logs
-                    (behind v ls begins.text (ended line ++ begins.rest) starts good begins.is.lines
-                    (ap (λ l. l ++ (ended line ++ begins.rest)) (sym lines.same)
-                    ∙ (sym (append_assoc (flat_map ended lines.bytes) (ended line) begins.rest) ∙ (begins.is.is ∙ grouped begins.text))));
+                (behind v ls begins.text (ended line ++ begins.rest) starts good begins.is.lines
+                (ap (λ l. l ++ (ended line ++ begins.rest)) (sym lines.same)
+                ∙ (sym (append_assoc (flat_map ended lines.bytes) (ended line) begins.rest) ∙ (begins.is.is ∙ grouped begins.text))));
             unfinished = λ t is. no_more t is.histories is.logs (behind v ls t x starts good is.lines (sym split ∙ (is.is ∙ grouped t)));
           }

@@ -24,9 +24,13 @@ lines-longer (x ∷ xs) [] r s clean pure less same = absurd (omega (arith, less
 lines-longer (x ∷ xs) (y ∷ ys) r s clean pure less same =
     let both = ended-one x y (flat_map ended xs ++ r) (flat_map ended ys ++ s) (All-head HasNoFeed x xs clean) (All-head HasNoFeed y ys pure)
     (sym (append_assoc (ended x) (flat_map ended xs) r) ∙ (same ∙ append_assoc (ended y) (flat_map ended ys) s)) in
-    let on = lines-longer xs ys r s (All-tail HasNoFeed x xs clean) (All-tail HasNoFeed y ys pure) (omega (arith, less)) both.1 in
-    (on.0, on.1, on.2, on.3,
+    let on = lines-longer xs ys r s (All-tail HasNoFeed x xs clean) (All-tail HasNoFeed y ys pure) (omega (arith, less)) both.1 in (
+      on.0,
+      on.1,
+      on.2,
+      on.3,
       ap₂ (λ z zs. ended z ++ zs) (sym both.0) on.4
-      ∙ (ap (λ l. ended x ++ l) (append_assoc (flat_map ended xs) (ended on.0) on.1)
-      ∙ (sym (append_assoc (ended x) (flat_map ended xs) (ended on.0 ++ on.1))
-      ∙ sym (append_assoc (ended x ++ flat_map ended xs) (ended on.0) on.1))))
+          ∙ (ap (λ l. ended x ++ l) (append_assoc (flat_map ended xs) (ended on.0) on.1)
+          ∙ (sym (append_assoc (ended x) (flat_map ended xs) (ended on.0 ++ on.1))
+          ∙ sym (append_assoc (ended x ++ flat_map ended xs) (ended on.0) on.1))),
+    )

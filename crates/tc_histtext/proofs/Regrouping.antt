@@ -72,5 +72,5 @@ pub grouped : (C A : List (List ℕ)) (t : Text) → text_of C A t ≡ flat_map 
 grouped C A t =
     ap₂ (λ h l. version_text t.version ++ (h ++ (l ++ (end_text t.blocked ++ [])))) (histories-grouped t.version A C t.histories) (logs-grouped t.version A A t.logs)
     ∙ ap (λ x. version_text t.version ++ x)
-        (ap (λ x. texts t.version A (histories_lines C t.histories) ++ x) (sym (flat_map-append (line_text t.version A) (logs_lines A t.logs) (End t.blocked ∷ [])))
-        ∙ sym (flat_map-append (line_text t.version A) (histories_lines C t.histories) (logs_lines A t.logs ++ End t.blocked ∷ [])))
+    (ap (λ x. texts t.version A (histories_lines C t.histories) ++ x) (sym (flat_map-append (line_text t.version A) (logs_lines A t.logs) (End t.blocked ∷ [])))
+    ∙ sym (flat_map-append (line_text t.version A) (histories_lines C t.histories) (logs_lines A t.logs ++ End t.blocked ∷ [])))

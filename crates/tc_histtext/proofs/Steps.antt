@@ -167,7 +167,7 @@ module _ (C A : List (List ℕ)) where
       history_more hs gs ls (line.Entry e ∷ []) none
       (ap (histories_lines C) put.is
       ∙ (histories_lines-grow C put.before put.last (put.last ++ e ∷ []) (line.Entry e ∷ []) (omega (arith, few, ap length put.was, length-push put.before put.last))
-          (entries_lines-push put.last e (line.Entry e) (bare-line e bare))
+      (entries_lines-push put.last e (line.Entry e) (bare-line e bare))
       ∙ ap (λ x. histories_lines C x ++ line.Entry e ∷ []) (sym put.was)))
 
   entry_in : (v : Version) (hs gs : List (List Entry)) (ls : List (List TextRow)) (a : Bool) (e : Entry) → IsBareEntry e → 0 < length hs → length hs ≤ length C → ls ≡ [] → PutLast hs e gs
@@ -219,8 +219,8 @@ module _ (C A : List (List ℕ)) where
         ap (λ x. First v ∷ x) (history_more hs gs ls (Reaction i ∷ []) sound.2
             (ap (histories_lines C) put.is
             ∙ (histories_lines-grow C put.before (put.entries ++ put.last ∷ []) (put.entries ++ put.grown ∷ []) (Reaction i ∷ [])
-                (omega (arith, sound.1, ap length put.was, length-push put.before (put.entries ++ put.last ∷ [])))
-                (entries_lines-grow put.entries put.last put.grown (Reaction i ∷ []) put.put.lines)
+            (omega (arith, sound.1, ap length put.was, length-push put.before (put.entries ++ put.last ∷ [])))
+            (entries_lines-grow put.entries put.last put.grown (Reaction i ∷ []) put.put.lines)
             ∙ ap (λ x. histories_lines C x ++ Reaction i ∷ []) (sym put.was)))),
         (record { before = put.before; entries = put.entries; last = put.grown; is = put.is; reacts = put.put.reacts }, omega (arith, sound.1, same), sound.2),
       )

@@ -15,8 +15,8 @@ mod reading;
 pub use laws::{entries_of_runs_have_agents, text_grows_by_parts, texts_tell_their_histories};
 pub use read_texts::{Text, TextFault, read_text};
 pub use tc_histline::{
-    Heading, TextRow, Version, print_end, print_entry, print_heading, print_op, print_refusal, print_reply,
-    print_result, print_row, print_version,
+    Heading, TextRow, Version, print_end, print_entry, print_heading, print_op, print_refusal,
+    print_reply, print_result, print_row, print_version,
 };
 
 /// Memory has run out.

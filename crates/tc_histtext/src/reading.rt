@@ -184,17 +184,14 @@ impl Reading {
                 push_reaction(&mut self.histories, item)?;
                 Ok(true)
             }
-            Place::Start | Place::Before | Place::Within | Place::Telling | Place::Done => Ok(false),
+            Place::Start | Place::Before | Place::Within | Place::Telling | Place::Done => Ok(
+                false,
+            ),
         }
     }
 
     // Takes the line of a row.
-    fn add_row(
-        &mut self,
-        centres: &[Name],
-        agents: &[Name],
-        row: TextRow,
-    ) -> Result<bool, NoMemory>
+    fn add_row(&mut self, centres: &[Name], agents: &[Name], row: TextRow) -> Result<bool, NoMemory>
         requires sound { IsSound centres.now agents.now self.old }
         ensures { IfOk result (λ taken. Answers centres.now agents.now self.old
             (line.Row row) taken self.new) }
@@ -204,7 +201,9 @@ impl Reading {
                 push_last(&mut self.logs, row)?;
                 Ok(true)
             }
-            Place::Start | Place::Before | Place::Within | Place::Reacting | Place::Done => Ok(false),
+            Place::Start | Place::Before | Place::Within | Place::Reacting | Place::Done => Ok(
+                false,
+            ),
         }
     }
 
@@ -236,11 +235,7 @@ impl Reading {
                 logs: Seq::new(self.logs),
                 blocked: self.blocked,
             }),
-            Place::Start
-            | Place::Before
-            | Place::Within
-            | Place::Reacting
-            | Place::Telling => None,
+            Place::Start | Place::Before | Place::Within | Place::Reacting | Place::Telling => None,
         }
     }
 }

@@ -14,10 +14,10 @@ returns-then-not-may_tell c =
     let agents = c.args.agents.now in
     let name = c.args.name.now in
     elim c.then-not-may_tell.branch [
-      then-not-may_tell-via-then-not-may_tell w ↦ no_log_yet centres agents r.place r.histories.items r.logs.items name (sym c.may_tell.ensures ∙ w.if-not-may_tell.true) c.requires.sound
+      | then-not-may_tell-via-then-not-may_tell w ↦ no_log_yet centres agents r.place r.histories.items r.logs.items name (sym c.may_tell.ensures ∙ w.if-not-may_tell.true) c.requires.sound
       | then-not-may_tell-via-else-not-may_tell+then-not-is_next w ↦
-        other_log centres agents r.place r.histories.items r.logs.items name
-            (ap (λ k. is_next (drop k agents) name) (sym (w.len.ensures ∙ r.logs.ok.0)) ∙ (sym w.is_next.ensures ∙ w.if-not-is_next.true)) c.requires.sound
+          other_log centres agents r.place r.histories.items r.logs.items name
+          (ap (λ k. is_next (drop k agents) name) (sym (w.len.ensures ∙ r.logs.ok.0)) ∙ (sym w.is_next.ensures ∙ w.if-not-is_next.true)) c.requires.sound
     ]
 
 pub returns : goal.returns
