@@ -1,4 +1,4 @@
-use Rattle.std.proofs.Common.{◌≡◌, false, ◌×◌}
+use Rattle.std.proofs.Common.{◌≡◌, false}
 use Rattle.tc_desk.specs.Logs.{any_pending}
 use Rattle.tc_asks.specs.Progress.{HasTakenIn}
 use Rattle.crate_tests.proofs.asking.asks_after.Given as goal
