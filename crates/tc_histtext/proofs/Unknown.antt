@@ -17,4 +17,4 @@ not_before names name i differ inside is = by (place_of (take i names) name) ref
         let before : k < i = omega (arith, at.0, length-take i names) in
         absurd (
         differ k i name before inside
-        (sym (get_or-take names i k name before) ∙ (sym ((bytes_eq-Decides name (get_or (take i names) k name)).0 at.1) ∙ is)))
+        (sym (get_or-take i names k name before) ∙ (sym ((bytes_eq-Decides name (get_or (take i names) k name)).0 at.1) ∙ is)))

@@ -26,7 +26,8 @@ stage_at Telling centres agents = stage.Telling agents
 stage_at Done centres agents = stage.Done
 
 -- the stage behind so many histories and logs
-abbrev pub stage_behind : Place → List (List ℕ) → List (List ℕ) → List (List Entry) → List (List TextRow) → Stage
+abbrev pub stage_behind : Place
+    → List (List ℕ) → List (List ℕ) → List (List Entry) → List (List TextRow) → Stage
 stage_behind place centres agents hs ls =
     stage_at place (drop (length hs) centres) (drop (length ls) agents)
 
@@ -72,7 +73,8 @@ pub record MayReact (histories : List (List Entry)) : Type 0 where
   pub reacts : Reacts last
 
 -- what the place says of the histories and logs so far
-abbrev pub IsAt : Place → List (List ℕ) → List (List ℕ) → List (List Entry) → List (List TextRow) → Type 0
+abbrev pub IsAt : Place
+    → List (List ℕ) → List (List ℕ) → List (List Entry) → List (List TextRow) → Type 0
 IsAt Start centres agents hs ls = (hs ≡ []) × (ls ≡ [])
 IsAt Before centres agents hs ls = (hs ≡ []) × (ls ≡ [])
 IsAt Within centres agents hs ls = (0 < length hs) × (length hs ≤ length centres) × (ls ≡ [])
