@@ -27,6 +27,17 @@ pub fn found(
     })
 }
 
+/// The same with two names.
+pub fn found_two<'n>(
+    alloc: Global,
+    mark: Span,
+    pattern: &[u8],
+    first: &'n [u8],
+    second: &'n [u8],
+) -> Result<Finding, NoMemory> {
+    found(alloc, mark, pattern, &[first, second])
+}
+
 /// A finding whose place isn't known.
 pub fn found_nowhere(alloc: Global, pattern: &[u8]) -> Result<Finding, NoMemory> {
     Ok(Finding {

@@ -24,7 +24,7 @@ mod syntax;
 mod tokens;
 mod words;
 
-pub use advice::{Finding, found, found_nowhere, lent, sentence};
+pub use advice::{Finding, found, found_nowhere, found_two, lent, sentence};
 pub use excerpt::append_excerpt;
 pub use near::nearest;
 pub use parts::{argument, arguments, find, first_of, first_variable, inside, leaves, split};
@@ -32,4 +32,6 @@ pub use spans::{Span, line_ends, part, rest};
 pub use stuck::stuck_advice;
 pub use syntax::{Odd, Stuck, Why, clause_stop};
 pub use tokens::{Kind, Token, behind_layout, clause_end, last_end, next_token};
-pub use words::{CLAUSE_WORDS, EVENTS, PRIMITIVES, TESTS, form_of, goal_words, most_arguments};
+pub use words::{
+    clause_words, event_words, form_of, goal_words, most_arguments, primitive_words, test_words,
+};

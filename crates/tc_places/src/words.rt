@@ -1,12 +1,12 @@
 //! The words of configurations.
 
-/// What clauses begin with.
-pub const CLAUSE_WORDS: [&[u8]; 7] = [
+// What clauses begin with.
+const CLAUSE_WORDS: [&[u8]; 7] = [
     b"centre", b"tuple", b"spec", b"role", b"grant", b"agent", b"script",
 ];
 
-/// What an agent may do at a centre.
-pub const PRIMITIVES: [&[u8]; 9] = [
+// What an agent may do at a centre.
+const PRIMITIVES: [&[u8]; 9] = [
     b"out",
     b"in",
     b"rd",
@@ -18,8 +18,8 @@ pub const PRIMITIVES: [&[u8]; 9] = [
     b"get_spec",
 ];
 
-/// What a reaction may react to.
-pub const EVENTS: [&[u8]; 10] = [
+// What a reaction may react to.
+const EVENTS: [&[u8]; 10] = [
     b"out", b"in", b"rd", b"inp", b"rdp", b"no", b"nop", b"out_r", b"in_r", b"rd_r",
 ];
 
@@ -59,6 +59,26 @@ const GUARDED_GOALS: [&[u8]; 13] = [
 
 /// The tests of a guard.
 pub const TESTS: [&[u8]; 5] = [b"request", b"response", b"success", b"failure", b"true"];
+
+/// What clauses begin with.
+pub fn clause_words() -> &'static [&'static [u8]] {
+    &CLAUSE_WORDS
+}
+
+/// What an agent may do at a centre.
+pub fn primitive_words() -> &'static [&'static [u8]] {
+    &PRIMITIVES
+}
+
+/// What a reaction may react to.
+pub fn event_words() -> &'static [&'static [u8]] {
+    &EVENTS
+}
+
+/// The tests of a guard.
+pub fn test_words() -> &'static [&'static [u8]] {
+    &TESTS
+}
 
 /// The goals of a body, behind a guard or without one.
 pub fn goal_words(guarded: bool) -> &'static [&'static [u8]] {

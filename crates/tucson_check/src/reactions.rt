@@ -5,8 +5,8 @@ use std::alloc::Global;
 use tc_lists::NoMemory;
 use tc_model::{MOST_GOALS, MOST_TESTS, SpecCause, event_op_of};
 use tc_places::{
-    EVENTS, Finding, Span, TESTS, arguments, first_of, found, goal_words, leaves, lent,
-    most_arguments, nearest, part,
+    Finding, Span, arguments, event_words, first_of, found, found_two, goal_words, leaves,
+    most_arguments, nearest, part, test_words,
 };
 use tc_spec::{SpecFault, read_spec};
 use tc_term::{Name, Term};
@@ -61,12 +61,13 @@ fn head_advice(alloc: Global, text: &[u8], head: Span) -> Result<Finding, NoMemo
     if is_event(alloc, name)? {
         return found(alloc, head, b"an event has one argument: ~", &[name]);
     }
-    if let Some(near) = nearest(name, &EVENTS) {
-        return found(
+    if let Some(near) = nearest(name, event_words()) {
+        return found_two(
             alloc,
             mark,
             b"there is no event ~; did you mean ~?",
-            &[lent(name), lent(near)],
+            name,
+            near,
         );
     }
     found(
@@ -91,7 +92,7 @@ fn guard_advice(alloc: Global, text: &[u8], guard: Span) -> Result<Finding, NoMe
     for test in &tests {
         let name = part(text, *test);
         let is_whole = tests.len() == 1 || name != b"true".as_slice();
-        if is_whole && TESTS.iter().any(|word| *word == name) {
+        if is_whole && test_words().iter().any(|word| *word == name) {
             continue;
         }
         return test_advice(alloc, *test, name);
@@ -109,14 +110,15 @@ fn test_advice(alloc: Global, mark: Span, name: &[u8]) -> Result<Finding, NoMemo
     let near = match name {
         b"pre" => Some(b"request".as_slice()),
         b"post" => Some(b"response".as_slice()),
-        _ => nearest(name, &TESTS),
+        _ => nearest(name, test_words()),
     };
     if let Some(near) = near {
-        return found(
+        return found_two(
             alloc,
             mark,
             b"~ is no test of a guard; did you mean ~?",
-            &[lent(name), lent(near)],
+            name,
+            near,
         );
     }
     found(
@@ -171,7 +173,7 @@ fn goal_advice(alloc: Global, text: &[u8], goal: Span, guarded: bool) -> Result<
         } else {
             b"in a reaction without a guard the goal ~ is written ~"
         };
-        return found(alloc, mark, pattern, &[lent(name), lent(other)]);
+        return found_two(alloc, mark, pattern, name, other);
     }
     let words = goal_words(guarded);
     let is_word = words.iter().any(|word| *word == name);
@@ -192,11 +194,12 @@ fn goal_advice(alloc: Global, text: &[u8], goal: Span, guarded: bool) -> Result<
         );
     }
     if let Some(near) = nearest(name, words) {
-        return found(
+        return found_two(
             alloc,
             mark,
             b"there is no goal ~; did you mean ~?",
-            &[lent(name), lent(near)],
+            name,
+            near,
         );
     }
     found(

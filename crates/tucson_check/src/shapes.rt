@@ -5,8 +5,8 @@ use std::alloc::Global;
 use tc_lists::NoMemory;
 use tc_model::primitive_of;
 use tc_places::{
-    CLAUSE_WORDS, Finding, PRIMITIVES, Span, arguments, find, first_of, form_of, found, lent,
-    nearest, part,
+    Finding, Span, arguments, clause_words, find, first_of, form_of, found, found_two, nearest,
+    part, primitive_words,
 };
 use tc_term::Term;
 
@@ -45,11 +45,12 @@ pub fn shape_advice(
             names_advice(alloc, text, &spans, args)
         }
         (b"grant", [_, _, _]) => names_advice(alloc, text, &spans, args),
-        _ => found(
+        _ => found_two(
             alloc,
             first_of(text, span),
             b"~ has another number of arguments: @",
-            &[lent(word), lent(form)],
+            word,
+            form,
         ),
     }
 }
@@ -58,7 +59,7 @@ pub fn shape_advice(
 fn word_advice(alloc: Global, text: &[u8], span: Span) -> Result<Finding, NoMemory> {
     let mark = first_of(text, span);
     let word = part(text, mark);
-    let Some(near) = nearest(word, &CLAUSE_WORDS) else {
+    let Some(near) = nearest(word, clause_words()) else {
         return found(
             alloc,
             mark,
@@ -67,12 +68,7 @@ fn word_advice(alloc: Global, text: &[u8], span: Span) -> Result<Finding, NoMemo
         );
     };
     let form = form_of(near).unwrap_or(&[]);
-    found(
-        alloc,
-        mark,
-        b"did you mean ~, as in @",
-        &[lent(near), lent(form)],
-    )
+    found_two(alloc, mark, b"did you mean ~, as in @", near, form)
 }
 
 // The first of the names that is none, or a primitive that is none.
@@ -100,12 +96,13 @@ fn names_advice(
 /// What would be right where a name of a primitive is none.
 pub fn primitive_advice(alloc: Global, text: &[u8], mark: Span) -> Result<Finding, NoMemory> {
     let name = part(text, mark);
-    if let Some(near) = nearest(name, &PRIMITIVES) {
-        return found(
+    if let Some(near) = nearest(name, primitive_words()) {
+        return found_two(
             alloc,
             mark,
             b"there is no operation ~; did you mean ~?",
-            &[lent(name), lent(near)],
+            name,
+            near,
         );
     }
     found(
