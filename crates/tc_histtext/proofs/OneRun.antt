@@ -15,7 +15,8 @@ use Rattle.tc_histline.specs.Text.{end_text, version_text}
 use Rattle.tc_histtext.specs.Text.{histories_text, logs_text, run_text}
 use Rattle.tc_histline.specs.declared.versions.Version.{Version}
 use Rattle.tc_histline.specs.declared.versions.Version.TheVariants.{One, Two}
-use Rattle.tc_histtext.proofs.OneText.{StopsHistory, apart, histories-one}
+use Rattle.tc_histline.proofs.OneLine.{apart}
+use Rattle.tc_histtext.proofs.OneText.{StopsHistory, histories-one}
 
 -- an outcome of an answer had its tuple chosen
 answer-form : (o : Outcome) → IsAnswerOutcome o → IsOutcomeWellFormed o

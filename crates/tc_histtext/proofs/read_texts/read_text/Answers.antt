@@ -9,7 +9,7 @@ returns-in-Text-clause-same c t is =
     text-one c.args.centres.now c.args.agents.now (line_laws c.args.agents.now c.requires.differ) c.in-Text.text t c.args.text.now
     (subst (IsFound c.args.centres.now c.args.agents.now c.args.text.now) c.in-Text.is c.in_ok-text.ensures) is
 
-pub returns-in-Fault-clause-first : goal.returns-in-Fault-clause-first
-returns-in-Fault-clause-first c k is =
+pub returns-clause-first : goal.returns-clause-first
+returns-clause-first c k is =
     fault-one c.args.centres.now c.args.agents.now c.args.text.now c.in-Fault.line k
     (subst (IsFound c.args.centres.now c.args.agents.now c.args.text.now) c.in-Fault.is c.in_ok-text.ensures) is
