@@ -7,7 +7,7 @@ use tc_names::Names;
 use tc_term::Name;
 
 // Lines of each version.
-const COMMON: [&[u8]; 56] = [
+const COMMON: [&[u8]; 57] = [
     b"tucson 1\n",
     b"tucson 2\n",
     b"centre c\n",
@@ -25,6 +25,7 @@ const COMMON: [&[u8]; 56] = [
     b"call a 3 get_spec = spec 'reaction(out(a),true).\\n'\n",
     b"call a 4 set_spec('') = done\n",
     b"call a 4 set_spec('reaction(out(p(_0)),in_r(p(_0))).\\n') = done\n",
+    b"call a 4 set_spec('reaction(out(a),request,no(c)).\\n') = done\n",
     b"call a 5 out(a) = over pre\n",
     b"call a 5 inp(a) = over post\n",
     b"call a 5 inp(a) = over post a\n",
@@ -68,7 +69,7 @@ const COMMON: [&[u8]; 56] = [
 
 const ONE: [&[u8]; 1] = [b"1 c full\n"];
 
-const TWO: [&[u8]; 12] = [
+const TWO: [&[u8]; 11] = [
     b"1 c full 0 0\n",
     b"1 c full 4000000 18446744073709551615\n",
     b"1 c absent\n",
@@ -78,7 +79,6 @@ const TWO: [&[u8]; 12] = [
     b"call a 1 no(p(_0)) = pending\n",
     b"call a 1 no(p) = absent\n",
     b"call a 1 nop(p) = found p\n",
-    b"call a 4 set_spec('reaction(out(a),request,no(c)).\\n') = done\n",
     b"give a 1 = absent\n",
     b"look a 2 1 = absent\n",
 ];

@@ -37,7 +37,7 @@ pub fn unknown_advice(
             alloc,
             mark,
             b"@ is declared by @(NAME). in an earlier clause; did you mean ~ (@)?",
-            &[sort.phrase(), sort.word(), lent(near), place.as_slice()],
+            &four(sort.phrase(), sort.word(), near, place.as_slice()),
         );
     }
     if let Some(place) = declaring(alloc, text, sort, name)? {
@@ -45,7 +45,7 @@ pub fn unknown_advice(
             alloc,
             mark,
             b"@ is declared before it is used, and ~ is declared in @",
-            &[sort.phrase(), lent(name), place.as_slice()],
+            &three(sort.phrase(), name, place.as_slice()),
         );
     }
     if names.is_empty() {
@@ -65,6 +65,15 @@ pub fn unknown_advice(
     )?;
     finding.advice.extend_from_slice(&known)?;
     Ok(finding)
+}
+
+// Names that are lent for different times, in one list.
+fn three<'n>(first: &'n [u8], second: &'n [u8], third: &'n [u8]) -> [&'n [u8]; 3] {
+    [first, second, third]
+}
+
+fn four<'n>(first: &'n [u8], second: &'n [u8], third: &'n [u8], fourth: &'n [u8]) -> [&'n [u8]; 4] {
+    [first, second, third, fourth]
 }
 
 // Which names are declared, the first few with their places.

@@ -7,7 +7,7 @@ use std::alloc::Global;
 use tc_config::{AgentConf, CentreConf, Config};
 use tc_lists::NoMemory;
 use tc_model::primitive_of;
-use tc_places::{Span, arguments, inside, last_end, lent, line_ends, part, sentence, split};
+use tc_places::{Span, arguments, inside, last_end, line_ends, part, sentence, split};
 use tc_policy::Grant;
 use tc_term::{MOST_NODES, Name, Term};
 
@@ -265,18 +265,20 @@ fn denied_words(alloc: Global, config: &Config, grant: Grant) -> Result<Vec<u8>,
         Some(CentreConf { name, .. }) => name.bytes(),
         None => &[],
     };
-    let primitive = grant.primitive.name();
+    missing_words(alloc, role, centre, grant.primitive.name())
+}
+
+// Says that a role has no grant of a primitive at a centre.
+fn missing_words<'n>(
+    alloc: Global,
+    role: &'n [u8],
+    centre: &'n [u8],
+    primitive: &'n [u8],
+) -> Result<Vec<u8>, NoMemory> {
     sentence(
         alloc,
         b"~ is denied to the role ~ at ~: grant(@,@,@). isn't there",
-        &[
-            lent(primitive),
-            lent(role),
-            lent(centre),
-            lent(role),
-            lent(centre),
-            lent(primitive),
-        ],
+        &[primitive, role, centre, role, centre, primitive],
     )
 }
 
@@ -289,12 +291,17 @@ fn idle_words(alloc: Global, why: Idle, op: &[u8]) -> Result<Vec<u8>, NoMemory> 
             &[op],
         ),
         Idle::Guard => sentence(alloc, b"the guard holds of no event ~", &[op]),
-        Idle::Goal(goal) => sentence(
-            alloc,
-            b"no event ~ that comes here meets the goal ~, so this reaction never fires",
-            &[lent(op), lent(goal)],
-        ),
+        Idle::Goal(goal) => unmet_words(alloc, op, goal),
     }
+}
+
+// Says that no event meets a goal.
+fn unmet_words<'n>(alloc: Global, op: &'n [u8], goal: &'n [u8]) -> Result<Vec<u8>, NoMemory> {
+    sentence(
+        alloc,
+        b"no event ~ that comes here meets the goal ~, so this reaction never fires",
+        &[op, goal],
+    )
 }
 
 // Appends a warning of a clause, at one of its lines.
