@@ -1,5 +1,5 @@
 -- What is read by one thing after another: what each of them read.
-use Rattle.std.proofs.Common.{◌≡◌, ℕ, List, ◌++◌, Option, Some, None, refl, sym, ap, subst, ◌∙◌}
+use Rattle.std.proofs.Common.{◌≡◌, ℕ, List, ◌++◌, Option, Some, None, refl, ap, subst, ◌∙◌}
 use Rattle.std.proofs.lemmas.Option.{none-some, some_pair_parts}
 use Rattle.tc_lists.specs.AtFront.{Front, Takes, and_then, behind, closed, closed_by, made}
 use Rattle.tc_lists.specs.Texts.{after}

@@ -1,12 +1,10 @@
 -- A line has one line feed, at its end.
-use Rattle.std.proofs.Common.{◌≡◌, ◌<◌, ◌≤◌, ◌^◌, ℕ, true, false, List, [], ◌∷◌, ◌++◌, codes, get_or, Option, Some, None, IfSome, All, refl, sym, subst, ◌∙◌, arith}
+use Rattle.std.proofs.Common.{◌<◌, ◌^◌, ℕ, true, false, List, [], ◌∷◌, ◌++◌, codes, get_or, Option, Some, None, All, refl, sym, subst, arith}
 use Rattle.std.specs.Fmt.{decimal}
-use Rattle.std.specs.List.{flat_map}
 use Rattle.std.proofs.lemmas.List.Elements.{All-head, All-tail}
 use Rattle.tc_lists.specs.Texts.{joined}
 use Rattle.tc_term.specs.Text.{atom_text, canonical, quoted}
 use Rattle.tc_term.specs.Tree.{Tree, IsTuple}
-use Rattle.tc_term.specs.Variables.{IsPattern}
 use Rattle.tc_model.specs.Asks.{primitive_name}
 use Rattle.tc_model.specs.Reactions.{clauses_text}
 use Rattle.tc_model.specs.Typed.{IsTypedEffect, IsTypedId}

@@ -1,11 +1,11 @@
 -- No line feed stands in names, terms and texts in quotes as they are written.
-use Rattle.std.proofs.Common.{◌≡◌, ◌≢◌, ◌<◌, ◌≤◌, ◌-◌, ◌+◌, ◌^◌, ◌==◌, ◌&&◌, ℕ, ℤ, pos, negsuc, suc, Bool, true, false, not, max, if◌then◌else◌, List, [], ◌∷◌, ◌++◌, codes, length, get_or, Some, All, FitsSigned, refl, sym, ap, subst, ◌∙◌, arith}
+use Rattle.std.proofs.Common.{◌≡◌, ◌≢◌, ◌<◌, ◌≤◌, ◌-◌, ◌+◌, ◌^◌, ◌==◌, ◌&&◌, ℕ, ℤ, pos, negsuc, suc, Bool, true, false, not, List, [], ◌∷◌, ◌++◌, codes, get_or, FitsSigned, refl, sym, ap, subst, ◌∙◌, arith}
 use Rattle.std.specs.Fmt.{decimal, signed_decimal}
 use Rattle.std.specs.Int.{IsInRange}
 use Rattle.std.specs.List.{flat_map, list_all}
-use Rattle.std.proofs.lemmas.Bool.{and_parts, cond_both, eqb-false}
+use Rattle.std.proofs.lemmas.Bool.{and_parts, cond_both}
 use Rattle.std.proofs.lemmas.Fmt.{decimal_is_IsNumeral}
-use Rattle.std.proofs.lemmas.List.Elements.{All-append, All-cons, All-nil}
+use Rattle.std.proofs.lemmas.List.Elements.{All-append, All-cons}
 use Rattle.std.proofs.lemmas.List.Sums.{AllPass-from_list_all}
 use Rattle.std.proofs.lemmas.Option.{same_Some, slice_get-get_or}
 use Rattle.std.proofs.lemmas.Str.Parse.{digit_at}
@@ -14,7 +14,7 @@ use mir.Syntax.{w64}
 use Rattle.tc_term.specs.Bytes.{is_word, is_name_start}
 use Rattle.tc_term.specs.Text.{Place, Alone, Behind, applied, atom_text, before_element, canonical, empty_list, is_dot, is_name, is_nil, name_text, placed, quoted, quoted_byte, text_in, texts_of}
 use Rattle.tc_term.specs.Tree.{Tree, Variable, Atomic, Number, Compound, Trees, Last, More, HasIntegers, HaveIntegers, IsTuple}
-use Rattle.tc_term.specs.Variables.{IsPattern, renumbered, var_bound, var_bound_of_all}
+use Rattle.tc_term.specs.Variables.{IsPattern, var_bound, var_bound_of_all}
 use Rattle.tc_term.proofs.Numbered.{IsPattern-tuple, renumbered-pattern, var_bound-pattern}
 use Rattle.tc_read.proofs.Texts.{text_in-Atomic, text_in-Compound, text_in-Number, text_in-Variable, text_in-cell, text_in-nil, texts_of-Last, texts_of-More}
 use Rattle.tc_histline.specs.Lines.{HasNoFeed}

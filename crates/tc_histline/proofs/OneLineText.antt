@@ -14,7 +14,7 @@ use Rattle.tc_histline.specs.declared.lines.WrittenLine.{WrittenLine}
 use Rattle.tc_histline.specs.declared.lines.WrittenLine.TheVariants.{Plain, Replacing}
 use Rattle.tc_histline.specs.declared.versions.Version.{Version}
 use Rattle.tc_histline.proofs.ClauseTexts.{clauses_text-one}
-use Rattle.tc_histline.proofs.ReadLines.{AsWritten, Replaces, line-written, line_at-again}
+use Rattle.tc_histline.proofs.ReadLines.{Replaces, line-written, line_at-again}
 
 abbrev Parts : Type 0
 Parts = CallId × List ℕ × Outcome

@@ -5,15 +5,13 @@ use Rattle.std.proofs.lemmas.Bool.{leb-true, le-leb}
 use Rattle.tc_lists.specs.AtFront.{AlwaysTakes, Front, Takes, behind, closed_by}
 use Rattle.tc_lists.specs.Decimals.{StartsWithNoDigit}
 use Rattle.tc_lists.specs.Texts.{after}
-use Rattle.tc_lists.proofs.AtFront.{and_then-again, closed_by-again, made-again, or_else-first, or_else-takes}
+use Rattle.tc_lists.proofs.AtFront.{and_then-again, closed_by-again, made-again, or_else-takes}
 use Rattle.tc_term.specs.Text.{atom_text}
 use Rattle.tc_read.proofs.Again.{NoWord}
 use Rattle.tc_names.specs.Names.{place_of}
 use Rattle.tc_names.proofs.Declared.{place-name, place-own, place-within}
 use Rattle.tc_model.specs.Typed.{Is32, Is64}
 use Rattle.tc_model.specs.declared.calls.CallId.{CallId}
-use Rattle.tc_model.specs.declared.calls.Op.{Op}
-use Rattle.tc_model.specs.declared.entries.Entry.TheVariants.{Called, Gave, Looked}
 use Rattle.tc_model.specs.declared.outcomes.Outcome.{Outcome}
 use Rattle.tc_model.specs.declared.outcomes.Reply.{Reply}
 use Rattle.tc_histline.specs.Entries.{agent_at, call_at, call_of, called, called_at, entry_at, gave, gave_at, if_agent, looked, looked_at, named}

@@ -1,14 +1,12 @@
 -- Items: what is read stands there, and what is written is read again.
-use Rattle.std.proofs.Common.{◌≡◌, ◌<◌, ◌≤◌, ◌-◌, ◌^◌, ◌==◌, ℕ, zero, suc, Bool, true, false, if◌then◌else◌, List, [], ◌∷◌, ◌++◌, codes, length, Option, Some, None, All, refl, sym, ap, subst, ◌∙◌, arith, append_assoc, append-nil, length-append}
+use Rattle.std.proofs.Common.{◌≡◌, ◌<◌, ◌≤◌, ◌-◌, ◌^◌, ◌==◌, ℕ, zero, suc, Bool, true, false, if◌then◌else◌, List, [], ◌∷◌, ◌++◌, codes, length, Some, None, All, refl, sym, ap, subst, ◌∙◌, arith, append_assoc, append-nil, length-append}
 use Rattle.std.specs.Fmt.{decimal}
 use Rattle.std.specs.List.{flat_map}
 use Rattle.std.proofs.lemmas.Bool.{ne_eqb, eqb-false}
-use Rattle.std.proofs.lemmas.Option.{none-some, some_pair_parts}
 use Rattle.std.proofs.lemmas.List.Elements.{All-head, All-tail, All-nil, All-cons}
-use Rattle.tc_lists.specs.AtFront.{AlwaysTakes, Front, IsReadAgain, Takes, and_then, behind, closed, closed_by, or_else}
+use Rattle.tc_lists.specs.AtFront.{AlwaysTakes, Front, IsReadAgain, Takes, and_then, closed, closed_by, or_else}
 use Rattle.tc_lists.specs.Decimals.{number_at, StartsWithNoDigit}
 use Rattle.tc_lists.specs.Texts.{after}
-use Rattle.tc_lists.proofs.After.{after-takes}
 use Rattle.tc_lists.proofs.AtFront.{and_then-again, closed_by-again, closed_by-takes, number-takes, or_else-first}
 use Rattle.tc_lists.proofs.Decimals.{number_at-again}
 use Rattle.tc_read.specs.Canonical.{EndsTerm}

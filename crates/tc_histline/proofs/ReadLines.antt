@@ -1,10 +1,9 @@
 -- Lines: what is read stands there, what is written is read again, and lines of one text are one.
-use Rattle.std.proofs.Common.{◌≡◌, ◌≢◌, ◌⊎◌, inl, inr, ℕ, true, false, List, [], ◌∷◌, ◌++◌, codes, Some, AllPairs, refl, sym, ap, ap₂, subst, ◌∙◌}
-use Rattle.std.proofs.lemmas.Option.{some_pair_parts}
+use Rattle.std.proofs.Common.{◌≡◌, ◌≢◌, ◌⊎◌, inl, inr, ℕ, true, false, List, [], ◌++◌, codes, Some, AllPairs, refl, sym, ap, subst, ◌∙◌}
 use Rattle.tc_lists.specs.AtFront.{AlwaysTakes, IsReadAgain}
 use Rattle.tc_lists.proofs.AtFront.{between-again, between-takes, made-again, made-takes, or_else-first, or_else-takes, word_for-takes}
 use Rattle.tc_term.specs.Text.{atom_text}
-use Rattle.tc_model.specs.Reactions.{AreClauses, Rule, clauses_text}
+use Rattle.tc_model.specs.Reactions.{AreClauses, Rule}
 use Rattle.tc_model.specs.declared.calls.CallId.{CallId}
 use Rattle.tc_model.specs.declared.calls.Op.{Op}
 use Rattle.tc_model.specs.declared.calls.Op.TheVariants.{Out, In, Rd, Inp, Rdp, No, Nop, SetSpec, GetSpec}
@@ -12,7 +11,6 @@ use Rattle.tc_model.specs.declared.entries.Entry.TheVariants.{Called, Gave, Look
 use Rattle.tc_model.specs.declared.items.Item.{Item}
 use Rattle.tc_model.specs.declared.items.Item.TheVariants.{Fired, Failed}
 use Rattle.tc_model.specs.declared.outcomes.Outcome.{Outcome}
-use Rattle.tc_histline.specs.Entries.{entry_at}
 use Rattle.tc_histline.specs.Items.{HasItemLine, item_at}
 use Rattle.tc_histline.specs.Lines.{HasLine, line_text}
 use Rattle.tc_histline.specs.Operations.{IsWrittenIn}
@@ -28,7 +26,6 @@ use Rattle.tc_histline.specs.declared.lines.WrittenLine.TheVariants.{Plain, Repl
 use Rattle.tc_histline.specs.declared.read_operations.WrittenOp.TheVariants as op
 use Rattle.tc_histline.specs.declared.versions.Version.{Version}
 use Rattle.tc_histline.specs.declared.versions.Version.TheVariants.{One, Two}
-use Rattle.tc_histline.proofs.ClauseTexts.{clauses_text-one}
 use Rattle.tc_histline.proofs.ReadEntries.{called-text, called_at-again, entry_at-takes, gave-text, gave_at-again, looked-text, looked_at-again}
 use Rattle.tc_histline.proofs.ReadItems.{item_at-again, item_at-takes}
 use Rattle.tc_histline.proofs.ReadRows.{IsRowIn, row_at-again, row_at-takes}

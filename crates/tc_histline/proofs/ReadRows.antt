@@ -1,7 +1,7 @@
 -- Rows: what is read stands there, and what is written is read again.
-use Rattle.std.proofs.Common.{◌≡◌, ◌<◌, ◌≤◌, ◌-◌, ◌^◌, ℕ, List, [], ◌∷◌, ◌++◌, codes, Some, refl, sym, ap, ap₂, subst, ◌∙◌, arith, append_assoc}
+use Rattle.std.proofs.Common.{◌≡◌, ◌≤◌, ◌-◌, ◌^◌, ℕ, List, [], ◌∷◌, ◌++◌, codes, Some, refl, sym, ap, ap₂, subst, ◌∙◌, arith, append_assoc}
 use Rattle.std.specs.Fmt.{decimal}
-use Rattle.tc_lists.specs.AtFront.{AlwaysTakes, IsReadAgain, behind, closed_by}
+use Rattle.tc_lists.specs.AtFront.{AlwaysTakes, IsReadAgain, closed_by}
 use Rattle.tc_lists.specs.Decimals.{number_at, StartsWithNoDigit}
 use Rattle.tc_lists.proofs.AtFront.{and_then-again, behind-again, behind-takes, closed_by-again, made-again, made-takes, number-takes, or_else-first, or_else-takes, word_for-takes}
 use Rattle.tc_lists.proofs.Decimals.{number_at-again}
@@ -23,7 +23,7 @@ use Rattle.tc_histline.specs.declared.lines.TextRow.{TextRow}
 use Rattle.tc_histline.specs.declared.versions.Version.{Version}
 use Rattle.tc_histline.specs.declared.versions.Version.TheVariants.{One, Two}
 use Rattle.tc_histline.proofs.Found.{and_then-some, behind-some, closed-some, closed_by-stands, made-some, takes-from, takes-some}
-use Rattle.tc_histline.proofs.ReadOutcomes.{ended-again, ended-takes, reply_at-again, reply_at-takes, told_at-again, told_at-takes}
+use Rattle.tc_histline.proofs.ReadOutcomes.{ended-takes, reply_at-again, reply_at-takes, told_at-again, told_at-takes}
 use Rattle.tc_histline.proofs.ReadWords.{atom_at-again, atom_at-takes}
 use Rattle.tc_histline.proofs.Repeated.{joined-before}
 

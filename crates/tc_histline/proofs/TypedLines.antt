@@ -1,9 +1,9 @@
 -- What is read is a line, since the types of its parts promise the rest.
-use Rattle.std.proofs.Common.{◌≡◌, ◌≤◌, ◌-◌, ◌+◌, ℕ, List, [], ◌++◌, length, drop, Some, All, refl, sym, ap, subst, ◌∙◌, arith, length-append}
+use Rattle.std.proofs.Common.{◌≡◌, ◌≤◌, ◌-◌, ◌+◌, ℕ, List, [], ◌++◌, length, Some, All, refl, sym, ap, subst, ◌∙◌, arith, length-append}
 use Rattle.std.proofs.lemmas.List.Elements.{All-nil}
 use Rattle.tc_lists.proofs.Parts.{drop_behind}
 use Rattle.tc_model.specs.Reactions.{AreClauses, Rule, clauses_text}
-use Rattle.tc_model.specs.Typed.{IsTyped, IsTypedId, IsTypedItem, IsTypedOp, IsTypedOutcome}
+use Rattle.tc_model.specs.Typed.{IsTypedId, IsTypedItem, IsTypedOp, IsTypedOutcome}
 use Rattle.tc_model.specs.declared.calls.CallId.{CallId}
 use Rattle.tc_model.specs.declared.calls.Op.{Op}
 use Rattle.tc_model.specs.declared.calls.Op.TheVariants.{Out, In, Rd, Inp, Rdp, No, Nop, SetSpec, GetSpec}

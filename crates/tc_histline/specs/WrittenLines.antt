@@ -4,7 +4,6 @@ use Rattle.tc_lists.specs.AtFront.{Front, between, made, or_else, word_for}
 use Rattle.tc_lists.specs.Texts.{joined}
 use Rattle.tc_model.specs.Typed.{Is32, Is64}
 use Rattle.tc_model.specs.declared.calls.CallId.{CallId}
-use Rattle.tc_model.specs.declared.calls.Op.TheVariants.{SetSpec}
 use Rattle.tc_model.specs.declared.entries.Entry.{Entry}
 use Rattle.tc_model.specs.declared.entries.Entry.TheVariants.{Called, Gave, Looked}
 use Rattle.tc_histline.specs.Entries.{called, entry_at}

@@ -1,18 +1,17 @@
 -- Lines that have come, one after another.
-use Rattle.std.proofs.Common.{◌≡◌, ◌≢◌, ◌<◌, ◌≤◌, ◌+◌, ℕ, Bool, List, [], ◌∷◌, ◌++◌, length, drop, get_or, Some, None, Option, All, refl, sym, ap, subst, ◌∙◌, arith, append_assoc, append-nil}
+use Rattle.std.proofs.Common.{◌≡◌, ◌≢◌, ◌<◌, ◌≤◌, ◌+◌, ℕ, Bool, List, [], ◌∷◌, ◌++◌, length, drop, Some, None, All, refl, sym, ap, subst, ◌∙◌, arith, append_assoc, append-nil}
 use Rattle.std.specs.List.{flat_map}
 use Rattle.std.proofs.lemmas.Grind.{flat_map-append}
 use Rattle.std.proofs.lemmas.List.{length-append, length-drop}
 use Rattle.std.proofs.lemmas.List.Elements.{All-cons, All-drop, All-nil, All-push}
-use Rattle.std.proofs.lemmas.Option.{none-some, same_Some}
 use Rattle.tc_model.specs.Typed.{AreBytes}
 use Rattle.tc_histline.specs.declared.versions.Version.{Version}
 use Rattle.tc_histtext.proofs.LineLaws.{IsRead, LineLaws}
-use Rattle.tc_histline.specs.Lines.{EndsOnce, HasLine, line_text}
+use Rattle.tc_histline.specs.Lines.{HasLine, line_text}
 use Rattle.tc_histtext.specs.Machine.{Stage, next, go_on, takes}
 use Rattle.tc_histtext.specs.Machine as stage
 use Rattle.tc_histtext.specs.Reading.{GoesOn, IsAt, IsSound, IsWhole, lines_so_far, stage_of, stage_behind}
-use Rattle.tc_histtext.specs.ReadTexts.{IsFirstFault, IsText, lines_of, text_of}
+use Rattle.tc_histtext.specs.ReadTexts.{IsFirstFault, IsText, lines_of}
 use Rattle.tc_histline.specs.declared.lines.Line.{Line}
 use Rattle.tc_histline.specs.declared.lines.Line.TheVariants.{First}
 use Rattle.tc_histline.specs.declared.lines.TextRow.{TextRow}

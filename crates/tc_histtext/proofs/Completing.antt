@@ -1,15 +1,13 @@
 -- Each stage can be completed by headings and an end.
-use Rattle.std.proofs.Common.{◌≡◌, ℕ, suc, Bool, false, List, [], ◌∷◌, ◌++◌, map, length, All, refl, ap}
-use Rattle.std.proofs.lemmas.List.Elements.{All-append, All-cons, All-head, All-nil, All-tail}
-use Rattle.tc_model.specs.declared.entries.Entry.{Entry}
+use Rattle.std.proofs.Common.{◌≡◌, ℕ, suc, Bool, false, List, [], ◌∷◌, ◌++◌, length, All, refl, ap}
+use Rattle.std.proofs.lemmas.List.Elements.{All-cons, All-head, All-nil, All-tail}
 use Rattle.tc_histline.specs.declared.versions.Version.{Version}
 use Rattle.tc_histline.specs.declared.versions.Version.TheVariants.{Two}
 use Rattle.tc_histtext.specs.Machine.{Stage, Start, Before, Within, Reacting, Telling, Done, AreLogs, AreHistories, Rest}
 use Rattle.tc_histtext.specs.ReadTexts.{histories_lines, logs_lines}
 use Rattle.tc_histline.specs.declared.lines.Line.{Line}
 use Rattle.tc_histline.specs.declared.lines.Line.TheVariants.{First, Centre, Agent, End}
-use Rattle.tc_histline.specs.declared.lines.TextRow.{TextRow}
-use Rattle.tc_histtext.proofs.Machine.{no_centre, no_entry, no_reaction, no_row}
+use Rattle.tc_histtext.proofs.Machine.{no_entry, no_reaction, no_row}
 
 -- so many empty lists
 abbrev nothing_for : {X : Type 0} → List (List ℕ) → List (List X)

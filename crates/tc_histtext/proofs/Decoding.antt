@@ -1,17 +1,16 @@
 -- Lists of lines and their texts.
-use Rattle.std.proofs.Common.{◌≡◌, ◌≢◌, ◌<◌, ◌+◌, ℕ, suc, Bool, List, [], ◌∷◌, ◌++◌, length, drop, get_or, Some, None, Option, All, refl, sym, ap, ap₂, subst, ◌∙◌, arith, append_assoc, append-nil}
+use Rattle.std.proofs.Common.{◌≡◌, ◌+◌, ℕ, suc, Bool, List, [], ◌∷◌, ◌++◌, length, get_or, Some, None, All, refl, sym, ap, ap₂, subst, ◌∙◌, arith, append_assoc, append-nil}
 use Rattle.std.specs.List.{flat_map}
 use Rattle.std.proofs.lemmas.Grind.{flat_map-append}
 use Rattle.std.proofs.lemmas.List.Elements.{All-append, All-cons, All-head, All-nil, All-tail}
 use Rattle.std.proofs.lemmas.Option.{none-some, same_Some}
 use Rattle.tc_histline.specs.declared.versions.Version.{Version}
 use Rattle.tc_histline.specs.Lines.{EndsOnce, HasLine, HasNoFeed, line_text}
-use Rattle.tc_histtext.specs.Machine.{Stage, Start, Done, next, go_on, takes, IsBare, AreBare, AreAll, Rest}
+use Rattle.tc_histtext.specs.Machine.{Stage, Start, Done, next, go_on, takes, IsBare, AreBare, AreAll}
 use Rattle.tc_histtext.specs.ReadTexts.{IsBegun, IsFirstFault, IsText, ended, histories_lines, lines_of, logs_lines, text_of}
 use Rattle.tc_histline.specs.declared.lines.Line.{Line}
 use Rattle.tc_histline.specs.declared.lines.Line.TheVariants.{First, Centre, Agent, Reaction, Row, End}
 use Rattle.tc_histline.specs.declared.lines.Line.TheVariants as line
-use Rattle.tc_histline.specs.declared.lines.TextRow.{TextRow}
 use Rattle.tc_histtext.specs.declared.read_texts.Text.{Text}
 use Rattle.tc_histtext.proofs.Completing.{AreDue, completes, histories}
 use Rattle.tc_histtext.proofs.LineEnds.{ended-one}

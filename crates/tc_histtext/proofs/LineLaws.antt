@@ -1,5 +1,5 @@
 -- What lines keep, for agents whose names differ.
-use Rattle.std.proofs.Common.{◌≡◌, ◌≢◌, ◌≤◌, ℕ, List, ◌++◌, length, drop, Some, None, Option, AllPairs, ap, sym, arith}
+use Rattle.std.proofs.Common.{◌≡◌, ◌≢◌, ◌≤◌, ℕ, List, ◌++◌, length, drop, Some, None, Option, AllPairs, ap, arith}
 use Rattle.std.proofs.lemmas.List.{length-append}
 use Rattle.tc_model.specs.declared.entries.Entry.{Entry}
 use Rattle.tc_model.specs.declared.entries.Entry.TheVariants.{Called, Gave, Looked}

@@ -1,15 +1,12 @@
 -- The machine takes the beginnings of the lines of texts, and no other lines.
-use Rattle.std.proofs.Common.{◌≡◌, ℕ, suc, ◌+◌, if◌then◌else◌, Bool, true, false, List, [], ◌∷◌, ◌++◌, map, length, Some, None, Option, All, refl, sym, ap, subst, ◌∙◌, arith, append_assoc, append-nil}
+use Rattle.std.proofs.Common.{◌≡◌, ℕ, suc, ◌+◌, if◌then◌else◌, Bool, List, [], ◌∷◌, ◌++◌, map, length, Some, None, Option, refl, sym, ap, subst, ◌∙◌, arith, append_assoc}
 use Rattle.std.specs.List.{flat_map}
 use Rattle.std.specs.Str.{bytes_eq}
-use Rattle.std.proofs.lemmas.List.Elements.{All-append, All-cons, All-head, All-nil, All-tail}
 use Rattle.std.proofs.lemmas.Slice.Eq.{bytes_eq-Decides}
 use Rattle.std.proofs.lemmas.Option.{none-some, same_Some, cond_some}
 use Rattle.tc_model.specs.declared.entries.Entry.{Entry}
 use Rattle.tc_model.specs.declared.entries.Entry.TheVariants.{Called, Gave, Looked}
 use Rattle.tc_model.specs.declared.items.Item.{Item}
-use Rattle.tc_histline.specs.declared.versions.Version.{Version}
-use Rattle.tc_histline.specs.declared.versions.Version.TheVariants.{Two}
 use Rattle.tc_histtext.specs.Machine.{Stage, Start, Before, Within, Reacting, Telling, Done, if_same, centre_head, agent_head, where_none_is_left, after_entry, heading, in_history, behind_entry, in_log, at_start, next, go_on, takes, AreLogs, AreHistories, AreEntries, AreReactions, AreRows, AreAll, IsBareEntry, IsBare, AreBare, Rest}
 use Rattle.tc_histtext.specs.ReadTexts.{entry_lines, histories_lines, logs_lines}
 use Rattle.tc_histline.specs.declared.lines.Line.{Line}

@@ -1,5 +1,5 @@
 -- Bytes are one text, or have one first fault.
-use Rattle.std.proofs.Common.{◌≡◌, ◌<◌, ◌+◌, ℕ, List, [], ◌∷◌, ◌++◌, length, sym, subst, ◌∙◌, arith, append_assoc}
+use Rattle.std.proofs.Common.{◌≡◌, ◌<◌, ◌+◌, ℕ, List, ◌++◌, length, sym, subst, ◌∙◌, arith, append_assoc}
 use Rattle.std.specs.List.{flat_map}
 use Rattle.tc_histtext.proofs.LineLaws.{LineLaws}
 use Rattle.tc_histtext.specs.ReadTexts.{IsBegun, IsFirstFault, IsText, ended}

@@ -1,17 +1,15 @@
 -- The text of histories and logs is that of its lines.
 use Rattle.std.proofs.Common.{◌≡◌, ℕ, List, [], ◌∷◌, ◌++◌, map, codes, refl, sym, ap, ap₂, ◌∙◌, append_assoc, append-nil}
-use Rattle.std.specs.Fmt.{decimal}
 use Rattle.std.specs.List.{flat_map}
 use Rattle.std.proofs.lemmas.Grind.{flat_map-append}
 use Rattle.tc_lists.specs.Texts.{joined}
 use Rattle.tc_model.specs.declared.entries.Entry.{Entry}
 use Rattle.tc_model.specs.declared.entries.Entry.TheVariants.{Called, Gave, Looked}
 use Rattle.tc_model.specs.declared.items.Item.{Item}
-use Rattle.tc_desk.specs.declared.rows.LogRow.{LogRow}
 use Rattle.tc_histline.specs.Lines.{line_text}
 use Rattle.tc_histline.specs.Text.{agent_heading, call_text, centre_heading, end_text, entry_text, item_text, items_text, op_text, outcome_text, row_text, version_text}
 use Rattle.tc_histline.specs.declared.lines.Line.{Line}
-use Rattle.tc_histline.specs.declared.lines.Line.TheVariants.{First, Reaction, Row, End}
+use Rattle.tc_histline.specs.declared.lines.Line.TheVariants.{Reaction, Row, End}
 use Rattle.tc_histline.specs.declared.lines.TextRow.{TextRow}
 use Rattle.tc_histline.specs.declared.versions.Version.{Version}
 use Rattle.tc_histtext.specs.ReadTexts.{as_logged, entry_lines, histories_lines, lines_of, logs_lines, text_of}

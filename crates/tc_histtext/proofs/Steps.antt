@@ -1,17 +1,15 @@
 -- Each line that comes where it may, and each that may not.
-use Rattle.std.proofs.Common.{◌≡◌, ◌≢◌, ◌<◌, ◌≤◌, ◌+◌, ◌==◌, ℕ, suc, if◌then◌else◌, Bool, true, false, List, [], ◌∷◌, ◌++◌, map, length, drop, Some, None, Option, refl, sym, ap, subst, ◌∙◌, arith, append_assoc, append-nil}
-use Rattle.std.specs.List.{flat_map}
-use Rattle.std.specs.Str.{bytes_eq}
+use Rattle.std.proofs.Common.{◌≡◌, ◌≢◌, ◌<◌, ◌≤◌, ◌+◌, ◌==◌, ℕ, if◌then◌else◌, Bool, true, false, List, [], ◌∷◌, ◌++◌, map, length, drop, Some, None, Option, refl, sym, ap, subst, ◌∙◌, arith, append_assoc, append-nil}
 use Rattle.std.proofs.lemmas.Bool.{eq-eqb, eqb-true, true≢false}
 use Rattle.std.proofs.lemmas.List.{drop_all, length-append, length-drop}
 use Rattle.tc_model.specs.declared.entries.Entry.{Entry}
 use Rattle.tc_model.specs.declared.entries.Entry.TheVariants.{Called, Gave, Looked}
 use Rattle.tc_model.specs.declared.items.Item.{Item}
 use Rattle.tc_histline.specs.declared.versions.Version.{Version}
-use Rattle.tc_histtext.specs.Machine.{Stage, next, centre_head, agent_head, where_none_is_left, if_same, IsBareEntry}
+use Rattle.tc_histtext.specs.Machine.{Stage, next, centre_head, agent_head, where_none_is_left, IsBareEntry}
 use Rattle.tc_histtext.specs.Machine as stage
 use Rattle.tc_histtext.specs.ReadTexts.{entry_lines, histories_lines, logs_lines}
-use Rattle.tc_histtext.specs.Reading.{stage_behind, first_lines, last_lines, IsAt, MayReact, PutLast, PutLastReaction, is_in_histories, is_in_history, is_next, may_tell, place_behind}
+use Rattle.tc_histtext.specs.Reading.{stage_behind, first_lines, last_lines, IsAt, PutLast, PutLastReaction, is_in_histories, is_in_history, is_next, may_tell, place_behind}
 use Rattle.tc_histline.specs.declared.lines.Line.{Line}
 use Rattle.tc_histline.specs.declared.lines.Line.TheVariants.{First, Centre, Agent, Reaction, Row, End}
 use Rattle.tc_histline.specs.declared.lines.Line.TheVariants as line

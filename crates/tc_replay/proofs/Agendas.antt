@@ -1,8 +1,8 @@
 -- Places of an agenda, in its batches.
-use Rattle.std.proofs.Common.{◌≡◌, ℕ, zero, suc, ◌+◌, ◌-◌, ◌≤◌, ◌<◌, List, [], ◌∷◌, ◌++◌, length, map, take, drop, set, get_or, Bool, IsTrue, Option, Some, None, IfSome, IfNone, is_some, ◌↔◌, refl, sym, ap, ap₂, subst, ◌∙◌, arith, append_assoc, append-nil, length-append}
-use Rattle.std.specs.List.{flat_map, slice_get}
+use Rattle.std.proofs.Common.{◌≡◌, ℕ, zero, suc, ◌+◌, ◌-◌, ◌≤◌, ◌<◌, List, [], ◌∷◌, ◌++◌, length, take, drop, set, get_or, Bool, IsTrue, Option, Some, None, IfSome, IfNone, is_some, ◌↔◌, refl, sym, ap, ap₂, subst, ◌∙◌, arith, append_assoc, append-nil, length-append}
+use Rattle.std.specs.List.{slice_get}
 use Rattle.std.proofs.Math.Seq.{drop-append_seam}
-use Rattle.std.proofs.lemmas.List.{map-append, set_split, get_or_append_left, get_or-append-add, take-append-le, drop-append-le, drop-drop, take_all, drop_all, length-map, get_or-map, take-map, drop-map, get_or_default, nil_from_length}
+use Rattle.std.proofs.lemmas.List.{map-append, set_split, get_or_append_left, get_or-append-add, take-append-le, drop-append-le, drop-drop, take_all, length-map, get_or-map, take-map, drop-map, get_or_default, nil_from_length}
 use Rattle.std.proofs.lemmas.Option.{slice_get_within, slice_get_read, get_or_from_slice_get, none-some}
 use Rattle.std.proofs.lemmas.Bool.{true≢false}
 use Rattle.std.proofs.lemmas.Grind.{flat_map-append}

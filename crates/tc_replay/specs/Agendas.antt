@@ -1,8 +1,6 @@
 -- Triggered reactions, in batches that share their event.
 use Rattle.std.specs.Prelude.{◌≡◌, ◌<◌, ◌+◌, ℕ, List, Some, length, slice_get, take}
 use Rattle.std.specs.List.{flat_map}
-use Rattle.tc_model.specs.Events.{Occurrence}
-use Rattle.tc_model.specs.Reactions.{Rule}
 use Rattle.tc_model.specs.Triggers.{Member, members}
 use Rattle.tc_replay.specs.declared.agenda.Batch.{Batch}
 

@@ -1,9 +1,7 @@
-use Rattle.std.proofs.Common.{◌≡◌, ◌-◌, ◌+◌, List, ℕ, IfNone, IfSome, Some, length, sym, ap, subst, ◌∙◌, arith}
+use Rattle.std.proofs.Common.{◌≡◌, ◌-◌, ◌+◌, List, IfNone, IfSome, Some, length, sym, ap, subst, ◌∙◌, arith}
 use Rattle.tc_lists.specs.Seen.{seen}
 use Rattle.tc_model.specs.Reactions.{AreClauses, Rule, clauses_text}
 use Rattle.tc_histline.specs.Lines.{IsLineAt}
-use Rattle.tc_histline.specs.WrittenLines.{line_at}
-use Rattle.tc_histline.specs.declared.lines.WrittenLine.TheVariants.{Plain, Replacing}
 use Rattle.tc_histline.proofs.OneLineText.{no_clauses-stands, none-stands}
 use Rattle.tc_histline.proofs.TypedLines.{plain-stands, replacing-stands, rest-within}
 use Rattle.tc_histline.proofs.reading.read_line.Goals as goal

@@ -1,4 +1,4 @@
-use Rattle.std.proofs.Common.{[], length, All, refl, sym, ap, subst, ◌∙◌, arith}
+use Rattle.std.proofs.Common.{[], length, All, refl, sym, ap, subst, arith}
 use Rattle.tc_term.specs.Equations.{Equations}
 use Rattle.tc_bag.specs.Stock.{tuples_of}
 use Rattle.tc_goals.specs.Moments.{moment}

@@ -1,4 +1,4 @@
-use Rattle.std.proofs.Common.{◌≡◌, ap, subst, ◌∙◌, arith}
+use Rattle.std.proofs.Common.{ap, subst, ◌∙◌, arith}
 use Rattle.tc_term.specs.Equations.{Equations, Solvable}
 use Rattle.tc_term.specs.TreeView.{tree_of}
 use Rattle.tc_term.specs.Variables.{var_bound}

@@ -1,4 +1,4 @@
-use Rattle.std.proofs.Common.{◌+◌, ◌≤◌, List, ◌∷◌, ◌++◌, length, take, drop, sym, subst, ◌∙◌, arith}
+use Rattle.std.proofs.Common.{◌+◌, List, take, drop, sym, subst, ◌∙◌, arith}
 use Rattle.std.proofs.lemmas.Bool.{true≢false}
 use Rattle.tc_lists.proofs.Parts.{split_read, take_read}
 use Rattle.tc_bag.specs.Stock.{tuples_of}

@@ -1,4 +1,4 @@
-use Rattle.std.proofs.Common.{ap, sym, subst, ◌∙◌}
+use Rattle.std.proofs.Common.{sym, subst, ◌∙◌}
 use Rattle.tc_histline.specs.declared.lines.Line.TheVariants as line
 use Rattle.tc_histtext.proofs.Steps.{Grows, adds_entry, some_history}
 use Rattle.tc_histtext.proofs.reading.Reading.add_entry.Goals as goal

@@ -1,4 +1,4 @@
-use Rattle.std.proofs.Common.{ap, sym, ◌∙◌, arith}
+use Rattle.std.proofs.Common.{sym, ◌∙◌, arith}
 use Rattle.tc_histtext.proofs.Steps.{logs_left, no_end_yet}
 use Rattle.tc_histtext.proofs.reading.Reading.end.Goals as goal
 use Rattle.tc_histtext.proofs.reading.Reading.end.Goals.{then-not-may_tell-via-then-not-may_tell, then-not-may_tell-via-else-not-may_tell+then-len-agents}

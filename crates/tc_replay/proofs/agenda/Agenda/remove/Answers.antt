@@ -1,7 +1,6 @@
-use Rattle.std.proofs.Common.{◌≡◌, List, set, refl, sym, ap, subst, ◌∙◌}
+use Rattle.std.proofs.Common.{◌≡◌, List, set, refl, subst, ◌∙◌}
 use Rattle.tc_model.specs.Triggers.{Member}
 use Rattle.tc_model.specs.Cascades.{without}
-use Rattle.tc_replay.specs.Agendas.{members_in}
 use Rattle.tc_replay.proofs.Agendas.{lies-without}
 use Rattle.tc_replay.proofs.agenda.Agenda.remove.Goals as goal
 
