@@ -1,0 +1,4 @@
+pub mod Inputs
+pub mod Verdicts
+pub mod Texts
+pub mod Judgements

@@ -1,0 +1,60 @@
+//! Whether the histories of a text are those of runs of a configuration.
+//!
+//! Reads a configuration, a line `%%` and a text on standard input. What they come to, `judge` of
+//! tc_verify says, whose clauses hold for every input; here it is read and written.
+#![tactic(auto)]
+
+use std::alloc::Global;
+use std::process::ExitCode;
+use tc_config::{ConfigCause, refused_text};
+use tc_io::{InputFault, SinkFault, StdSink, StdSource, read_all, write_all};
+use tc_lists::{NoMemory, Seq};
+use tc_verify::{Finding, Judgement, judge};
+
+/// The most bytes that an input may have.
+const MOST_INPUT: usize = 268435456;
+
+const YES: u8 = 0;
+
+const WRITE_FAULT: u8 = 1;
+
+const REFUSED: u8 = 2;
+
+const NO: u8 = 4;
+
+const READ_FAULT: u8 = 5;
+
+const NO_MEMORY: u8 = 6;
+
+fn main(rt: HostRuntime) -> ExitCode {
+    let alloc = rt.alloc();
+    let answer = match read_all(alloc, &mut StdSource::new(rt.stdin()), MOST_INPUT) {
+        Ok(input) => answer_to(alloc, &input),
+        Err(InputFault::TooLong) => too_long(alloc),
+        Err(InputFault::Failed) => return ExitCode::from(READ_FAULT),
+        Err(InputFault::NoMemory) => Err(NoMemory),
+    };
+    let Ok((status, line)) = answer else {
+        return ExitCode::from(NO_MEMORY);
+    };
+    match write_all(&mut StdSink::new(rt.stdout()), line.items()) {
+        Ok(()) => ExitCode::from(status),
+        Err(SinkFault::Failed) => ExitCode::from(WRITE_FAULT),
+        Err(SinkFault::NoMemory) => ExitCode::from(NO_MEMORY),
+    }
+}
+
+// The status and the line for an input.
+fn answer_to(alloc: Global, input: &[u8]) -> Result<(u8, Seq<u8>), NoMemory> {
+    match judge(alloc, input)? {
+        Judgement::Found(Finding::Yes, line) => Ok((YES, line)),
+        Judgement::Found(Finding::NoText(_) | Finding::NoEntry(_, _), line) => Ok((NO, line)),
+        Judgement::Refused(line) => Ok((REFUSED, line)),
+    }
+}
+
+// Those for an input that is too long.
+fn too_long(alloc: Global) -> Result<(u8, Seq<u8>), NoMemory> {
+    let line = refused_text(alloc, 0, ConfigCause::Length)?;
+    Ok((REFUSED, Seq::new(line)))
+}
