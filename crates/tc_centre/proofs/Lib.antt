@@ -17,3 +17,4 @@ pub mod Typed
 pub mod Owned
 pub mod Numbered
 pub mod Known
+pub mod Lent

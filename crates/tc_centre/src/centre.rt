@@ -28,9 +28,11 @@ use tc_unify::Store;
 
 /// A tuple centre: what it began with, its tuples, the requests that wait, and its history, with
 /// the places in it that tell what became of its calls.
+///
+/// What it holds stands in a box, so that little is copied where a core is moved.
 #[derive(Drop)]
 pub struct Core {
-    held: Holdings,
+    held: Box<Holdings>,
     places: Places,
     numbers: Vec<Option<u64>>,
     weight: u64,
@@ -102,7 +104,7 @@ impl Core {
             history: Vec::new(alloc),
         };
         Ok(Core {
-            held,
+            held: Box::new(alloc, held)?,
             places,
             numbers,
             weight: 0,
@@ -125,8 +127,9 @@ impl Core {
             → result ≡ Err (TurnFault.Full (weight_in self.old) (waiting_in self.old)) }
         ensures same { OnErr result (self.new ≡ self.old) }
     {
-        let waiting = self.held.pending.list().len() as u64;
-        if is_full(self.weight, waiting, self.held.founding.budget) {
+        let held = &mut *self.held;
+        let waiting = held.pending.list().len() as u64;
+        if is_full(self.weight, waiting, held.founding.budget) {
             return Err(TurnFault::Full {
                 weight: self.weight,
                 pending: waiting,
@@ -135,11 +138,11 @@ impl Core {
         if make_room(&mut self.places, id.agent).is_err() {
             return Err(TurnFault::NoMemory);
         }
-        let before = self.held.history.len();
-        match serve(alloc, &mut self.held, id, op) {
+        let before = held.history.len();
+        match serve(alloc, held, id, op) {
             Ok(answer) => {
-                self.weight += weigh(&self.held.history[before..]);
-                note_turn(&mut self.places, &self.held.history, id, before);
+                self.weight += weigh(&held.history[before..]);
+                note_turn(&mut self.places, &held.history, id, before);
                 note_number(&mut self.numbers, id);
                 Ok(answer)
             }
@@ -161,22 +164,23 @@ impl Core {
             → result ≡ Err (PollFault.Full (weight_in self.old) (waiting_in self.old)) }
         ensures same { OnErr result (self.new ≡ self.old) }
     {
+        let held = &mut *self.held;
         let call = CallId {
             agent: id.agent,
             number: asked,
         };
-        if !has_call(&self.places, &self.held.history, call) {
+        if !has_call(&self.places, &held.history, call) {
             return Err(PollFault::Stranger);
         }
-        let waiting = self.held.pending.list().len() as u64;
-        if is_full(self.weight, waiting, self.held.founding.budget) {
+        let waiting = held.pending.list().len() as u64;
+        if is_full(self.weight, waiting, held.founding.budget) {
             return Err(PollFault::Full {
                 weight: self.weight,
                 pending: waiting,
             });
         }
         typed_id(id);
-        match look_up(alloc, id, asked, &self.places, &mut self.held.history) {
+        match look_up(alloc, id, asked, &self.places, &mut held.history) {
             Ok(poll) => {
                 self.weight += 1;
                 note_number(&mut self.numbers, id);
