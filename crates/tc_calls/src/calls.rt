@@ -22,7 +22,7 @@ pub fn put_behind(calls: &mut Vec<(u64, usize)>, number: u64, place: usize)
     ensures rises { Rises calls.new.items }
     ensures places { SetsPlace number place calls.old.items calls.new.items }
 {
-    let _ = calls.push((number, place));
+    calls.push_reserved((number, place));
 }
 
 /// Puts another place for a call that has one.

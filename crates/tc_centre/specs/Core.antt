@@ -3,8 +3,8 @@ use Rattle.std.specs.Prelude.{◌≡◌, [], All, length}
 use Rattle.tc_model.specs.Typed.{IsTypedCall}
 use Rattle.tc_centre.specs.Centre.{Centre, weight_in}
 use Rattle.tc_centre.specs.Held.{origin_of, IsAtRest}
-use Rattle.tc_centre.specs.Numbers.{AreLast}
-use Rattle.tc_centre.specs.Places.{lists_of, ArePlaces}
+use Rattle.tc_calls.specs.Numbers.{AreLast}
+use Rattle.tc_calls.specs.Places.{lists_of, ArePlaces}
 use Rattle.tc_centre.specs.declared.centre.Core.TheInside.{Inside}
 
 -- the centre that a core stands for

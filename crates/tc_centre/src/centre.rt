@@ -6,14 +6,14 @@ ghost use Rattle.tc_model.specs.Replies.{reply_in};
 ghost use Rattle.tc_model.specs.declared.limits.TheConstants.{MOST_BUDGET, MOST_WEIGHT};
 ghost use Rattle.tc_model.specs.Calls.{call_of};
 ghost use Rattle.tc_model.specs.Run.{HasCall};
-ghost use Rattle.tc_centre.specs.Places.{lists_of, ArePlaces};
+ghost use Rattle.tc_calls.specs.Places.{lists_of, ArePlaces};
 ghost use Rattle.tc_centre.specs.Turns.{IsPoll};
 
 use crate::answers::{Answer, Poll, PollFault, TurnFault};
 use crate::founding::{Founding, fill};
 use crate::holdings::Holdings;
-use crate::numbers::{no_numbers, note_number};
-use crate::places::{Places, has_call, make_room, no_places, note_turn, reply_to_call};
+use tc_calls::{no_numbers, note_number};
+use tc_calls::{Places, has_call, make_room, no_places, note_turn, reply_to_call};
 use crate::serving::{serve, typed_id};
 use crate::weights::weigh;
 use std::alloc::Global;
@@ -67,7 +67,7 @@ impl Core {
     ghost use Rattle.tc_centre.specs.Centre.{centre_from, state_of, weight_in, waiting_in};
     ghost use Rattle.tc_centre.specs.Centre.{IsFullCentre};
     ghost use Rattle.tc_model.specs.Typed.{IsTyped};
-    ghost use Rattle.tc_centre.specs.Numbers.{IsLast, IsAbove, IsNextCall};
+    ghost use Rattle.tc_calls.specs.Numbers.{IsLast, IsAbove, IsNextCall};
     ghost use Rattle.tc_centre.specs.Turns.{Serves, IsFullFault, Tells, IsPollRefused};
 
     /// A centre of these clauses and these tuples, oldest first, with an empty history.

@@ -16,7 +16,7 @@ ghost use Rattle.tc_centre.specs.Turns.{IsAnswer};
 use crate::answers::Answer;
 use crate::holdings::Holdings;
 use crate::operations::{TupleOp, answer, put, request, search};
-use crate::replies::reply_to;
+use tc_calls::reply_to;
 use std::alloc::Global;
 use tc_lists::{NoMemory, Seq};
 use tc_model::{CallId, Clauses, Entry, Item, Op, Outcome, Reply, Wants};

@@ -4,12 +4,12 @@ use Rattle.tc_centre.specs.Centre.{Centre}
 use Rattle.tc_centre.specs.Held.{origin_of}
 use Rattle.tc_model.specs.declared.entries.Entry.TheVariants.{Looked}
 use Rattle.tc_centre.proofs.Typed.{typed-push}
-use Rattle.tc_centre.proofs.Numbered.{look-numbers}
+use Rattle.tc_calls.proofs.Numbered.{look-numbers}
 use Rattle.tc_centre.proofs.Lent.{sound-lent, centre-lent}
 use Rattle.tc_centre.proofs.Turned.{tells, look-settled, look-weight, look-places}
 use Rattle.tc_model.specs.Calls.{call_of}
 use Rattle.tc_model.specs.Run.{IsNext, HasCall}
-use Rattle.tc_centre.specs.Places.{lists_of}
+use Rattle.tc_calls.specs.Places.{lists_of}
 use Rattle.tc_centre.proofs.centre.Core.poll.Goals as goal
 
 has_call : (c : goal.After-note_number) → HasCall (call_of c.args.id.agent c.args.asked) c.deref_mut-held.result.now.history.items

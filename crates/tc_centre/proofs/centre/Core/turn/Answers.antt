@@ -1,17 +1,17 @@
 use Rattle.tc_model.specs.Run.{IsNext}
 use Rattle.tc_model.specs.Typed.{IsTypedCall}
 use Rattle.tc_centre.specs.Centre.{Centre}
-use Rattle.tc_centre.specs.Numbers.{AreLast}
+use Rattle.tc_calls.specs.Numbers.{AreLast}
 use Rattle.tc_centre.specs.declared.founding.Founding.{Founding}
-use Rattle.tc_centre.proofs.Numbered.{turn-numbers}
+use Rattle.tc_calls.proofs.Numbered.{turn-numbers}
 use Rattle.std.proofs.Common.{◌+◌, ◌∙◌, All, length, take, drop, sym, ap, subst}
 use Rattle.tc_bag.specs.Stock.{Stock}
 use Rattle.tc_pending.specs.Waiting.{Waiting}
 use Rattle.tc_model.specs.Entries.{weight}
 use Rattle.tc_model.proofs.Runs.{IsRun-first}
 use Rattle.tc_centre.specs.Held.{origin_of}
-use Rattle.tc_centre.specs.Places.{lists_of, ArePlaces, IsCallAt, IsSomeRun}
-use Rattle.tc_centre.specs.Turns.{IsGave}
+use Rattle.tc_calls.specs.Places.{lists_of, ArePlaces, IsCallAt, IsSomeRun}
+use Rattle.tc_calls.specs.Places.{IsGave}
 use Rattle.tc_centre.proofs.Growing.{grown-before, grown-answers, grown-call, weight-grown, slice-whole}
 use Rattle.tc_centre.proofs.Lent.{sound-lent, centre-lent}
 use Rattle.tc_centre.proofs.Turned.{serves-held, same-rest}
