@@ -61,7 +61,8 @@ pub fn is_done(alloc: Global, act: &Act, bag: &mut Bag) -> Result<bool, NoMemory
         Act::Read(template, tuple) | Act::Refute(template, tuple) => {
             Ok(chosen(template, tuple, bag).is_some())
         }
-        Act::Miss(template) | Act::Confirm(template) => { Ok(is_missed(template, bag)) }
+        Act::Miss(template) => Ok(is_missed(template, bag)),
+        Act::Confirm(template) => Ok(is_missed(template, bag)),
     }
 }
 
