@@ -8,3 +8,4 @@ pub mod Answers
 pub mod Words
 pub mod Drafts
 pub mod Good
+pub mod Refusals

@@ -22,6 +22,7 @@ mod laws;
 mod limits;
 mod lines;
 mod reading;
+mod refusals;
 mod words;
 
 pub use configs::{AgentConf, CentreConf, Config, agent_names, centre_names};
@@ -32,4 +33,5 @@ pub use laws::{
 };
 pub use limits::{MOST_AGENTS, MOST_BYTES, MOST_CENTRES, MOST_ITEMS, MOST_ROLES, USUAL_BUDGET};
 pub use reading::read_config;
+pub use refusals::{cause_text, refused_text};
 pub use tc_lists::NoMemory;

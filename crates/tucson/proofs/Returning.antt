@@ -18,7 +18,7 @@ use Rattle.tucson.specs.declared.status.Status.TheVariants.{Ended, WriteFault, R
 use Rattle.tucson.specs.Answer.{Input, Unread, Whole, TooLong, IsDue, IsDueForText, IsInput, IsOutcome, IsSpeltBy, ReadsInput}
 use Rattle.tucson.specs.Ending.{Call, Ends, LeavesDoor, Returns, WritesDue, Writes}
 use Rattle.tucson.specs.Reading.{IsRefusedInput, IsStopFor, StopsReading, TellsStop}
-use Rattle.tucson.specs.Texts.{refused_text}
+use Rattle.tc_config.specs.Refusals.{refused_text}
 use Rattle.tucson.proofs.Dues.{ends_as_due}
 use Rattle.tucson.proofs.Endings.{Ends-told, Ends-written}
 use Rattle.tucson.proofs.Outcomes.{Nets}

@@ -10,6 +10,7 @@ use Rattle.tc_desk.specs.Logs.{is_blocked}
 use Rattle.tc_desk.specs.declared.rows.LogRow.{LogRow}
 use Rattle.tc_config.specs.Configurations.{Configuration}
 use Rattle.tc_config.specs.Good.{IsGood}
+use Rattle.tc_config.specs.Refusals.{refused_text}
 use Rattle.tc_config.specs.Texts.{IsRefused, Spells}
 use Rattle.tc_config.specs.declared.faults.ConfigCause.{ConfigCause}
 use Rattle.tc_config.specs.declared.faults.ConfigCause.TheVariants as cause
@@ -21,7 +22,7 @@ use Rattle.tucson.specs.declared.command.Command.TheVariants.{Run, Load, Serve}
 use Rattle.tucson.specs.declared.status.Status.{Status}
 use Rattle.tucson.specs.declared.status.Status.TheVariants.{Ended, Refused, Blocked, NoMemory}
 use Rattle.tucson.specs.declared.status.Status.TheVariants.{Usage, NetFault}
-use Rattle.tucson.specs.Texts.{load_summary, refused_text, usage_text, whole_text}
+use Rattle.tucson.specs.Texts.{load_summary, usage_text, whole_text}
 
 -- the text is one of such histories and logs, at whose end some agent waits, or none does; each
 -- part of the histories is what the program's types promise

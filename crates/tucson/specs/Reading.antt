@@ -15,7 +15,7 @@ use Rattle.tucson.specs.declared.reading.Stop.{Stop}
 use Rattle.tucson.specs.declared.reading.Stop.TheVariants.{Refused, ReadFault, NoMemory}
 use Rattle.tucson.specs.declared.status.Status.{Status}
 use Rattle.tucson.specs.declared.status.Status.TheVariants as status
-use Rattle.tucson.specs.Texts.{refused_text}
+use Rattle.tc_config.specs.Refusals.{refused_text}
 use Rattle.tucson.specs.Answer.{Input, Unread, Whole, TooLong, IsInput}
 use Rattle.tucson.specs.Ending.{Writes}
 

@@ -1,6 +1,5 @@
 -- The texts that a call may write.
-use Rattle.std.specs.Prelude.{ℕ, ℤ, decimal, List, [], ◌∷◌, codes, map, zip, Option}
-use Rattle.tc_lists.specs.Texts.{joined}
+use Rattle.std.specs.Prelude.{ℕ, ℤ, List, codes, map, zip, Option}
 use Rattle.tc_centre.specs.Centre.{Centre, state_of}
 use Rattle.tc_model.specs.declared.entries.Entry.{Entry}
 use Rattle.tc_desk.specs.Logs.{is_blocked}
@@ -10,35 +9,12 @@ use Rattle.tc_histline.specs.declared.versions.Version.TheVariants.{Two}
 use Rattle.tc_config.specs.Configurations.{Configuration, agent_names, centre_names}
 use Rattle.tc_config.specs.Good.{origin_of}
 use Rattle.tc_config.specs.declared.configs.CentreConf.{CentreConf}
-use Rattle.tc_config.specs.declared.faults.ConfigCause.{ConfigCause}
-use Rattle.tc_config.specs.declared.faults.ConfigCause.TheVariants as cause
 use Rattle.tc_load.specs.Counts.{counted_in}
 use Rattle.tc_load.specs.Summaries.{summary}
 
 -- the forms of words
 abbrev pub usage_text : List ℕ
 usage_text = codes "usage: tucson run [--workers N] | verify | load N SEED | serve PORT\n"
-
--- the words of a cause
-abbrev pub config_cause_text : ConfigCause → List ℕ
-config_cause_text cause.Syntax = codes "syntax"
-config_cause_text cause.Size = codes "size"
-config_cause_text cause.Shape = codes "shape"
-config_cause_text cause.Reaction = codes "reaction"
-config_cause_text cause.UnknownCentre = codes "unknown centre"
-config_cause_text cause.UnknownRole = codes "unknown role"
-config_cause_text cause.UnknownAgent = codes "unknown agent"
-config_cause_text cause.Twice = codes "twice"
-config_cause_text cause.NotGround = codes "not ground"
-config_cause_text cause.Count = codes "count"
-config_cause_text cause.Length = codes "length"
-
--- that a configuration is refused: its first faulty clause, and why
-abbrev pub refused_text : ℕ → ConfigCause → List ℕ
-refused_text clause why =
-    joined (
-    codes "configuration refused: clause " ∷ decimal clause ∷ codes ": " ∷
-    config_cause_text why ∷ codes "\n" ∷ [])
 
 -- the text of a run or of a service: history by history, log by log
 abbrev pub whole_text : Configuration → List (List Entry) → List (List LogRow) → List ℕ

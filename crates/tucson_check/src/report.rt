@@ -1,7 +1,7 @@
 //! What is written of a faulty text, and of one without a fault.
 use crate::faults::Fault;
 use std::alloc::Global;
-use tc_config::{Config, ConfigCause};
+use tc_config::{Config, cause_text};
 use tc_lists::{NoMemory, append_number};
 use tc_places::append_excerpt;
 
@@ -18,7 +18,7 @@ pub fn append_fault(
         fault.last_line,
         into,
     )?;
-    into.extend_from_slice(words_of(fault.cause))?;
+    into.extend_from_slice(cause_text(fault.cause))?;
     into.push(b'\n')?;
     if let Some(mark) = fault.finding.mark {
         append_excerpt(alloc, text, fault.span.from, mark, into)?;
@@ -50,23 +50,6 @@ pub fn append_clause(
         append_number(last_line as u64, into)?;
     }
     into.extend_from_slice(b": ")
-}
-
-// The words of a cause.
-fn words_of(cause: ConfigCause) -> &'static [u8] {
-    match cause {
-        ConfigCause::Syntax => b"syntax",
-        ConfigCause::Size => b"size",
-        ConfigCause::Shape => b"shape",
-        ConfigCause::Reaction => b"reaction",
-        ConfigCause::UnknownCentre => b"unknown centre",
-        ConfigCause::UnknownRole => b"unknown role",
-        ConfigCause::UnknownAgent => b"unknown agent",
-        ConfigCause::Twice => b"twice",
-        ConfigCause::NotGround => b"not ground",
-        ConfigCause::Count => b"count",
-        ConfigCause::Length => b"length",
-    }
 }
 
 /// Appends the summary of a text without a fault.
