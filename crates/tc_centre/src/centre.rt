@@ -12,13 +12,14 @@ ghost use Rattle.tc_centre.specs.Turns.{IsPoll};
 use crate::answers::{Answer, Poll, PollFault, TurnFault};
 use crate::founding::{Founding, fill};
 use crate::holdings::Holdings;
-use tc_calls::{no_numbers, note_number};
-use tc_calls::{Places, has_call, make_room, no_places, note_turn, reply_to_call};
 use crate::serving::{serve, typed_id};
 use crate::weights::weigh;
 use std::alloc::Global;
 use std::marker::Model;
 use std::snapshot::Snapshot;
+use tc_calls::{
+    Places, has_call, make_room, no_numbers, no_places, note_number, note_turn, reply_to_call,
+};
 use tc_lists::NoMemory;
 use tc_model::{CallId, Clauses, Entry, MOST_WEIGHT, Op, Reply, Request};
 use tc_pending::Pending;
