@@ -9,6 +9,7 @@ use Rattle.tc_centre.proofs.Lent.{sound-lent, centre-lent}
 use Rattle.tc_centre.proofs.Turned.{tells, look-settled, look-weight, look-places}
 use Rattle.tc_model.specs.Calls.{call_of}
 use Rattle.tc_model.specs.Run.{IsNext, HasCall}
+use Rattle.tc_calls.specs.Numbers.{AreLast}
 use Rattle.tc_calls.specs.Places.{lists_of}
 use Rattle.tc_centre.proofs.centre.Core.poll.Goals as goal
 
@@ -41,9 +42,10 @@ invariant_of-self-in-Ok c =
           c.args.asked (lists_of c.self.inside.places.items) c.requires sound.places c.in-Ok.ensures.appended;
       lists = sound.lists;
       agents = c.note_number.ensures.agents ∙ sound.agents;
-      numbers = look-numbers old.history.items c.look_up.new.history.items c.args.id c.self.inside.numbers.items
+      numbers = subst (AreLast c.note_number.new.numbers.items) (sym c.in-Ok.ensures.appended)
+          (look-numbers old.history.items c.args.id c.self.inside.numbers.items
           c.note_number.new.numbers.items (next c).number c.note_number.ensures.noted sound.numbers c.args.asked
-          (reply_in old.history.items (call_of c.args.id.agent c.args.asked)) c.in-Ok.ensures.appended;
+          (reply_in old.history.items (call_of c.args.id.agent c.args.asked)));
       typed = typed-push old.history.items c.look_up.new.history.items
           (Looked c.args.id c.args.asked (reply_in old.history.items (call_of c.args.id.agent c.args.asked)))
           c.in-Ok.ensures.appended c.typed_id.ensures sound.typed;

@@ -10,8 +10,7 @@ use Rattle.tc_pending.specs.Waiting.{Waiting}
 use Rattle.tc_model.specs.Entries.{weight}
 use Rattle.tc_model.proofs.Runs.{IsRun-first}
 use Rattle.tc_centre.specs.Held.{origin_of}
-use Rattle.tc_calls.specs.Places.{lists_of, ArePlaces, IsCallAt, IsSomeRun}
-use Rattle.tc_calls.specs.Places.{IsGave}
+use Rattle.tc_calls.specs.Places.{lists_of, ArePlaces, IsCallAt, IsGave, IsSomeRun}
 use Rattle.tc_centre.proofs.Growing.{grown-before, grown-answers, grown-call, weight-grown, slice-whole}
 use Rattle.tc_centre.proofs.Lent.{sound-lent, centre-lent}
 use Rattle.tc_centre.proofs.Turned.{serves-held, same-rest}
@@ -106,8 +105,10 @@ invariant_of-self-in-Ok c =
           ∙ ap (λ (f : Founding). length f.agents.items) (sym told.kept.founding);
       agents = c.note_number.ensures.agents ∙ sound.agents
           ∙ ap (λ (f : Founding). length f.agents.items) (sym told.kept.founding);
-      numbers = turn-numbers old.history.items c.serve.new.held.history.items c.args.id c.self.inside.numbers.items
-          c.note_number.new.numbers.items next.number c.note_number.ensures.noted sound.numbers c.args.op told.grown;
+      numbers = subst (AreLast c.note_number.new.numbers.items) (sym told.grown.history)
+          (turn-numbers old.history.items c.args.id c.self.inside.numbers.items
+          c.note_number.new.numbers.items next.number c.note_number.ensures.noted sound.numbers c.args.op
+          told.grown.result told.grown.items told.grown.gaves told.grown.answers);
       typed = told.typed sound.typed;
       bag_unmarked = told.kept.bag ∙ sound.bag_unmarked;
       pending_unmarked = told.kept.pending ∙ sound.pending_unmarked;
