@@ -13,8 +13,8 @@ use Rattle.tc_model.specs.declared.calls.Op.{Op}
 use Rattle.tc_model.specs.declared.entries.Entry.{Entry}
 use Rattle.tc_model.specs.declared.entries.Entry.TheVariants.{Called}
 use Rattle.tc_centre.specs.Held.{Answers, Calls, Grows, HasMoreEntries, KeepsHeld}
-use Rattle.tc_centre.specs.Places.{IsCallAt}
-use Rattle.tc_centre.specs.Turns.{IsGave}
+use Rattle.tc_calls.specs.Places.{IsCallAt}
+use Rattle.tc_calls.specs.Places.{IsGave}
 use Rattle.tc_centre.specs.declared.holdings.Holdings.{Holdings}
 use Rattle.tc_centre.proofs.FreshReplies.{outcome_in-fresh}
 

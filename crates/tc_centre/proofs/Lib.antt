@@ -9,11 +9,7 @@ pub mod Growing
 pub mod Called
 pub mod Specified
 pub mod Turned
-pub mod CallLists
-pub mod AgentPlaces
-pub mod Indexed
-pub mod Noting
 pub mod Typed
 pub mod Owned
-pub mod Numbered
 pub mod Known
+pub mod Lent

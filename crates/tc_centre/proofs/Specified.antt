@@ -17,7 +17,8 @@ use Rattle.tc_model.specs.declared.entries.Entry.TheVariants.{Called}
 use Rattle.tc_model.proofs.NextEntry.{reply_in-called}
 use Rattle.tc_centre.specs.Held.{origin_of, held, state_held, IsSettled, IsAtRest, HasRoom}
 use Rattle.tc_centre.specs.Operations.{HasServed}
-use Rattle.tc_centre.specs.Turns.{IsGave, IsAnswer}
+use Rattle.tc_calls.specs.Places.{IsGave}
+use Rattle.tc_centre.specs.Turns.{IsAnswer}
 use Rattle.tc_centre.specs.declared.answers.Answer.{Answer}
 use Rattle.tc_centre.specs.declared.holdings.Holdings.{Holdings}
 use Rattle.tc_centre.proofs.Called.{called}

@@ -16,7 +16,7 @@ use Rattle.tc_model.specs.declared.entries.Entry.TheVariants.{Called, Looked}
 use Rattle.tc_model.specs.declared.limits.TheConstants.{MOST_WEIGHT}
 use Rattle.tc_centre.specs.Centre.{Centre}
 use Rattle.tc_centre.specs.Held.{origin_of, IsSettled, IsAtRest, IsSame, KeepsHeld, Grows}
-use Rattle.tc_centre.specs.Places.{place_in, ArePlaces}
+use Rattle.tc_calls.specs.Places.{place_in, ArePlaces}
 use Rattle.tc_centre.specs.Turns.{IsAnswer, Serves, IsPoll, Tells}
 use Rattle.tc_centre.specs.declared.answers.Answer.{Answer}
 use Rattle.tc_centre.specs.declared.answers.Poll.{Poll}
@@ -26,7 +26,7 @@ use Rattle.tc_bag.specs.Stock.{Stock}
 use Rattle.tc_pending.specs.Waiting.{Waiting}
 use Rattle.tc_centre.proofs.Entries.{weight-push}
 use Rattle.tc_centre.proofs.Called.{looked}
-use Rattle.tc_centre.proofs.Indexed.{index-looked}
+use Rattle.tc_calls.proofs.Indexed.{index-looked}
 
 -- the centre of a founding and a history
 abbrev pub centre_with : Founding → List Entry → Centre

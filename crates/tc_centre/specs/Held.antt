@@ -15,7 +15,7 @@ use Rattle.tc_model.specs.declared.items.Item.{Item}
 use Rattle.tc_model.specs.declared.outcomes.Outcome.{Outcome}
 use Rattle.tc_model.specs.declared.entries.Entry.{Entry}
 use Rattle.tc_model.specs.declared.entries.Entry.TheVariants.{Called}
-use Rattle.tc_centre.specs.Turns.{IsGave}
+use Rattle.tc_calls.specs.Places.{IsGave}
 use Rattle.tc_centre.specs.declared.founding.Founding.{Founding}
 use Rattle.tc_pending.specs.Answers.{IsKnown}
 use Rattle.tc_pending.specs.declared.answering.Known.{Known}

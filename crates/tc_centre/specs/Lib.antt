@@ -2,8 +2,5 @@ pub mod Centre
 pub mod Turns
 pub mod Held
 pub mod Operations
-pub mod Calls
-pub mod Places
 pub mod Core
 pub mod Owners
-pub mod Numbers

@@ -13,6 +13,7 @@ use Rattle.tc_model.specs.declared.outcomes.Reply.{Reply}
 use Rattle.tc_model.specs.declared.entries.Entry.{Entry}
 use Rattle.tc_model.specs.declared.entries.Entry.TheVariants.{Called, Gave, Looked}
 use Rattle.tc_centre.specs.Centre.{Centre, state_of, weight_in, waiting_in, IsFullCentre}
+use Rattle.tc_calls.specs.Places.{IsGave}
 use Rattle.tc_centre.specs.declared.answers.Answer.{Answer}
 use Rattle.tc_centre.specs.declared.answers.Answer.TheVariants as answer
 use Rattle.tc_centre.specs.declared.answers.TurnFault.{TurnFault}
@@ -21,11 +22,6 @@ use Rattle.tc_centre.specs.declared.answers.Poll.{Poll}
 use Rattle.tc_centre.specs.declared.answers.Poll.TheVariants as poll
 use Rattle.tc_centre.specs.declared.answers.PollFault.{PollFault}
 use Rattle.tc_centre.specs.declared.answers.PollFault.TheVariants as fault
-
--- the entry answers a request
-abbrev pub IsGave : Entry → Type 0
-IsGave (Gave id result items) = Unit {0}
-IsGave entry = ⊥
 
 -- the caller is told the reply; that it is pending where there is none yet
 abbrev pub IsAnswer : Option Reply → Answer → Type 0

@@ -6,19 +6,20 @@ ghost use Rattle.tc_model.specs.Replies.{reply_in};
 ghost use Rattle.tc_model.specs.declared.limits.TheConstants.{MOST_BUDGET, MOST_WEIGHT};
 ghost use Rattle.tc_model.specs.Calls.{call_of};
 ghost use Rattle.tc_model.specs.Run.{HasCall};
-ghost use Rattle.tc_centre.specs.Places.{lists_of, ArePlaces};
+ghost use Rattle.tc_calls.specs.Places.{lists_of, ArePlaces};
 ghost use Rattle.tc_centre.specs.Turns.{IsPoll};
 
 use crate::answers::{Answer, Poll, PollFault, TurnFault};
 use crate::founding::{Founding, fill};
 use crate::holdings::Holdings;
-use crate::numbers::{no_numbers, note_number};
-use crate::places::{Places, has_call, make_room, no_places, note_turn, reply_to_call};
 use crate::serving::{serve, typed_id};
 use crate::weights::weigh;
 use std::alloc::Global;
 use std::marker::Model;
 use std::snapshot::Snapshot;
+use tc_calls::{
+    Places, has_call, make_room, no_numbers, no_places, note_number, note_turn, reply_to_call,
+};
 use tc_lists::NoMemory;
 use tc_model::{CallId, Clauses, Entry, MOST_WEIGHT, Op, Reply, Request};
 use tc_pending::Pending;
@@ -28,9 +29,11 @@ use tc_unify::Store;
 
 /// A tuple centre: what it began with, its tuples, the requests that wait, and its history, with
 /// the places in it that tell what became of its calls.
+///
+/// What it holds stands in a box, so that little is copied where a core is moved.
 #[derive(Drop)]
 pub struct Core {
-    held: Holdings,
+    held: Box<Holdings>,
     places: Places,
     numbers: Vec<Option<u64>>,
     weight: u64,
@@ -65,7 +68,7 @@ impl Core {
     ghost use Rattle.tc_centre.specs.Centre.{centre_from, state_of, weight_in, waiting_in};
     ghost use Rattle.tc_centre.specs.Centre.{IsFullCentre};
     ghost use Rattle.tc_model.specs.Typed.{IsTyped};
-    ghost use Rattle.tc_centre.specs.Numbers.{IsLast, IsAbove, IsNextCall};
+    ghost use Rattle.tc_calls.specs.Numbers.{IsLast, IsAbove, IsNextCall};
     ghost use Rattle.tc_centre.specs.Turns.{Serves, IsFullFault, Tells, IsPollRefused};
 
     /// A centre of these clauses and these tuples, oldest first, with an empty history.
@@ -102,7 +105,7 @@ impl Core {
             history: Vec::new(alloc),
         };
         Ok(Core {
-            held,
+            held: Box::new(alloc, held)?,
             places,
             numbers,
             weight: 0,
@@ -125,8 +128,9 @@ impl Core {
             → result ≡ Err (TurnFault.Full (weight_in self.old) (waiting_in self.old)) }
         ensures same { OnErr result (self.new ≡ self.old) }
     {
-        let waiting = self.held.pending.list().len() as u64;
-        if is_full(self.weight, waiting, self.held.founding.budget) {
+        let held = &mut *self.held;
+        let waiting = held.pending.list().len() as u64;
+        if is_full(self.weight, waiting, held.founding.budget) {
             return Err(TurnFault::Full {
                 weight: self.weight,
                 pending: waiting,
@@ -135,11 +139,11 @@ impl Core {
         if make_room(&mut self.places, id.agent).is_err() {
             return Err(TurnFault::NoMemory);
         }
-        let before = self.held.history.len();
-        match serve(alloc, &mut self.held, id, op) {
+        let before = held.history.len();
+        match serve(alloc, held, id, op) {
             Ok(answer) => {
-                self.weight += weigh(&self.held.history[before..]);
-                note_turn(&mut self.places, &self.held.history, id, before);
+                self.weight += weigh(&held.history[before..]);
+                note_turn(&mut self.places, &held.history, id, before);
                 note_number(&mut self.numbers, id);
                 Ok(answer)
             }
@@ -161,22 +165,23 @@ impl Core {
             → result ≡ Err (PollFault.Full (weight_in self.old) (waiting_in self.old)) }
         ensures same { OnErr result (self.new ≡ self.old) }
     {
+        let held = &mut *self.held;
         let call = CallId {
             agent: id.agent,
             number: asked,
         };
-        if !has_call(&self.places, &self.held.history, call) {
+        if !has_call(&self.places, &held.history, call) {
             return Err(PollFault::Stranger);
         }
-        let waiting = self.held.pending.list().len() as u64;
-        if is_full(self.weight, waiting, self.held.founding.budget) {
+        let waiting = held.pending.list().len() as u64;
+        if is_full(self.weight, waiting, held.founding.budget) {
             return Err(PollFault::Full {
                 weight: self.weight,
                 pending: waiting,
             });
         }
         typed_id(id);
-        match look_up(alloc, id, asked, &self.places, &mut self.held.history) {
+        match look_up(alloc, id, asked, &self.places, &mut held.history) {
             Ok(poll) => {
                 self.weight += 1;
                 note_number(&mut self.numbers, id);

@@ -21,21 +21,16 @@
 //! | founding, holdings | what it began with; what it holds between two steps of a turn |
 //! | serving | a call, its entry, and then the answers; back to what was before where memory ends |
 //! | operations | what an operation does to what is held, by the phases of tc_phases |
-//! | replies, weights | what entries tell of a call, and what they weigh |
-//! | places, calls, numbers | where the entry of each call stands, and each agent's last number |
+//! | weights | what entries weigh |
 //! | chronicle | a centre as a turnstile hands it on |
 #![tactic(auto)]
 
 mod answers;
-mod calls;
 mod centre;
 mod chronicle;
 mod founding;
 mod holdings;
-mod numbers;
 mod operations;
-mod places;
-mod replies;
 mod serving;
 mod weights;
 

@@ -9,18 +9,20 @@ ghost use Rattle.tc_model.specs.declared.calls.Op.{Op};
 ghost use Rattle.tc_centre.specs.Held.{HoldsRun, IsAtRest, IsJustMarked, Knows, MayServe, known_of};
 ghost use Rattle.tc_centre.specs.Held.{IsSame, KeepsHeld, KeepsAround, KeepsTyped};
 ghost use Rattle.tc_centre.specs.Held.{Answers, Calls, Grows};
+ghost use Rattle.tc_centre.specs.declared.operations.TupleOp.{TupleOp};
 ghost use Rattle.tc_centre.specs.Operations.{op_of, Performs, HasServed};
 ghost use Rattle.tc_centre.specs.Turns.{IsAnswer};
 
 use crate::answers::Answer;
 use crate::holdings::Holdings;
 use crate::operations::{TupleOp, answer, put, request, search};
-use crate::replies::reply_to;
 use std::alloc::Global;
+use tc_calls::reply_to;
 use tc_lists::{NoMemory, Seq};
 use tc_model::{CallId, Clauses, Entry, Item, Op, Outcome, Reply, Wants};
 use tc_pending::Known;
 use tc_spec::{Spec, print_spec};
+use tc_term::Pattern;
 
 /// Serves a call, and answers the requests that can be answered, until none is left.
 ///
@@ -33,18 +35,49 @@ pub fn serve(alloc: Global, held: &mut Holdings, id: CallId, op: Op) -> Result<A
 {
     match op {
         Op::Out(tuple) => on_tuples(alloc, held, id, TupleOp::Put(tuple)),
-        Op::In(template) => on_tuples(alloc, held, id, TupleOp::Request(Wants::Take, template)),
-        Op::Rd(template) => on_tuples(alloc, held, id, TupleOp::Request(Wants::Look, template)),
-        Op::Inp(template) => on_tuples(alloc, held, id, TupleOp::Search(Wants::Take, template)),
-        Op::Rdp(template) => on_tuples(alloc, held, id, TupleOp::Search(Wants::Look, template)),
-        Op::No(template) => on_tuples(alloc, held, id, TupleOp::Request(Wants::Absence, template)),
-        Op::Nop(template) => on_tuples(alloc, held, id, TupleOp::Search(Wants::Absence, template)),
-        Op::SetSpec(clauses) => {
-            let spec = Spec::of(alloc, clauses.copy(alloc)?)?;
-            set_spec(alloc, held, id, clauses, spec)
-        }
+        Op::In(template) => serve_request(alloc, held, id, Wants::Take, template),
+        Op::Rd(template) => serve_request(alloc, held, id, Wants::Look, template),
+        Op::Inp(template) => serve_search(alloc, held, id, Wants::Take, template),
+        Op::Rdp(template) => serve_search(alloc, held, id, Wants::Look, template),
+        Op::No(template) => serve_request(alloc, held, id, Wants::Absence, template),
+        Op::Nop(template) => serve_search(alloc, held, id, Wants::Absence, template),
+        Op::SetSpec(clauses) => replace_spec(alloc, held, id, clauses),
         Op::GetSpec => get_spec(alloc, held, id),
     }
+}
+
+// Serves an operation that waits for what it wants.
+fn serve_request(
+    alloc: Global,
+    held: &mut Holdings,
+    id: CallId,
+    wants: Wants,
+    template: Pattern,
+) -> Result<Answer, NoMemory>
+    requires may { MayServe id held.old }
+    requires unmarked { held.old.bag.saved ≡ [] }
+    ensures served { IfOk result
+        (HasServed id (op_of (TupleOp.Request wants template)) held.old held.new) }
+    ensures same { OnErr result (IsSame held.old held.new) }
+{
+    on_tuples(alloc, held, id, TupleOp::Request(wants, template))
+}
+
+// Serves an operation that looks for what it wants.
+fn serve_search(
+    alloc: Global,
+    held: &mut Holdings,
+    id: CallId,
+    wants: Wants,
+    template: Pattern,
+) -> Result<Answer, NoMemory>
+    requires may { MayServe id held.old }
+    requires unmarked { held.old.bag.saved ≡ [] }
+    ensures served { IfOk result
+        (HasServed id (op_of (TupleOp.Search wants template)) held.old held.new) }
+    ensures same { OnErr result (IsSame held.old held.new) }
+{
+    on_tuples(alloc, held, id, TupleOp::Search(wants, template))
 }
 
 // Serves an operation on tuples, and answers the requests that can be answered.
@@ -197,6 +230,21 @@ fn answer_one(
     held.pending.remove(place);
     held.history.push(Entry::Gave { id, outcome, items })?;
     Ok(())
+}
+
+// Numbers clauses, and replaces the others by them.
+fn replace_spec(
+    alloc: Global,
+    held: &mut Holdings,
+    id: CallId,
+    clauses: Clauses,
+) -> Result<Answer, NoMemory>
+    requires may { MayServe id held.old }
+    ensures served { IfOk result (HasServed id (Op.SetSpec clauses) held.old held.new) }
+    ensures same { OnErr result (IsSame held.old held.new) }
+{
+    let spec = Spec::of(alloc, clauses.copy(alloc)?)?;
+    set_spec(alloc, held, id, clauses, spec)
 }
 
 // Replaces the clauses by these, with their numbers. Tuples and requests stay, so that still no

@@ -10,3 +10,4 @@ pub mod Tried
 pub mod Endings
 pub mod Firsts
 pub mod QuietPoints
+pub mod Served

@@ -3,3 +3,6 @@ pub mod Meeting
 pub mod Agendas
 pub mod Replays
 pub mod Bad
+pub mod Acts
+pub mod Demands
+pub mod Serving

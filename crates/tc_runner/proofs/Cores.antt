@@ -7,9 +7,9 @@ use Rattle.std.proofs.lemmas.Bool.{cases_Bool, cases_eq, eqb-true, eq-eqb, ne_eq
 use Rattle.std.proofs.lemmas.List.{append-nil, length-map, length-set, map-set}
 use Rattle.std.proofs.lemmas.List.Elements.{All-append, All-cons, All-nil, filter-append}
 use Rattle.std.proofs.lemmas.Option.{same_Some, get_or_from_slice_get}
-use Rattle.tc_centre.proofs.Numbered.{gaves-unmade}
+use Rattle.tc_calls.proofs.Numbered.{gaves-unmade}
 use Rattle.tc_centre.specs.Centre.{Centre}
-use Rattle.tc_centre.specs.Turns.{IsGave}
+use Rattle.tc_calls.specs.Places.{IsGave}
 use Rattle.tc_config.specs.Configurations.{Configuration}
 use Rattle.tc_config.specs.Good.{AreHistories, Follows, IsHistory, IsNoLook, IsRow, IsServedNumber, origin_of}
 use Rattle.tc_config.specs.declared.configs.AgentConf.{AgentConf}

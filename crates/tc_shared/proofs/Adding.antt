@@ -3,7 +3,7 @@ use Rattle.std.proofs.Common.{◌≡◌, ℕ, List, [], ◌∷◌, ◌++◌, con
 use Rattle.std.proofs.lemmas.List.Elements.{All-head, All-tail, filter-append}
 use Rattle.tc_model.specs.declared.entries.Entry.{Entry}
 use Rattle.tc_model.specs.declared.entries.Entry.TheVariants.{Called, Gave, Looked}
-use Rattle.tc_centre.specs.Turns.{IsGave}
+use Rattle.tc_calls.specs.Places.{IsGave}
 use Rattle.tc_centre.specs.Owners.{owner_of}
 use Rattle.tc_turn.specs.Owners.{is_owner, entries_of, OthersOwnNone}
 

@@ -14,7 +14,8 @@ use Rattle.tc_model.specs.declared.calls.Op.{Op}
 use Rattle.tc_model.specs.declared.entries.Entry.{Entry}
 use Rattle.tc_model.specs.declared.entries.Entry.TheVariants.{Called, Looked}
 use Rattle.tc_centre.specs.Centre.{Centre, IsFullCentre, weight_in, waiting_in}
-use Rattle.tc_centre.specs.Turns.{IsGave, Serves}
+use Rattle.tc_calls.specs.Places.{IsGave}
+use Rattle.tc_centre.specs.Turns.{Serves}
 use Rattle.tc_centre.specs.Turns as centre
 use Rattle.tc_centre.specs.Owners.{owner_of}
 use Rattle.tc_centre.specs.declared.answers.Answer.{Answer}

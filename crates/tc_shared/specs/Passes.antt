@@ -17,7 +17,8 @@ use Rattle.tc_model.specs.declared.outcomes.Reply.{Reply}
 use Rattle.tc_model.specs.declared.entries.Entry.{Entry}
 use Rattle.tc_model.specs.declared.entries.Entry.TheVariants.{Called, Looked}
 use Rattle.tc_centre.specs.Centre.{Centre}
-use Rattle.tc_centre.specs.Turns.{IsGave, IsAnswer, IsPoll}
+use Rattle.tc_calls.specs.Places.{IsGave}
+use Rattle.tc_centre.specs.Turns.{IsAnswer, IsPoll}
 use Rattle.tc_centre.specs.declared.answers.Answer.{Answer}
 use Rattle.tc_centre.specs.declared.answers.Poll.{Poll}
 use Rattle.tc_centre.specs.declared.answers.TurnFault.{TurnFault}

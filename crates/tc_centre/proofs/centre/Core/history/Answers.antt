@@ -32,5 +32,5 @@ returns-clause-typed c =
     let P : Centre → Type 0 = λ centre. All IsTyped centre.history in
     let holds = c.self.invariant.rest.holds in
     subst P c.self.view_is
-    (IsTyped-first_run (origin_of c.self.inside.held.founding) c.self.inside.held.history.items holds.origin_is holds.run
+    (IsTyped-first_run (origin_of c.self.inside.held.value.founding) c.self.inside.held.value.history.items holds.origin_is holds.run
     c.self.invariant.typed)

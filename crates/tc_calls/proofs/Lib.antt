@@ -1,0 +1,5 @@
+pub mod CallLists
+pub mod AgentPlaces
+pub mod Indexed
+pub mod Noting
+pub mod Numbered
