@@ -1,0 +1,4 @@
+pub mod Beginnings
+pub mod Reached
+pub mod Noted
+pub mod Followed
