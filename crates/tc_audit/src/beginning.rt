@@ -13,8 +13,10 @@ use tc_term::{Ground, Name};
 pub struct Beginning<'c> {
     pub name: &'c Name,
     pub agents: &'c [Name],
+    /// The most reactions that may be tried in a phase of a call.
     pub budget: u32,
     pub clauses: &'c Clauses,
+    /// Oldest first.
     pub tuples: &'c [Ground],
 }
 

@@ -1,6 +1,7 @@
 //! A call's operation and an answer, beside what is recorded of them.
 ghost use Rattle.std.specs.Prelude.{◌≡◌, ◌↔◌, ◌<◌, ◌≤◌, ◌+◌, ◌*◌, ◌++◌, ◌∷◌, [], false, length};
-ghost use Rattle.std.specs.Prelude.{IfOk, IfSome, IfNone, IsTrue, OnOk};
+ghost use Rattle.std.specs.Prelude.{AllPairs, List, remove, IfOk, IfSome, IfNone, IsTrue, OnOk};
+ghost use Rattle.tc_model.specs.Calls.{same_id};
 ghost use Rattle.tc_model.specs.Choices.{AnyOne};
 ghost use Rattle.tc_model.specs.Run.{IsAnswered};
 ghost use Rattle.tc_model.specs.State.{State, after_answer, after_call, unless_over};
@@ -8,8 +9,6 @@ ghost use Rattle.tc_model.specs.Tables.{IsServed};
 ghost use Rattle.tc_model.specs.Waiting.{HasRequest};
 ghost use Rattle.tc_model.specs.declared.items.Item.{Item};
 ghost use Rattle.tc_model.specs.declared.limits.TheConstants.{MOST_GOALS};
-ghost use Rattle.std.specs.Prelude.{AllPairs, List, remove};
-ghost use Rattle.tc_model.specs.Calls.{same_id};
 ghost use Rattle.tc_audit.specs.Beginnings.{origin_in};
 ghost use Rattle.tc_audit.specs.Reached.{IsRequestAt, IsRested, IsSound, state_of};
 

@@ -1,5 +1,6 @@
 pub mod Named
 pub mod OneParting
 pub mod Parting
-pub mod OneAudit
-pub mod Findings
+pub mod OneBad
+pub mod OneFaulty
+pub mod OneVerdict

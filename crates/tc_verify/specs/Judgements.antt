@@ -5,23 +5,32 @@ use Rattle.tc_config.specs.Refusals.{refused_text}
 use Rattle.tc_config.specs.Texts.{IsRefused, Spells}
 use Rattle.tc_config.specs.declared.faults.ConfigCause.{ConfigCause}
 use Rattle.tc_verify.specs.Inputs.{IsParted}
-use Rattle.tc_verify.specs.Texts.{finding_text}
-use Rattle.tc_verify.specs.Verdicts.{IsFinding}
-use Rattle.tc_verify.specs.declared.audits.Finding.{Finding}
+use Rattle.tc_verify.specs.Texts.{verdict_text}
+use Rattle.tc_verify.specs.Verdicts.{IsAudit, IsVerdict}
 use Rattle.tc_verify.specs.declared.judging.Judgement.{Judgement}
-use Rattle.tc_verify.specs.declared.judging.Judgement.TheVariants.{Found, Refused}
+use Rattle.tc_verify.specs.declared.judging.Judgement.TheVariants.{Judged, Refused}
+use Rattle.tc_verify.specs.declared.judging.Question.{Question}
+use Rattle.tc_verify.specs.declared.judging.Question.TheVariants.{Histories, Run}
+use Rattle.tc_verify.specs.declared.verdicts.Verdict.{Verdict}
 
--- the first part of the input spells a configuration, of which this is found of the other part
-pub record IsFoundOf (input : List ℕ) (finding : Finding) (line : List ℕ) : Type 0 where
+-- the verdict on what is asked of the bytes
+abbrev pub IsVerdictOn : Question → Configuration → List ℕ → Verdict → Type 0
+IsVerdictOn Histories c bytes verdict = IsAudit c bytes verdict
+IsVerdictOn Run c bytes verdict = IsVerdict c bytes verdict
+
+-- the first part of the input spells a configuration, and this is the verdict on the other part,
+-- with the line that tells it
+pub record IsJudged (question : Question) (input : List ℕ) (verdict : Verdict) (line : List ℕ)
+    : Type 0 where
   pub first : List ℕ
   pub second : List ℕ
   pub parts : IsParted input first second
   pub config : Configuration
   pub spells : Spells first config
-  pub found : IsFinding config second finding
-  pub line_is : line ≡ finding_text config finding
+  pub is : IsVerdictOn question config second verdict
+  pub line_is : line ≡ verdict_text config verdict
 
--- the first part of the input is refused as a configuration
+-- the first part of the input is refused as a configuration, as the line tells
 pub record IsRefusedFor (input line : List ℕ) : Type 0 where
   pub first : List ℕ
   pub second : List ℕ
@@ -31,12 +40,12 @@ pub record IsRefusedFor (input line : List ℕ) : Type 0 where
   pub refused : IsRefused first clause why
   pub line_is : line ≡ refused_text clause why
 
--- what an input comes to, with the line that tells it
-abbrev pub IsJudgement : List ℕ → Judgement → Type 0
-IsJudgement input (Found finding line) = IsFoundOf input finding line
-IsJudgement input (Refused line) = IsRefusedFor input line
+-- what an input comes to
+abbrev pub IsJudgement : Question → List ℕ → Judgement → Type 0
+IsJudgement question input (Judged verdict line) = IsJudged question input verdict line
+IsJudgement question input (Refused line) = IsRefusedFor input line
 
--- it is this that was found
-abbrev pub HasFound : Finding → Judgement → Type 0
-HasFound finding (Found other line) = other ≡ finding
-HasFound finding (Refused line) = ⊥
+-- it comes to this verdict
+abbrev pub HasVerdict : Verdict → Judgement → Type 0
+HasVerdict verdict (Judged other line) = other ≡ verdict
+HasVerdict verdict (Refused line) = ⊥

@@ -1,14 +1,18 @@
 -- Verdicts on texts: each is one cause, the first in their order.
-use Rattle.std.specs.Prelude.{◌≡◌, ◌<◌, ℕ, List, Some, length, slice_get}
+use Rattle.std.specs.Prelude.{◌≡◌, ◌≢◌, ◌<◌, ℕ, List, Some, map, slice_get}
 use Rattle.tc_model.specs.declared.entries.Entry.{Entry}
+use Rattle.tc_desk.specs.Logs.{is_blocked}
 use Rattle.tc_config.specs.Configurations.{Configuration, agent_names, centre_names}
 use Rattle.tc_config.specs.Good.{origin_of}
+use Rattle.tc_config.specs.declared.configs.AgentConf.{AgentConf}
 use Rattle.tc_config.specs.declared.configs.CentreConf.{CentreConf}
+use Rattle.tc_histline.specs.declared.lines.TextRow.{TextRow}
 use Rattle.tc_histtext.specs.ReadTexts.{IsFirstFault, IsText}
 use Rattle.tc_histtext.specs.declared.read_texts.Text.{Text}
 use Rattle.tc_replay.specs.Bad.{IsBadAt, IsQuietRun}
-use Rattle.tc_verify.specs.declared.audits.Finding.{Finding}
-use Rattle.tc_verify.specs.declared.audits.Finding.TheVariants as finding
+use Rattle.tc_rows.specs.Rows.{AreQuietRuns, AreSound, IsFirstFaulty, logged}
+use Rattle.tc_verify.specs.declared.verdicts.Verdict.{Verdict}
+use Rattle.tc_verify.specs.declared.verdicts.Verdict.TheVariants.{NoAgent, NoEnd, NoEntry, NoText, Yes}
 
 -- the centres before this place have histories of runs to quiet states
 abbrev pub AreQuietBefore : Configuration → List (List Entry) → ℕ → Type 0
@@ -16,13 +20,6 @@ AreQuietBefore c histories place =
     (k : ℕ) (centre : CentreConf) (history : List Entry) → k < place
     → slice_get c.centres k ≡ Some centre → slice_get histories k ≡ Some history
     → IsQuietRun (origin_of c centre) history
-
--- each centre has such a history
-pub record AreQuietRuns (c : Configuration) (histories : List (List Entry)) : Type 0 where
-  pub whole : length histories ≡ length c.centres
-  pub each : (place : ℕ) (centre : CentreConf) (history : List Entry)
-      → slice_get c.centres place ≡ Some centre → slice_get histories place ≡ Some history
-      → IsQuietRun (origin_of c centre) history
 
 -- the centre at this place is the first whose history isn't such a run, by the entry of this number
 pub record IsFirstBad (c : Configuration) (histories : List (List Entry)) (place number : ℕ)
@@ -40,10 +37,55 @@ pub record IsTextOfRuns (c : Configuration) (bytes : List ℕ) (t : Text) : Type
   pub text : IsText (centre_names c) (agent_names c) t bytes
   pub runs : AreQuietRuns c t.histories
 
--- what is found of the histories that the bytes tell
-abbrev pub IsFinding : Configuration → List ℕ → Finding → Type 0
-IsFinding c bytes finding.Yes = (t : Text) × IsTextOfRuns c bytes t
-IsFinding c bytes (finding.NoText line) = IsFirstFault (centre_names c) (agent_names c) bytes line
-IsFinding c bytes (finding.NoEntry centre number) =
+-- the agents before this place have sound rows
+abbrev pub AreSoundBefore : Configuration → Text → ℕ → Type 0
+AreSoundBefore c t place =
+    (k : ℕ) (a : AgentConf) (rows : List TextRow) → k < place
+    → slice_get c.agents k ≡ Some a → slice_get t.logs k ≡ Some rows
+    → AreSound t.version c t.histories k a rows
+
+-- the agent at this place is the first that has a row at fault, and this is its first
+pub record IsFirstAgent (c : Configuration) (t : Text) (agent number : ℕ) : Type 0 where
+  pub before : AreSoundBefore c t agent
+  pub a : AgentConf
+  pub known : slice_get c.agents agent ≡ Some a
+  pub rows : List TextRow
+  pub there : slice_get t.logs agent ≡ Some rows
+  pub first : IsFirstFaulty t.version c t.histories agent a rows number
+
+-- the rows of every agent are sound
+abbrev pub AreAllSound : Configuration → Text → Type 0
+AreAllSound c t =
+    (k : ℕ) (a : AgentConf) (rows : List TextRow)
+    → slice_get c.agents k ≡ Some a → slice_get t.logs k ≡ Some rows
+    → AreSound t.version c t.histories k a rows
+
+-- besides, the rows of every agent are sound
+pub record IsSoundText (c : Configuration) (bytes : List ℕ) (t : Text) : Type 0 where
+  pub text : IsTextOfRuns c bytes t
+  pub rows : AreAllSound c t
+
+-- the last line says whether some row is pending
+abbrev pub EndsAsRows : Text → Type 0
+EndsAsRows t = t.blocked ≡ is_blocked (map logged t.logs)
+
+-- the verdict on the bytes
+abbrev pub IsVerdict : Configuration → List ℕ → Verdict → Type 0
+IsVerdict c bytes Yes = (t : Text) × IsSoundText c bytes t × EndsAsRows t
+IsVerdict c bytes (NoText line) = IsFirstFault (centre_names c) (agent_names c) bytes line
+IsVerdict c bytes (NoEntry centre number) =
     (t : Text) × IsText (centre_names c) (agent_names c) t bytes
     × IsFirstBad c t.histories centre number
+IsVerdict c bytes (NoAgent agent number) =
+    (t : Text) × IsTextOfRuns c bytes t × IsFirstAgent c t agent number
+IsVerdict c bytes NoEnd = (t : Text) × IsSoundText c bytes t × (EndsAsRows t → ⊥)
+
+-- the verdict on their histories alone
+abbrev pub IsAudit : Configuration → List ℕ → Verdict → Type 0
+IsAudit c bytes Yes = (t : Text) × IsTextOfRuns c bytes t
+IsAudit c bytes (NoText line) = IsFirstFault (centre_names c) (agent_names c) bytes line
+IsAudit c bytes (NoEntry centre number) =
+    (t : Text) × IsText (centre_names c) (agent_names c) t bytes
+    × IsFirstBad c t.histories centre number
+IsAudit c bytes (NoAgent agent number) = ⊥
+IsAudit c bytes NoEnd = ⊥

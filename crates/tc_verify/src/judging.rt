@@ -5,35 +5,43 @@ ghost use Rattle.tc_config.specs.Refusals.{refused_text};
 ghost use Rattle.tc_config.specs.Texts.{IsRefused, Spells};
 ghost use Rattle.tc_config.specs.declared.faults.ConfigCause.{ConfigCause};
 ghost use Rattle.tc_verify.specs.Inputs.{IsParted};
-ghost use Rattle.tc_verify.specs.Judgements.{HasFound, IsJudgement};
-ghost use Rattle.tc_verify.specs.Verdicts.{IsFinding};
-ghost use Rattle.tc_verify.specs.declared.audits.Finding.{Finding};
+ghost use Rattle.tc_verify.specs.Judgements.{HasVerdict, IsJudgement, IsVerdictOn};
+ghost use Rattle.tc_verify.specs.Texts.{IsOfKnown};
 ghost use Rattle.tc_verify.specs.declared.judging.Judgement.{Judgement};
+ghost use Rattle.tc_verify.specs.declared.verdicts.Verdict.{Verdict};
 
-use crate::audits::{Finding, audit};
 use crate::inputs::parted;
-use crate::printing::finding_text;
+use crate::printing::verdict_text;
+use crate::verdicts::{Verdict, audit, verify};
 use std::alloc::Global;
-use tc_config::{ConfigFault, read_config, refused_text};
+use tc_config::{Config, ConfigFault, read_config, refused_text};
 use tc_lists::{NoMemory, Seq};
+
+/// What is asked of a text.
+#[derive(Clone, Copy, Debug, PartialEq, Eq)]
+pub enum Question {
+    /// Whether its histories are those of runs of the configuration's centres.
+    Histories,
+    /// Whether it is the text of a run of the configuration.
+    Run,
+}
 
 /// What an input comes to, with the line that tells it.
 #[derive(Drop)]
 pub enum Judgement {
-    Found(Finding, Seq<u8>),
+    Judged(Verdict, Seq<u8>),
     /// Its configuration is refused.
     Refused(Seq<u8>),
 }
 
-/// Judges an input of a configuration, a line `%%` and a text: whether its histories are those of
-/// runs of the configuration's centres.
-pub fn judge(alloc: Global, input: &[u8]) -> Result<Judgement, NoMemory>
-    ensures judged { IfOk result (IsJudgement input.now) }
+/// Judges an input of a configuration, a line `%%` and a text.
+pub fn judge(alloc: Global, question: Question, input: &[u8]) -> Result<Judgement, NoMemory>
+    ensures judged { IfOk result (IsJudgement question input.now) }
 
     // Each answer comes exactly where it is due, but for want of memory.
-    ensures found { (first second : List ℕ) (c : Configuration) (finding : Finding)
-        → IsParted input.now first second → Spells first c → IsFinding c second finding
-        → IfOk result (HasFound finding) }
+    ensures verdict { (first second : List ℕ) (c : Configuration) (verdict : Verdict)
+        → IsParted input.now first second → Spells first c
+        → IsVerdictOn question c second verdict → IfOk result (HasVerdict verdict) }
     ensures refused { (first second : List ℕ) (clause : ℕ) (why : ConfigCause)
         → IsParted input.now first second → IsRefused first clause why
         → IfOk result (λ j. j ≡ Judgement.Refused (refused_text clause why)) }
@@ -41,14 +49,32 @@ pub fn judge(alloc: Global, input: &[u8]) -> Result<Judgement, NoMemory>
     let (first, second) = parted(input);
     match read_config(alloc, first) {
         Ok(config) => {
-            let finding = audit(alloc, &config, second)?;
-            let line = finding_text(alloc, &config, finding)?;
-            Ok(Judgement::Found(finding, Seq::new(line)))
+            let verdict = verdict_on(alloc, question, &config, second)?;
+            let line = verdict_text(alloc, &config, verdict)?;
+            Ok(Judgement::Judged(verdict, Seq::new(line)))
         }
         Err(ConfigFault::Bad { clause, cause }) => {
             let line = refused_text(alloc, clause, cause)?;
             Ok(Judgement::Refused(Seq::new(line)))
         }
         Err(ConfigFault::NoMemory) => Err(NoMemory),
+    }
+}
+
+// The verdict on what is asked.
+fn verdict_on(
+    alloc: Global,
+    question: Question,
+    config: &Config,
+    text: &[u8],
+) -> Result<Verdict, NoMemory>
+    ensures verdict { IfOk result (IsVerdictOn question config.now text.now) }
+    ensures same { (v : Verdict) → IsVerdictOn question config.now text.now v
+        → IfOk result (λ w. w ≡ v) }
+    ensures known { IfOk result (IsOfKnown config.now) }
+{
+    match question {
+        Question::Histories => audit(alloc, config, text),
+        Question::Run => verify(alloc, config, text),
     }
 }

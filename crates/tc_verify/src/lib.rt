@@ -1,30 +1,48 @@
-//! Texts, judged: whether the histories that a text tells are those of runs of a configuration,
-//! whatever was chosen in them, or the first place at which they are not.
+//! Texts, judged: whether a text is that of a run of a configuration, whatever was chosen in it, or
+//! the first place at which it is not.
 //!
-//! Nothing is served here: what is recorded is followed, entry by entry.
+//! Nothing is served here: what is recorded is followed, entry by entry and row by row.
 //!
 //! ```text
 //! let (first, second) = parted(&input); // a configuration, a line `%%`, and a text
 //! let config = read_config(alloc, first)?;
-//! match audit(alloc, &config, second)? {
-//!     Finding::Yes => { .. }
-//!     Finding::NoText(line) => { .. }
-//!     Finding::NoEntry(centre, number) => { .. } // by the centre's place from 0, and from 1
+//! match verify(alloc, &config, second)? {
+//!     Verdict::Yes => { .. }
+//!     Verdict::NoEntry(centre, number) => { .. } // the centre's place, and the entry's number
+//!     ..
 //! }
 //! ```
+//!
+//! The files of src/, in reading order:
+//!
+//! | File | Holds |
+//! |---|---|
+//! | judging | an input of a configuration and a text, judged |
+//! | verdicts | `Verdict`; `verify`, and `audit`, which judges histories alone |
+//! | texts | the text of a configuration's centres and agents, read back |
+//! | centres, agents | histories, one centre after another; rows, one agent after another |
+//! | ends | whether some agent waits, by the rows |
+//! | inputs | an input, parted |
+//! | printing | verdicts as lines |
+//! | laws | an input is parted in one way |
 #![tactic(auto)]
 
-mod audits;
+mod agents;
+mod centres;
+mod ends;
 mod inputs;
 mod judging;
 mod laws;
 mod printing;
 mod texts;
+mod verdicts;
 
-pub use audits::{Finding, audit, first_bad_of};
+pub use agents::first_faulty_of;
+pub use centres::first_bad_of;
 pub use inputs::parted;
-pub use judging::{Judgement, judge};
+pub use judging::{Judgement, Question, judge};
 pub use laws::an_input_is_parted_in_one_way;
-pub use printing::finding_text;
+pub use printing::verdict_text;
 pub use tc_lists::NoMemory;
 pub use texts::read_text_of;
+pub use verdicts::{Verdict, audit, verify};

@@ -1,0 +1,16 @@
+pub mod Between
+pub mod Calls
+pub mod Crowding
+pub mod Cuts
+pub mod Faults
+pub mod Found
+pub mod Indexing
+pub mod Loads
+pub mod Looking
+pub mod Making
+pub mod Pointing
+pub mod Rowing
+pub mod Sounding
+pub mod Stepping
+pub mod Strays
+pub mod Telling

@@ -1,0 +1,8 @@
+use Rattle.tc_rows.proofs.Crowding.{full-with}
+use Rattle.tc_rows.proofs.gaps.was_full_with.Goals as goal
+
+pub returns : goal.returns
+returns c = λ origin are.
+    let full = full-with origin c.args.history.now c.args.points.now are c.args.id c.gap-from.result.0 c.gap-from.result.1 c.gap-from.ensures c.args.load in
+    let has = c.has_load.ensures in
+    (λ yes. full.0 (has.0 yes), λ is. has.1 (full.1 is))
