@@ -86,7 +86,7 @@ impl Levels {
         }
     }
 
-    // Each step of an agent comes before its next one, and an answer before its next served call.
+    // Each step of an agent comes before its next one, and an answer before its next call.
     fn link_agents(
         &mut self,
         alloc: Global,
@@ -97,7 +97,10 @@ impl Levels {
         let mut answer: Option<usize> = None;
         for turn in turns(alloc, steps)? {
             let before = last.filter(|other| other.agent == turn.agent);
-            let is_call = steps.get(turn.place).is_some_and(|step| step.is_call());
+            let is_call = match steps.get(turn.place) {
+                Some(step) => step.comes_after_answers(),
+                None => false,
+            };
             if let Some(before) = before {
                 self.link_own(before.place, turn.place);
                 if is_call {

@@ -42,7 +42,7 @@ const BODY: &[u8] = br#"</style>
 <label>Centre <select id="centre"></select></label>
 <label>Words <input id="words" type="search" placeholder="of tuples and results"></label>
 <label>Show <select id="show"></select></label>
-<button id="clear" type="reset">Clear</button>
+<button id="clear" type="button">Clear</button>
 <output id="found"></output>
 <span id="parts"></span>
 </form>

@@ -14,7 +14,6 @@ const PART = 10000; // how many rows the page has at once
 const HEIGHT = 26; // of a folded row, in pixels
 const MOST_AGENTS = 24; // that have a lane of their own; the others share one
 const MOST_CENTRES = 16;
-const MOST_COUNTED = 1100; // lines of a table of counts
 
 // Why something was refused, by the first word of the cause.
 const CAUSES = {
@@ -28,13 +27,15 @@ const CAUSES = {
   full: 'the history was too heavy for another call: its weight, and how many requests were pending',
 };
 
-const asked = { agent: -1, centre: -1, words: [], show: 'all' };
+const EVERYTHING = { agent: -1, centre: -1, words: [], show: 'all' };
+const asked = { ...EVERYTHING };
 const open = new Map(); // the height of each unfolded row
 const texts = []; // what is searched of each row, once it is
 let listed = []; // the rows that were asked for, in order
 let from = 0; // the place in that list of the first row on the page
 let tops = [0]; // where the rows on the page begin, and where the last one ends
-let bars = []; // the waits that are seen, by places on the page
+let bars = []; // the waits of the rows on the page, by places
+const seen = new Map(); // the elements of each row that is seen, by its place
 let lanes = [];
 let current = -1; // the row that the keyboard is at
 
@@ -59,10 +60,7 @@ function draw(tag, className, attributes) {
 }
 
 function button(className, text, does) {
-  const element = make('button', className, text);
-  element.type = 'button';
-  element.addEventListener('click', does);
-  return element;
+  return Object.assign(make('button', className, text), { type: 'button', onclick: does });
 }
 
 function coloured(element, agent) {
@@ -95,9 +93,8 @@ function waitOf(i) {
 
 function waitWords(i) {
   const entries = waitOf(i);
-  if (entries <= 0) return entries < 0 ? 'still waits' : '';
-  const verb = rows[i][KIND] === CALL ? 'waits' : 'waited';
-  return `${verb} ${number(entries)} ${entries === 1 ? 'entry' : 'entries'}`;
+  if (entries <= 0) return entries < 0 ? 'to the end' : '';
+  return `${rows[i][KIND] === CALL ? 'for' : 'after'} ${number(entries)} ${entries === 1 ? 'entry' : 'entries'}`;
 }
 
 function whatOf(i) {
@@ -113,8 +110,9 @@ const failedIn = row => row[REACTIONS].filter(reaction => reaction[0] === 0).len
 
 // All that is searched of a row, in small letters.
 function textOf(i) {
-  const effects = rows[i][REACTIONS].flatMap(reaction => reaction.slice(3).map(effect => effect.slice(1)));
-  return [whatOf(i), resultOf(rows[i]), rows[i][KIND] === REFUSED ? rows[i][WHAT] : '', ...effects].join('\n').toLowerCase();
+  const row = rows[i], name = row[KIND] === REFUSED ? row[WHAT] : '';
+  const effects = row[REACTIONS].flatMap(reaction => reaction.slice(3).map(effect => effect.slice(1)));
+  return [whatOf(i), resultOf(row), name, ...effects].join('\n').toLowerCase();
 }
 
 // The kinds of rows that can be asked for.
@@ -137,20 +135,21 @@ function isAsked(i) {
 
 // Columns: the heading, the place of the count, and how it looks.
 const CENTRE_COLUMNS = [['Calls', 0], ['Waited', 3, 'wait'], ['Longest', 4], ['Still', 5, 'wait'], ['Polls', 2],
-  ['Refused', 6, 'bad'], ['Fired', 7], ['Failed', 8], ['Over', 9, 'bad'], ['Tuples', 11, 'signed'], ['Most', 12, 'signed'],
-  ['Weight', 10]];
+  ['Refused', 6, 'bad'], ['Fired', 7], ['Failed', 8], ['Over', 9, 'bad'], ['Tuples', 11, 'signed'],
+  ['Most', 12, 'signed'], ['Weight', 10]];
 const AGENT_COLUMNS = [['Calls', 0], ['Waited', 2, 'wait'], ['Longest', 3], ['Still', 4, 'wait'], ['Polls', 1],
   ['Refused', 5, 'bad']];
 const MEANINGS = { Waited: 'calls that were not answered at once', Longest: 'the most entries that a call waited for',
   Still: 'calls that wait at the end', Fired: 'reactions that acted', Failed: 'reactions that were undone at a goal',
   Over: 'what went over the budget of reactions', Tuples: 'how many more there are at the end than at the start',
-  Most: 'how many more than at the start there were at most', Weight: 'entries, and reactions that were tried' };
-const [LONGEST, WEIGHT] = [4, 10];
+  Most: 'how many more than at the start there were at most',
+  Weight: 'entries, and reactions that were tried; a history may weigh some 4,000,000' };
+const [LONGEST, WEIGHT, MOST] = [4, 10, 12];
 
 function countLine(name, count, columns) {
   return make('tr', '', make('td', '', name), ...columns.map(([, place, look]) => {
     const value = count[place], sign = look === 'signed' && value > 0 ? '+' : '';
-    return make('td', value === 0 ? 'zero' : look, sign + number(value));
+    return make('td', value === 0 ? 'zero' : look, value === undefined ? '' : sign + number(value));
   }));
 }
 
@@ -162,37 +161,33 @@ function table(id, word, columns, lines) {
   at('tables').append(make('div', 'scroll', made));
 }
 
-function addBar(line, weight, most) {
-  const bar = make('i');
-  bar.style.width = `${most > 0 ? Math.round(100 * weight / most) : 0}%`;
-  line.lastChild.append(make('span', 'bar', bar));
-  line.lastChild.title = 'one for each entry and each reaction that was tried; a history may weigh some 4,000,000';
-}
-
 function showCounts() {
   const most = centreCounts.reduce((so_far, count) => Math.max(so_far, count[WEIGHT]), 0);
-  const centreLines = centres.slice(0, MOST_COUNTED).map((name, centre) => {
-    const count = centreCounts[centre], line = countLine(button('plain name centre', name, () => ask({ centre })), count, CENTRE_COLUMNS);
-    addBar(line, count[WEIGHT], most);
-    if (count[WEIGHT] === most && centres.length > 1) line.firstChild.append(' (fullest)');
+  const centreLines = centres.map((name, centre) => {
+    const tag = button('plain name centre', name, () => ask({ centre })), weight = centreCounts[centre][WEIGHT];
+    const line = countLine(tag, centreCounts[centre], CENTRE_COLUMNS), bar = make('i');
+    bar.style.width = `${Math.round(100 * weight / Math.max(most, 1))}%`;
+    line.lastChild.append(make('span', 'bar', bar));
+    if (weight === most && centres.length > 1) line.firstChild.append(' (fullest)');
     return line;
   });
   if (centres.length > 1) {
     const sums = centreCounts.reduce((sum, count) => sum.map(
       (value, place) => place === LONGEST ? Math.max(value, count[place]) : value + count[place]));
-    centreLines.push(countLine('all', sums, CENTRE_COLUMNS));
+    centreLines.push(countLine('all', sums.slice(0, MOST), CENTRE_COLUMNS));
     centreLines.at(-1).className = 'sum';
   }
   table('centre-counts', 'Centre', CENTRE_COLUMNS, centreLines);
-  table('agent-counts', 'Agent', AGENT_COLUMNS, agents.slice(0, MOST_COUNTED).map((name, agent) => countLine(
+  table('agent-counts', 'Agent', AGENT_COLUMNS, agents.map((name, agent) => countLine(
     coloured(button('plain name agent', name, () => ask({ agent })), agent), agentCounts[agent], AGENT_COLUMNS)));
 }
 
 function showTitle() {
-  at('title').textContent = document.title = `A run of ${several(centres.length, 'centre')} and ${several(agents.length, 'agent')}`;
-  const waiting = pending.filter(i => waitOf(i) < 0);
+  document.title = `A run of ${several(centres.length, 'centre')} and ${several(agents.length, 'agent')}`;
+  at('title').textContent = document.title;
+  const waiting = pending.filter(i => waitOf(i) < 0), verb = waiting.length === 1 ? 'waits' : 'wait';
   if (!data.blocked) at('ended').append('It has ended: every call has its reply, or was refused.');
-  else at('ended').append(make('b', '', `Blocked: ${several(waiting.length, 'call')} still wait${waiting.length === 1 ? 's' : ''}. `));
+  else at('ended').append(make('b', '', `Blocked: ${several(waiting.length, 'call')} still ${verb}. `));
   for (const i of waiting.slice(0, 4)) {
     const words = `${agentName(rows[i][AGENT])} at ${centreName(rows[i])}: ${whatOf(i)}`;
     at('ended').append(button('plain waits', words, () => go(i)));
@@ -209,11 +204,13 @@ function busiest(counts, most, wanted) {
 
 function lanesOf(kind, names, counts, most) {
   const own = busiest(counts, most, asked[kind]).map(place => ({ kind, place, name: names[place] }));
-  return own.length === names.length ? own : [...own, { kind, place: -1, name: `${number(names.length - own.length)} others` }];
+  const others = names.length - own.length;
+  return others === 0 ? own : [...own, { kind, place: -1, name: `${number(others)} others` }];
 }
 
 function layLanes() {
-  lanes = [...lanesOf('agent', agents, agentCounts, MOST_AGENTS), ...lanesOf('centre', centres, centreCounts, MOST_CENTRES)];
+  lanes = [...lanesOf('agent', agents, agentCounts, MOST_AGENTS),
+    ...lanesOf('centre', centres, centreCounts, MOST_CENTRES)];
   const wide = lanes.length > 14 ? 16 : 26;
   lanes.forEach((lane, n) => { lane.x = n * wide + (lane.kind === 'centre' ? 28 : 14); });
   lanes.width = lanes.length * wide + 28;
@@ -241,22 +238,27 @@ function list() {
   showPart();
 }
 
-// The first place in the list whose row isn't before this one.
-function placeOf(i) {
-  let low = 0, high = listed.length;
+// The first place before `high` of which the test doesn't hold; of all before that one it does.
+function firstNot(high, test) {
+  let low = 0;
   while (low < high) {
     const middle = (low + high) >> 1;
-    if (listed[middle] < i) low = middle + 1; else high = middle;
+    if (test(middle)) low = middle + 1; else high = middle;
   }
   return low;
 }
+
+// The first place in the list whose row isn't before this one, and the place on the page of the row at a height.
+const placeOf = i => firstNot(listed.length, n => listed[n] < i);
+const rowAt = y => firstNot(tops.length - 1, n => tops[n + 1] <= y);
 const isListed = i => listed[placeOf(i)] === i;
 const countHere = () => Math.min(PART, listed.length - from);
 
 function showPart() {
   const count = countHere(), all = several(rows.length, 'row');
   const some = listed.length === rows.length ? all : `${number(listed.length)} of ${all}`;
-  at('found').textContent = count < listed.length ? `${some}; here ${number(from + 1)} to ${number(from + count)}` : some;
+  const part = count < listed.length ? `; here ${number(from + 1)} to ${number(from + count)}` : '';
+  at('found').textContent = some + part;
   const to = place => { from = Math.max(0, Math.min(place, listed.length - 1)); showPart(); scrollTo(0, 0); };
   const first = button('', 'First', () => to(0)), before = button('', 'Before', () => to(from - PART));
   const next = button('', 'Next', () => to(from + PART)), wanted = make('input');
@@ -277,39 +279,51 @@ function lay() {
   for (const call of pending) {
     const answer = rows[call][PARTNER], isSeen = isListed(call) || (answer >= 0 && isListed(answer));
     const begin = placeOf(call) - from, end = (answer < 0 ? listed.length : placeOf(answer)) - from;
-    if (isSeen && begin < count && end >= 0) bars.push({ begin, end, x: laneAt('agent', rows[call][AGENT]), wait: waitOf(call) });
+    if (!isSeen || begin >= count || end < 0) continue;
+    bars.push({ begin, end, x: laneAt('agent', rows[call][AGENT]), wait: waitOf(call) });
   }
   at('rows').style.height = `${Math.max(tops[count], 60)}px`;
+  showAnew();
+}
+
+// Makes all that is seen anew.
+function showAnew() {
+  const width = lanes.width, height = tops.at(-1);
+  const svg = draw('svg', 'graph', { width, height, 'aria-hidden': true });
+  for (const { kind, x } of lanes) svg.append(draw('line', `life ${kind}`, { x1: x, x2: x, y1: 0, y2: height }));
+  svg.append(draw('g', 'bars', {}));
+  seen.clear();
+  at('rows').replaceChildren(...height > 0 ? [svg] : [make('p', 'nothing', 'Nothing is as it was asked for.')]);
+  at('rows').setAttribute('aria-activedescendant', current < 0 ? '' : `row-${current}`);
   show();
 }
 
-// The place on the page of the row at this height.
-function rowAt(y) {
-  let low = 0, high = tops.length - 1;
-  while (low + 1 < high) {
-    const middle = (low + high) >> 1;
-    if (tops[middle] <= y) low = middle; else high = middle;
-  }
-  return low;
-}
-
-// Makes the rows that are seen, and no others.
+// Makes the rows that have come into sight, and removes those that have gone.
 function show() {
-  const top = at('rows').getBoundingClientRect().top;
-  const first = Math.max(0, rowAt(-top) - 6), end = Math.min(tops.length - 1, rowAt(innerHeight - top) + 7);
-  const made = end > first ? [graph(first, end)] : [make('p', 'nothing', 'Nothing is as it was asked for.')];
-  for (let n = first; n < end; n++) made.push(rowElement(n));
-  at('rows').replaceChildren(...made);
-  at('rows').setAttribute('aria-activedescendant', current < 0 ? '' : `row-${current}`);
+  const place = at('rows').getBoundingClientRect().top, svg = at('rows').firstChild;
+  const first = Math.max(0, rowAt(-place) - 6), end = Math.min(tops.length - 1, rowAt(innerHeight - place) + 7);
+  for (const [n, parts] of seen) {
+    if (n >= first && n < end) continue;
+    parts.forEach(part => part.remove());
+    seen.delete(n);
+  }
+  for (let n = end - 1, behind = null; n >= first; n--) {
+    if (!seen.has(n)) {
+      seen.set(n, [rowElement(n), marksOf(rows[listed[from + n]], tops[n] + HEIGHT / 2)]);
+      at('rows').insertBefore(seen.get(n)[0], behind);
+      svg.append(seen.get(n)[1]);
+    }
+    behind = seen.get(n)[0];
+  }
+  if (end > first) svg.querySelector('.bars').replaceChildren(...barsIn(first, end));
 }
 
 function rowElement(n) {
   const i = listed[from + n], element = make('div', i === current ? 'row current' : 'row', mainOf(i));
   if (open.has(i)) element.append(moreOf(i));
-  element.id = `row-${i}`;
   element.style.top = `${tops[n]}px`;
   element.style.left = `${lanes.width}px`;
-  Object.assign(element, { role: 'option', ariaSelected: i === current, ariaExpanded: open.has(i) });
+  Object.assign(element, { id: `row-${i}`, role: 'option', ariaSelected: i === current, ariaExpanded: open.has(i) });
   element.addEventListener('click', event => {
     if (event.target.closest('.more') || String(getSelection())) return;
     current = i;
@@ -331,27 +345,20 @@ function mainOf(i) {
     make('span', 'centre name', centreName(row)), badge);
 }
 
-// The lanes of the rows that are seen, with the bars of waits.
-function graph(first, end) {
-  const height = tops[end] - tops[first], svg = draw('svg', 'graph', { width: lanes.width, height, 'aria-hidden': true });
-  const middle = n => tops[n] - tops[first] + HEIGHT / 2;
-  svg.style.top = `${tops[first]}px`;
-  for (const { kind, x } of lanes) svg.append(draw('line', `life ${kind}`, { x1: x, x2: x, y1: 0, y2: height }));
-  for (const bar of bars) {
-    if (bar.end < first || bar.begin >= end) continue;
-    const y = bar.begin < first ? 0 : middle(bar.begin), width = bar.wait === 0 ? 3 : 8;
-    const below = bar.end >= end ? height : middle(bar.end);
-    svg.append(draw('rect', bar.wait < 0 ? 'wait still' : 'wait',
-      { x: bar.x - width / 2, y, width, height: Math.max(below - y, 2), rx: 2 }));
-  }
-  for (let n = first; n < end; n++) svg.append(...marksOf(rows[listed[from + n]], middle(n)));
-  return svg;
+// The bars of the waits that are seen.
+function barsIn(first, end) {
+  return bars.filter(bar => bar.end >= first && bar.begin < end).map(({ begin, end: last, x, wait }) => {
+    const y = begin < first ? tops[first] : tops[begin] + HEIGHT / 2;
+    const below = last >= end ? tops[end] : tops[last] + HEIGHT / 2, width = wait === 0 ? 3 : 8;
+    const look = wait < 0 ? 'wait still' : wait === 0 ? 'wait brief' : 'wait';
+    return draw('rect', look, { x: x - width / 2, y, width, height: Math.max(below - y, 2), rx: 2 });
+  });
 }
 
 // The arrow of a row, with marks for its reactions; of what was refused, a cross.
 function marksOf(row, y) {
   const own = laneAt('agent', row[AGENT]), there = laneAt('centre', row[CENTRE]), failed = failedIn(row);
-  if (row[KIND] === REFUSED) return [draw('path', 'refused', { d: `M${own - 4} ${y - 4}l8 8m0 -8l-8 8` })];
+  if (row[KIND] === REFUSED) return draw('path', 'refused', { d: `M${own - 4} ${y - 4}l8 8m0 -8l-8 8` });
   const [begin, tip, back] = row[KIND] === ANSWER ? [there, own + 5, 6] : [own, there - 5, -6];
   const arrow = draw('g', '', {}), fired = row[REACTIONS].length - failed;
   arrow.style.color = `hsl(${hue(row[AGENT])} 62% var(--strong))`;
@@ -359,7 +366,7 @@ function marksOf(row, y) {
     draw('path', 'head', { d: `M${tip} ${y}l${back} -4v8z` }));
   if (fired) arrow.append(draw('circle', 'fired', { cx: there, cy: y, r: 4.5 }));
   if (failed) arrow.append(draw('circle', 'failed', { cx: there, cy: y + (fired ? 8 : 0), r: 2.5 }));
-  return [arrow];
+  return arrow;
 }
 
 const EFFECTS = { '+': 'put', '-': 'took', '=': 'read' };
@@ -380,11 +387,12 @@ function moreOf(i) {
   const row = rows[i], wait = waitWords(i), line = (...parts) => make('p', '', ...parts);
   const kind = ['Call', 'Answer to call', 'Poll', 'Call'][row[KIND]];
   const place = row[KIND] === REFUSED ? '; it stands in no history' : `, entry ${number(placeThere[i])} of its history`;
-  const more = make('div', 'more', line(`${kind} ${row[NUMBER]} of ${agentName(row[AGENT])} at ${centreName(row)}${place}`));
-  more.append(line(make('span', 'term', whatOf(i)), ' = ', make('span', 'term', resultOf(row))));
-  if (row[KIND] === REFUSED) more.append(line(`${firstWord(row[RESULT])}: ${CAUSES[firstWord(row[RESULT])]}`));
+  const title = `${kind} ${row[NUMBER]} of ${agentName(row[AGENT])} at ${centreName(row)}${place}`;
+  const more = make('div', 'more', line(title)), term = text => make('span', 'term', text);
+  if (row[KIND] !== REFUSED) more.append(line(term(whatOf(i)), ' = ', term(resultOf(row))));
+  else more.append(line(`${firstWord(row[RESULT])}: ${CAUSES[firstWord(row[RESULT])]}`));
   if (isOver(row)) more.append(line('the reactions went over the budget: all is as it was before'));
-  if (wait) more.append(line(waitOf(i) < 0 ? 'it still waits at the end' : `it ${wait} of this centre`));
+  if (wait) more.append(line(row[KIND] === CALL ? 'pending ' : 'answered ', wait, ' of this history'));
   if (row[PARTNER] >= 0) {
     more.append(button('partner', row[KIND] === CALL ? 'To its answer' : 'To its call', () => go(row[PARTNER])));
   }
@@ -409,7 +417,7 @@ function toggle(i) {
 
 // Goes to a row, and unfolds it; where it isn't listed, everything is.
 function go(i) {
-  if (!isListed(i)) ask({ agent: -1, centre: -1, words: [], show: 'all' });
+  if (!isListed(i)) ask(EVERYTHING);
   const place = placeOf(i);
   if (place < from || place >= from + PART) showPart(from = Math.floor(place / PART) * PART);
   current = i;
@@ -423,14 +431,14 @@ function bringToView(n) {
   const hidden = at('top').offsetHeight;
   if (above < hidden) scrollBy(0, above - hidden - HEIGHT);
   else if (below > innerHeight) scrollBy(0, Math.min(below - innerHeight + HEIGHT, above - hidden));
-  show();
+  showAnew();
 }
 
 // Takes in what is asked for anew, and keeps the rest. The address tells it, so that it can be kept.
 function ask(change) {
   Object.assign(asked, change);
   for (const key of ['agent', 'centre', 'show']) at(key).value = asked[key];
-  if (change.words && wordsIn(at('words').value).join() !== asked.words.join()) at('words').value = asked.words.join(' ');
+  if (wordsIn(at('words').value).join() !== asked.words.join()) at('words').value = asked.words.join(' ');
   const parts = new URLSearchParams();
   if (asked.agent >= 0) parts.set('agent', agentName(asked.agent));
   if (asked.centre >= 0) parts.set('centre', centres[asked.centre]);
@@ -451,8 +459,8 @@ function askByAddress() {
 function onKey(event) {
   if (event.target !== at('rows') || event.ctrlKey || event.altKey || event.metaKey) return;
   const here = current >= 0 && isListed(current) ? placeOf(current) - from : -1, last = countHere() - 1;
-  const page = Math.max(1, Math.floor((innerHeight - at('top').offsetHeight) / HEIGHT) - 2);
-  const moves = { ArrowDown: here + 1, ArrowUp: here - 1, PageDown: here + page, PageUp: here - page, Home: 0, End: last };
+  const far = Math.max(1, Math.floor((innerHeight - at('top').offsetHeight) / HEIGHT) - 2);
+  const moves = { ArrowDown: here + 1, ArrowUp: here - 1, PageDown: here + far, PageUp: here - far, Home: 0, End: last };
   if (event.key in moves && last >= 0) {
     const n = Math.max(0, Math.min(moves[event.key], last));
     current = listed[from + n];
@@ -464,18 +472,18 @@ function onKey(event) {
 }
 
 function begin() {
-  const fill = (id, names) => at(id).append(new Option('all', -1), ...names.map((name, place) => new Option(name, place)));
-  fill('agent', agents);
-  fill('centre', centres);
+  for (const [id, names] of [['agent', agents], ['centre', centres]]) {
+    at(id).append(new Option('all', -1), ...names.map((name, place) => new Option(name, place)));
+    at(id).addEventListener('change', () => ask({ [id]: Number(at(id).value) }));
+  }
   at('show').append(...Object.keys(SHOWS).map(key => new Option(SHOWS[key][0], key)));
   showTitle();
   showCounts();
   askByAddress();
-  for (const key of ['agent', 'centre']) at(key).addEventListener('change', () => ask({ [key]: Number(at(key).value) }));
   at('show').addEventListener('change', () => ask({ show: at('show').value }));
   at('words').addEventListener('input', () => ask({ words: wordsIn(at('words').value) }));
   at('filters').addEventListener('submit', event => event.preventDefault());
-  at('clear').addEventListener('click', () => { at('words').value = ''; ask({ agent: -1, centre: -1, words: [], show: 'all' }); });
+  at('clear').addEventListener('click', () => ask(EVERYTHING));
   at('rows').addEventListener('keydown', onKey);
   addEventListener('keydown', event => {
     if (event.key !== '/' || /INPUT|SELECT/.test(event.target.tagName)) return;

@@ -122,9 +122,21 @@ impl<'t> Step<'t> {
         matches!(self.deed, Deed::Gave { .. })
     }
 
-    /// Whether this step is a call that was served.
-    pub fn is_call(&self) -> bool {
-        matches!(self.deed, Deed::Called { .. })
+    /// Whether this step is a call that is made only once an earlier one has its answer.
+    pub fn comes_after_answers(&self) -> bool {
+        match self.deed {
+            Deed::Called { .. } => true,
+            Deed::Gave { .. } | Deed::Looked { .. } => false,
+            Deed::Refused { why, .. } => match why {
+                Refusal::Denied | Refusal::TooBig | Refusal::NotGround | Refusal::BadSpec(_) =>
+                    true,
+                Refusal::UnknownCentre
+                | Refusal::Waiting
+                | Refusal::TurnsSpent
+                | Refusal::Full { .. }
+                | Refusal::NoMemory => false,
+            },
+        }
     }
 
     /// What became of it, where that is an outcome, and the reactions to it.

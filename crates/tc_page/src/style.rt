@@ -72,6 +72,7 @@ button:disabled { opacity: .4; cursor: default; }
 #rows svg .look { stroke-dasharray: 2 3; }
 #rows svg .head { fill: currentColor; }
 #rows svg .wait { fill: var(--wait); } #rows svg .wait.still { opacity: .55; }
+#rows svg .wait.brief { fill: var(--faint); opacity: .6; }
 #rows svg .fired { fill: var(--good); } #rows svg .failed { fill: var(--bad); }
 #rows svg .refused { stroke: var(--bad); stroke-width: 2; }
 .row { position: absolute; right: 0; cursor: pointer; border-bottom: 1px solid transparent; }
