@@ -3,9 +3,12 @@
 
 Pages of three examples, of a text with bytes that do harm where they aren't escaped, of a run of some 10,000 entries and
 of a text of 25,000: their counts, rows, bars, reactions, refusals, searches and keys; how many rows the browser has, and
-that nothing was asked of the outside. With FOLDER, pictures are written there, in the light and the dark scheme. Needs
-Debian's chromium: apt-get install chromium. docs/page.png is the picture of philosophers.
+that nothing was asked of the outside. Before that, without a browser, the pages of all examples: that their data tell the
+histories line by line, and count what they have. With FOLDER, pictures are written there, in the light and the dark
+scheme. Needs Debian's chromium: apt-get install chromium. docs/page.png is the picture of philosophers.
 """
+import glob
+import json
 import os
 import random
 import re
@@ -54,6 +57,39 @@ def counted(text, agent=None):
     fired = sum(bool(re.match(r"  \d+ fired", line)) for line in lines)
     failed = sum(bool(re.match(r"  \d+ failed", line)) for line in lines)
     return calls, looks, refused, fired, failed
+
+
+def lines_of(row, agents):
+    """The lines of a history that a row of a page's data tells."""
+    kind, _, _, agent, number, what, result, _, reactions = row
+    word = ["call", "give", "look"][kind]
+    lines = [f"{word} {agents[agent]} {number}{'' if kind == 1 else f' {what}'} = {result}"]
+    for fired, clause, goal, *effects in reactions:
+        how = f"fired {clause}" if fired else f"failed {clause} at {goal}"
+        words = [f" {dict(zip('+-=', ('put', 'took', 'read')))[effect[0]]} {effect[1:]}" for effect in effects]
+        lines.append(f"  1 {how}{''.join(words)}")
+    return lines
+
+
+def look_at_all():
+    """The data of the pages of all examples, beside their texts."""
+    for path in sorted(glob.glob(f"{TOP}/examples/*.out") + glob.glob(f"{TOP}/examples/net/*.out")):
+        name, text = os.path.basename(path), text_of(os.path.relpath(path, TOP))
+        made = tucson(["page"], text)
+        if not text.startswith(b"tucson"):
+            told(f"{name}: a refused configuration is no text", (made.returncode, made.stdout), (2, b""))
+            continue
+        data = json.loads(re.search(rb'application/json">\n(.*?)</script>', made.stdout, re.S)[1])
+        lines = ["tucson 2"]
+        for centre, heading in enumerate(data["centres"]):
+            lines.append(f"centre {heading}")
+            for row in data["rows"]:
+                if row[0] < 3 and row[2] == centre:
+                    lines += lines_of(row, data["agents"])
+        want = text.decode().splitlines()
+        told(f"{name}: histories", lines, want[:next(n for n, line in enumerate(want) if line.startswith("agent "))])
+        sums = [sum(count[place] for count in data["centreCounts"]) for place in (0, 2, 6, 7, 8)]
+        told(f"{name}: counts", tuple(sums), counted(text))
 
 
 class Page:
@@ -259,6 +295,7 @@ def main():
     refused = tucson(["page"], text_of("examples/philosophers.out").replace(b"= done", b"= dona", 1))
     told("a text that is none", (refused.returncode, refused.stdout, refused.stderr.splitlines()[-1]),
          (2, b"", b"line 14 is no line of the text"))
+    look_at_all()
     browser = Browser()
     with tempfile.TemporaryDirectory() as room:
         for look_at in (look_at_philosophers, look_at_rate_limit, look_at_jobs, look_at_harm, look_at_many):
