@@ -70,10 +70,10 @@ class Browser:
 
     def visit(self, address):
         """Opens an address, and waits until it is loaded and drawn."""
-        self.send("Page.navigate", url="about:blank")
-        self.events.clear()
-        self.send("Page.navigate", url=address)
-        self.wait_for("Page.loadEventFired")
+        for place in ("about:blank", address):
+            self.events.clear()
+            self.send("Page.navigate", url=place)
+            self.wait_for("Page.loadEventFired")
         self.draw()
 
     def draw(self):
