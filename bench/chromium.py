@@ -87,6 +87,11 @@ class Browser:
             raise SystemExit(f"{expression}: {got['exceptionDetails']}")
         return got["result"].get("value")
 
+    def busy(self):
+        """How many seconds of processor time the page has taken so far."""
+        self.send("Performance.enable", timeDomain="threadTicks")
+        return next(got["value"] for got in self.send("Performance.getMetrics")["metrics"] if got["name"] == "TaskDuration")
+
     def press(self, key, text=None):
         """Presses a key."""
         more = {"text": text} if text else {}
