@@ -102,7 +102,10 @@ class Browser:
         """Writes a picture of what is seen, in the light or the dark scheme."""
         scheme = {"name": "prefers-color-scheme", "value": "dark" if dark else "light"}
         self.send("Emulation.setEmulatedMedia", features=[scheme])
-        shot = self.send("Page.captureScreenshot", format="png")
+        self.draw()
+        height = self.value("Math.min(innerHeight, Math.ceil(document.body.getBoundingClientRect().bottom))")
+        seen = {"x": 0, "y": self.value("scrollY"), "width": self.value("innerWidth"), "height": height, "scale": 1}
+        shot = self.send("Page.captureScreenshot", format="png", clip=seen)
         with open(path, "wb") as file:
             file.write(base64.b64decode(shot["data"]))
 

@@ -140,6 +140,7 @@ class Page:
     def end(self, folder):
         told(f"{self.name}: nothing was asked of the outside", self.browser.asked_outside(), [])
         told(f"{self.name}: nothing was thrown", self.browser.faults(), [])
+        self.value("document.activeElement.blur()")
         if folder:
             self.browser.picture(f"{folder}/{self.name}.png")
             self.browser.picture(f"{folder}/{self.name}-dark.png", dark=True)
@@ -167,6 +168,7 @@ def look_at_philosophers(browser, room, folder):
         "clause 6 failed at goal 1", "clause 5 fired read required(c2,c3) took chop(c2) took chop(c3) put chops(c2,c3)",
         "clause 6 failed at goal 1"])
     page.end(folder)
+    page.value("at('rows').focus(); 0")
     browser.press("Enter")
     page.is_("they fold", "document.querySelectorAll('.more').length", 0)
     browser.press("ArrowUp")
