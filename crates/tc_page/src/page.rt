@@ -50,7 +50,8 @@ const BODY: &[u8] = br#"</style>
 </div>
 <div id="rows" tabindex="0" role="listbox" aria-label="what happened, in order"></div>
 <footer>
-Rows of one step need not have waited for each other. Keys: <kbd>/</kbd> to the words, <kbd>Tab</kbd> to the rows, <kbd>&uarr;</kbd> <kbd>&darr;</kbd> move, <kbd>Enter</kbd> unfolds,
+Rows of one step need not have waited for each other. Keys: <kbd>/</kbd> to the words,
+<kbd>Tab</kbd> to the rows, <kbd>&uarr;</kbd> <kbd>&darr;</kbd> move, <kbd>Enter</kbd> unfolds,
 <kbd>p</kbd> to the answer or the call.
 </footer>
 <script id="data" type="application/json">
