@@ -15,6 +15,7 @@ mod headings;
 mod links;
 mod literals;
 mod order;
+mod outline;
 mod page;
 mod results;
 mod rows;

@@ -128,24 +128,40 @@ impl Levels {
 
     // Finds the level of each step that no ring of steps comes before.
     fn find(&mut self, alloc: Global) -> Result<(), NoMemory> {
-        let mut ready = Vec::new(alloc);
-        for (place, missing) in self.missing.iter().enumerate() {
-            if *missing == 0 {
-                ready.push(place)?;
-            }
-        }
+        let mut ready = self.first_ones(alloc)?;
         for _ in 0..self.missing.len() {
             let Some(place) = ready.pop() else {
                 break;
             };
             set(&mut self.done, place, true);
             let level = self.level_behind(place);
-            for next in [self.there(place), self.own(place)] {
-                if let Some(next) = next {
-                    if self.raise(next, level) {
-                        ready.push(next)?;
-                    }
-                }
+            self.raise_next(self.there(place), level, &mut ready)?;
+            self.raise_next(self.own(place), level, &mut ready)?;
+        }
+        Ok(())
+    }
+
+    // The steps that none comes right before.
+    fn first_ones(&self, alloc: Global) -> Result<Vec<usize>, NoMemory> {
+        let mut places = Vec::new(alloc);
+        for (place, missing) in self.missing.iter().enumerate() {
+            if *missing == 0 {
+                places.push(place)?;
+            }
+        }
+        Ok(places)
+    }
+
+    // One step right before this one has its level: this one is ready once all have.
+    fn raise_next(
+        &mut self,
+        next: Option<usize>,
+        level: usize,
+        ready: &mut Vec<usize>,
+    ) -> Result<(), NoMemory> {
+        if let Some(next) = next {
+            if self.raise(next, level) {
+                ready.push(next)?;
             }
         }
         Ok(())

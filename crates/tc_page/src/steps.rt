@@ -43,14 +43,30 @@ pub struct Step<'t> {
 pub fn steps_of(alloc: Global, text: &Text) -> Result<Vec<Step<'_>>, NoMemory> {
     let mut steps = Vec::new(alloc);
     for (centre, history) in text.histories.items().iter().enumerate() {
-        for entry in history.items() {
-            steps.push(step_of(centre, entry))?;
-        }
+        append_entries(centre, history.items(), &mut steps)?;
     }
-    for (agent, log) in text.logs.items().iter().enumerate() {
-        append_refused(agent, log.items(), &mut steps)?;
-    }
+    append_all_refused(text, &mut steps)?;
     Ok(steps)
+}
+
+// Appends the entries of a centre's history.
+fn append_entries<'t>(
+    centre: usize,
+    history: &'t [Entry],
+    steps: &mut Vec<Step<'t>>,
+) -> Result<(), NoMemory> {
+    for entry in history {
+        steps.push(step_of(centre, entry))?;
+    }
+    Ok(())
+}
+
+// Appends what was refused to any agent.
+fn append_all_refused<'t>(text: &'t Text, steps: &mut Vec<Step<'t>>) -> Result<(), NoMemory> {
+    for (agent, log) in text.logs.items().iter().enumerate() {
+        append_refused(agent, log.items(), steps)?;
+    }
+    Ok(())
 }
 
 // The step that an entry of a centre's history is.
