@@ -8,7 +8,7 @@ use tc_read::name_at;
 use tc_term::Name;
 
 /// The names in the headings of centres and in those of agents, each once, as they come.
-pub fn headings(alloc: Global, text: &[u8]) -> Result<(Vec<Name>, Vec<Name>), NoMemory>
+pub fn names_in_headings(alloc: Global, text: &[u8]) -> Result<(Vec<Name>, Vec<Name>), NoMemory>
     ensures { IfOk result (λ names. AllPairs ◌≢◌ names.1.items) }
 {
     let centres = names_behind(alloc, text, b"centre ")?;

@@ -4,7 +4,7 @@
 //! nothing of it is claimed.
 //!
 //! ```rattle
-//! let (centres, agents) = headings(alloc, bytes)?;
+//! let (centres, agents) = names_in_headings(alloc, bytes)?;
 //! let text = read_text(alloc, bytes, &centres, &agents)?;
 //! append_page(alloc, &centres, &agents, &text, &mut page)?;
 //! ```
@@ -24,5 +24,5 @@ mod steps;
 mod style;
 mod view;
 
-pub use headings::headings;
+pub use headings::names_in_headings;
 pub use page::append_page;

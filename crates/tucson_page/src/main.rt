@@ -9,7 +9,7 @@ use std::process::ExitCode;
 use tc_histtext::{TextFault, read_text};
 use tc_io::{InputFault, SinkFault, StdSink, StdSource, read_all, write_all};
 use tc_lists::{NoMemory, append_number};
-use tc_page::{append_page, headings};
+use tc_page::{append_page, names_in_headings};
 
 const GOOD: u8 = 0;
 
@@ -56,7 +56,7 @@ fn main(rt: HostRuntime) -> ExitCode {
 
 // Makes the page of a text, or says which line is at fault, with the status.
 fn page(alloc: Global, bytes: &[u8], said: &mut Said) -> Result<u8, NoMemory> {
-    let (centres, agents) = headings(alloc, bytes)?;
+    let (centres, agents) = names_in_headings(alloc, bytes)?;
     match read_text(alloc, bytes, &centres, &agents) {
         Ok(text) => {
             append_page(alloc, &centres, &agents, &text, &mut said.page)?;
