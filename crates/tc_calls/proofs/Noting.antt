@@ -37,14 +37,16 @@ module _ (entries : List Entry) (place : ℕ) (run : IsSomeRun (take (place + 1)
   within : place < length entries
   within = slice_get_within entries place e stands
 
-  grown : (x : Entry) → e ≡ x → before ++ x ∷ [] ≡ take (place + 1) entries
+  -- the entries before it, and it
+  pub grown : (x : Entry) → e ≡ x → before ++ x ∷ [] ≡ take (place + 1) entries
   grown x is =
       sym (take_more entries place e within ∙ ap (λ y. before ++ y ∷ []) (get_or_from_slice_get entries place e e stands ∙ is))
 
   run-pushed : IsRun run.0 (before ++ e ∷ [])
   run-pushed = subst (IsRun run.0) (sym (grown e refl)) run.1
 
-  legal : (x : Entry) → e ≡ x → IsLegal AnyOne run.0 before state x
+  -- the entry is legal where it stands
+  pub legal : (x : Entry) → e ≡ x → IsLegal AnyOne run.0 before state x
   legal x is =
       subst (IsLegal AnyOne run.0 before state) is
       (subst (λ es. IsLegal AnyOne run.0 es (after_history (opening run.0) es) e) (take_at before (e ∷ []) (length before) refl)

@@ -214,6 +214,8 @@ function layLanes() {
   const wide = lanes.length > 14 ? 16 : 26;
   lanes.forEach((lane, n) => { lane.x = n * wide + (lane.kind === 'centre' ? 28 : 14); });
   lanes.width = lanes.length * wide + 28;
+  const letters = lanes.reduce((most, { name }) => Math.max(most, name.length), 0);
+  at('heads').style.height = `${12 + 7.5 * Math.max(3, Math.min(letters, 16))}px`;
   const words = ['step', 'agent', 'call', 'result', 'centre', 'reactions'].map(word => make('span', word, word));
   const columns = make('div', 'main', ...words);
   columns.style.left = `${lanes.width}px`;

@@ -58,8 +58,8 @@ button:disabled { opacity: .4; cursor: default; }
 #found { margin-left: auto; color: var(--faint); }
 #parts { display: flex; gap: 6px; align-items: center; } #parts:empty { display: none; }
 #parts input { width: 90px; }
-#heads { position: relative; height: 74px; overflow: hidden; margin-left: 16px; }
-#heads .lane { position: absolute; bottom: 4px; max-height: 68px; overflow: hidden; writing-mode: vertical-rl;
+#heads { position: relative; overflow: hidden; margin-left: 16px; }
+#heads .lane { position: absolute; bottom: 4px; max-height: calc(100% - 6px); overflow: hidden; writing-mode: vertical-rl;
   transform: rotate(180deg); white-space: nowrap; font-size: 12px; line-height: 16px; }
 #heads .lane.centre { color: var(--centre); font-weight: 600; }
 #heads .main { position: absolute; bottom: 0; right: 0; color: var(--faint); font-size: 12px; }
