@@ -1,7 +1,8 @@
 -- Verdicts on texts: each is one cause, the first in their order.
-use Rattle.std.specs.Prelude.{◌≡◌, ◌≢◌, ◌<◌, ℕ, List, Some, map, slice_get}
+use Rattle.std.specs.Prelude.{◌≡◌, ◌<◌, ℕ, Bool, List, Some, slice_get}
+use Rattle.std.specs.List.{list_any}
 use Rattle.tc_model.specs.declared.entries.Entry.{Entry}
-use Rattle.tc_desk.specs.Logs.{is_blocked}
+use Rattle.tc_desk.specs.Logs.{is_pending}
 use Rattle.tc_config.specs.Configurations.{Configuration, agent_names, centre_names}
 use Rattle.tc_config.specs.Good.{origin_of}
 use Rattle.tc_config.specs.declared.configs.AgentConf.{AgentConf}
@@ -10,7 +11,7 @@ use Rattle.tc_histline.specs.declared.lines.TextRow.{TextRow}
 use Rattle.tc_histtext.specs.ReadTexts.{IsFirstFault, IsText}
 use Rattle.tc_histtext.specs.declared.read_texts.Text.{Text}
 use Rattle.tc_replay.specs.Bad.{IsBadAt, IsQuietRun}
-use Rattle.tc_rows.specs.Rows.{AreQuietRuns, AreSound, IsFirstFaulty, logged}
+use Rattle.tc_rows.specs.Rows.{AreQuietRuns, AreSound, IsFirstFaulty}
 use Rattle.tc_verify.specs.declared.verdicts.Verdict.{Verdict}
 use Rattle.tc_verify.specs.declared.verdicts.Verdict.TheVariants.{NoAgent, NoEnd, NoEntry, NoText, Yes}
 
@@ -65,9 +66,17 @@ pub record IsSoundText (c : Configuration) (bytes : List ℕ) (t : Text) : Type 
   pub text : IsTextOfRuns c bytes t
   pub rows : AreAllSound c t
 
+-- whether some row is pending
+abbrev pub some_pending : List TextRow → Bool
+some_pending rows = list_any (λ (row : TextRow). is_pending row.result) rows
+
+-- whether some row of these logs is
+abbrev pub any_waits : List (List TextRow) → Bool
+any_waits logs = list_any some_pending logs
+
 -- the last line says whether some row is pending
 abbrev pub EndsAsRows : Text → Type 0
-EndsAsRows t = t.blocked ≡ is_blocked (map logged t.logs)
+EndsAsRows t = t.blocked ≡ any_waits t.logs
 
 -- the verdict on the bytes
 abbrev pub IsVerdict : Configuration → List ℕ → Verdict → Type 0

@@ -1,22 +1,22 @@
 //! Whether some agent waits, by the rows.
-ghost use Rattle.std.specs.Prelude.{◌≡◌, map};
-ghost use Rattle.tc_desk.specs.Logs.{any_pending, is_blocked, is_pending};
-ghost use Rattle.tc_rows.specs.Rows.{logged};
+ghost use Rattle.std.specs.Prelude.{◌≡◌};
+ghost use Rattle.tc_desk.specs.Logs.{is_pending};
+ghost use Rattle.tc_verify.specs.Verdicts.{any_waits, some_pending};
 
 use tc_desk::LogResult;
 use tc_histline::TextRow;
 use tc_lists::Seq;
 
 /// Whether some row of these logs is pending.
-pub fn is_blocked(logs: &[Seq<TextRow>]) -> bool
-    ensures { result ≡ is_blocked (map logged logs.now) }
+pub fn any_waits(logs: &[Seq<TextRow>]) -> bool
+    ensures { result ≡ any_waits logs.now }
 {
-    logs.iter().any(|log| is_waiting(log.items()))
+    logs.iter().any(|log| some_pending(log.items()))
 }
 
 // Whether some row is pending.
-fn is_waiting(rows: &[TextRow]) -> bool
-    ensures { result ≡ any_pending (logged rows.now) }
+fn some_pending(rows: &[TextRow]) -> bool
+    ensures { result ≡ some_pending rows.now }
 {
     rows.iter().any(|row| is_pending(&row.result))
 }

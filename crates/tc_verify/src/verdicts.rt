@@ -5,7 +5,7 @@ ghost use Rattle.tc_verify.specs.declared.verdicts.Verdict.{Verdict};
 
 use crate::agents::first_faulty_of;
 use crate::centres::first_bad_of;
-use crate::ends::is_blocked;
+use crate::ends::any_waits;
 use crate::texts::read_text_of;
 use std::alloc::Global;
 use tc_config::Config;
@@ -69,7 +69,7 @@ pub fn verify(alloc: Global, config: &Config, text: &[u8]) -> Result<Verdict, No
     if let Some((agent, number)) = first_faulty_of(alloc, config, &told)? {
         return Ok(Verdict::NoAgent(agent, number));
     }
-    if told.blocked == is_blocked(told.logs.items()) {
+    if told.blocked == any_waits(told.logs.items()) {
         Ok(Verdict::Yes)
     } else {
         Ok(Verdict::NoEnd)

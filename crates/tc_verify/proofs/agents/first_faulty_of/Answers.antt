@@ -1,9 +1,8 @@
-use Rattle.std.proofs.Common.{◌≡◌, ◌<◌, ◌≤◌, ℕ, List, length, refl, sym, ap, subst, ◌∙◌, arith, Some, slice_get}
+use Rattle.std.proofs.Common.{◌≡◌, ◌<◌, ◌≤◌, List, length, refl, sym, subst, arith, Some, slice_get}
 use Rattle.std.proofs.lemmas.Option.{slice_get_read}
 use Rattle.tc_lists.proofs.Options.{IfNone-at, IfSome-at}
 use Rattle.tc_lists.proofs.Sets.{slice_get_inside}
 use Rattle.tc_model.specs.declared.entries.Entry.{Entry}
-use Rattle.tc_config.specs.declared.configs.AgentConf.{AgentConf}
 use Rattle.tc_rows.specs.Rows.{AreSound, IsFirstFaulty}
 use Rattle.tc_verify.proofs.OneFaulty.{sound-all, sound-more, sound-start}
 use Rattle.tc_verify.proofs.agents.first_faulty_of.Goals as goal

@@ -2,7 +2,6 @@ use Rattle.std.proofs.Common.{◌≡◌, length, map, refl, sym, ap, subst, ◌�
 use Rattle.tc_config.specs.declared.configs.AgentConf.{AgentConf}
 use Rattle.std.proofs.lemmas.Option.{slice_get_read}
 use Rattle.tc_audit.specs.Beginnings.{origin_in}
-use Rattle.tc_config.specs.Good.{origin_of}
 use Rattle.tc_lists.proofs.Options.{IfNone-at, IfSome-at}
 use Rattle.tc_replay.specs.Bad.{IsBadAt, IsQuietRun}
 use Rattle.tc_verify.proofs.OneBad.{quiet-all, quiet-more, quiet-start}

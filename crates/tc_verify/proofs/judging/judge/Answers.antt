@@ -1,4 +1,4 @@
-use Rattle.std.proofs.Common.{◌≡◌, ℕ, List, sym, ap, ap₂, subst, ◌∙◌}
+use Rattle.std.proofs.Common.{sym, ap, ap₂, subst, ◌∙◌}
 use Rattle.tc_config.specs.Answers.{IsConfigWant, IsThisRefusal}
 use Rattle.tc_config.specs.Refusals.{refused_text}
 use Rattle.tc_config.specs.Texts.{IsRefused, Spells}
