@@ -1,4 +1,4 @@
-use Rattle.std.proofs.Common.{◌≢◌, ◌+◌, ◌-◌, take, sym, subst, ◌∙◌, arith}
+use Rattle.std.proofs.Common.{◌+◌, take, sym, subst, ◌∙◌, arith}
 use Rattle.std.proofs.lemmas.Bool.{true≢false}
 use Rattle.tc_lists.proofs.Options.{IfNone-at, none_from_never}
 use Rattle.tc_verify.specs.Inputs.{IsParted}

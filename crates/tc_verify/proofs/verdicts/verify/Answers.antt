@@ -1,7 +1,9 @@
-use Rattle.std.proofs.Common.{ℕ, subst}
+use Rattle.std.proofs.Common.{ℕ, sym, ap, subst, ◌∙◌}
+use Rattle.std.specs.Cmp.{booleans_Decides}
+use Rattle.std.proofs.lemmas.Bool.{true≢false}
 use Rattle.tc_lists.proofs.Options.{IfNone-at, IfSome-at, none_from_never}
 use Rattle.tc_rows.specs.Rows.{AreQuietRuns}
-use Rattle.tc_verify.specs.Verdicts.{AreAllSound, IsFirstAgent, IsFirstBad}
+use Rattle.tc_verify.specs.Verdicts.{AreAllSound, IsFirstAgent, IsFirstBad, any_waits}
 use Rattle.tc_verify.proofs.OneVerdict.{verdict-agent, verdict-end, verdict-entry, verdict-yes}
 use Rattle.tc_verify.proofs.verdicts.verify.Goals as goal
 
@@ -23,11 +25,13 @@ returns-then-told-any_waits-clause-same c =
     let none = none_from_never c.in_ok-centre.field-0 c.in_default.not-Some in
     let quiet = subst (AreQuietRuns c.args.config.now) c.items.ensures (IfNone-at (AreQuietRuns c.args.config.now c.items.result.now) c.in_ok-centre.field-0 none c.in_ok-centre.ensures.none) in
     let sound = IfNone-at (AreAllSound c.args.config.now c.in-Ok.told) c.in_ok-agent.field-0 (none_from_never c.in_ok-agent.field-0 c.in_default-2.not-Some) c.in_ok-agent.ensures.sound in
-    verdict-yes c.args.config.now c.args.text.now c.in-Ok.told c.in-Ok.ensures.same c.in-Ok.ensures.refused quiet sound ?
+    verdict-yes c.args.config.now c.args.text.now c.in-Ok.told c.in-Ok.ensures.same c.in-Ok.ensures.refused quiet sound
+    ((booleans_Decides c.in-Ok.told.blocked c.any_waits.result).0 c.if-told-any_waits.true ∙ (c.any_waits.ensures ∙ ap any_waits c.items-2.ensures))
 
 pub returns-clause-same : goal.returns-clause-same
 returns-clause-same c =
     let none = none_from_never c.in_ok-centre.field-0 c.in_default.not-Some in
     let quiet = subst (AreQuietRuns c.args.config.now) c.items.ensures (IfNone-at (AreQuietRuns c.args.config.now c.items.result.now) c.in_ok-centre.field-0 none c.in_ok-centre.ensures.none) in
     let sound = IfNone-at (AreAllSound c.args.config.now c.in-Ok.told) c.in_ok-agent.field-0 (none_from_never c.in_ok-agent.field-0 c.in_default-2.not-Some) c.in_ok-agent.ensures.sound in
-    verdict-end c.args.config.now c.args.text.now c.in-Ok.told c.in-Ok.ensures.same c.in-Ok.ensures.refused quiet sound ?
+    verdict-end c.args.config.now c.args.text.now c.in-Ok.told c.in-Ok.ensures.same c.in-Ok.ensures.refused quiet sound
+    (λ ends. true≢false (sym ((booleans_Decides c.in-Ok.told.blocked c.any_waits.result).1 (ends ∙ sym (c.any_waits.ensures ∙ ap any_waits c.items-2.ensures))) ∙ c.if-told-any_waits.false))
