@@ -1,7 +1,7 @@
 #!/usr/bin/env python3
 """A long run of `serve`: agents that call at random, vanish, half-close, stall and flood.
 
-    soak.py MINUTES AGENTS [PROGRAM] [--seed N] [--picture FILE]
+    soak.py MINUTES AGENTS [PROGRAM] [--seed N] [--picture FILE] [--judge PROGRAM]
 
 The first agent supplies tuples, so that who waits gets one, and is the last to go. A third of the others are there from
 the beginning, the rest come while time passes; a third stay to the end. Once a second the program's resident memory,
@@ -9,8 +9,8 @@ descriptors and threads are looked at, and drawn beside the replies so far: FILE
 
 At the end the text is looked through: each line is one of docs/FORMATS.md's, the replies of each session stand in its
 log in order, each served row has an entry in its centre's history, numbers of calls rise there for each agent, and what
-is pending is what waits. What isn't so is told, the text is kept, and the status is 1. Whether the histories are runs
-is not looked at.
+is pending is what waits. Its histories are judged by the program of `audit`, where that is built, or by PROGRAM. What
+isn't so is told, the text is kept, and the status is 1.
 """
 import argparse, asyncio, collections, os, random, re, signal, socket, struct, subprocess, sys, tempfile, time
 
@@ -52,7 +52,8 @@ class Server:
         self.text = tempfile.NamedTemporaryFile(prefix='soak', suffix='.text', delete=False)
         self.process = subprocess.Popen([program, 'serve', str(self.port)], stdin=subprocess.PIPE, stdout=self.text,
                                         stderr=subprocess.DEVNULL)
-        self.process.stdin.write('\n'.join(configuration(agents, primitives)).encode() + b'\n')
+        self.configuration = '\n'.join(configuration(agents, primitives)).encode() + b'\n'
+        self.process.stdin.write(self.configuration)
         self.process.stdin.close()
         here = '0100007F:%04X' % self.port
         while not any(row.split()[1] == here and row.split()[3] == '0A' for row in open('/proc/net/tcp')):
@@ -437,6 +438,15 @@ def tell(peers, seen, text, status):
               f'; at most {max(row[k] for row in seen):,.0f}')
 
 
+def verdict(judge, configuration, text):
+    """The verdict on the histories of the text."""
+    with tempfile.TemporaryFile() as both:
+        with open(text, 'rb') as told:
+            both.write(configuration + b'%%\n' + told.read())
+        both.seek(0)
+        return subprocess.run([judge, 'audit'], stdin=both, capture_output=True).stdout.decode().strip()
+
+
 def main():
     words = argparse.ArgumentParser(prog='soak.py', description=__doc__.split('\n')[0])
     words.add_argument('minutes', type=float)
@@ -444,6 +454,7 @@ def main():
     words.add_argument('program', nargs='?', default=os.path.join(HERE, '../crates/tucson_run/out/tucson_run'))
     words.add_argument('--seed', type=int, default=1)
     words.add_argument('--picture', default='soak.svg')
+    words.add_argument('--judge', default=os.path.join(HERE, '../crates/tucson_verify/out/tucson_verify'))
     given = words.parse_args()
     signal.signal(signal.SIGPIPE, signal.SIG_IGN)
     primitives = known_primitives(given.program)
@@ -458,6 +469,10 @@ def main():
     text = read_text(server.text.name)
     faults += held_against(text, peers, status)
     tell(peers, seen, text, status)
+    if os.path.exists(given.judge):
+        told = verdict(given.judge, server.configuration, server.text.name)
+        print(f'audit: {told}')
+        faults += [] if told == 'yes' else [f'the verdict on the histories is {told}']
     with open(given.picture, 'w') as file:
         file.write(picture(seen, f'serve, {given.agents} agents, seed {given.seed}'))
     for fault in faults[:20]:

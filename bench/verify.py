@@ -12,7 +12,6 @@ import sys
 import tempfile
 
 TOP = os.path.dirname(os.path.dirname(os.path.abspath(__file__)))
-ITEMS_OF_SCRIPT = 400
 OPERATIONS = ("out", "in", "rd", "inp", "rdp", "no", "nop", "set_spec", "get_spec")
 
 
@@ -28,9 +27,9 @@ def head(agents=1, budget=10_000):
     return f"centre(c,{budget}). role(r). {grants} {names}\n"
 
 
-def script(agent, items):
+def script(agent, items, most=400):
     """An agent's scripts of these items: a script is a list, and a term is at most 1,000 deep."""
-    parts = (items[first : first + ITEMS_OF_SCRIPT] for first in range(0, len(items), ITEMS_OF_SCRIPT))
+    parts = (items[first : first + most] for first in range(0, len(items), most))
     return "".join(f"script(a{agent},[{', '.join(part)}]).\n" for part in parts)
 
 
@@ -42,7 +41,8 @@ def put_and_take(size):
 def wide(size):
     """The same with tuples of some 600 bytes."""
     word = "x" * 600
-    return head() + script(0, [f"c ? {op}(p({i},{word}))" for i in range(size // 2) for op in ("out", "inp")])
+    items = [f"c ? {op}(p({i},{word}))" for i in range(size // 2) for op in ("out", "inp")]
+    return head() + script(0, items, 50)
 
 
 def counter(size):
@@ -68,11 +68,11 @@ def waiting(size):
 
 
 WORKS = (
-    (put_and_take, (1_000, 10_000, 100_000)),
-    (wide, (1_000, 10_000, 100_000)),
-    (counter, (1_000, 10_000, 100_000)),
-    (cascades, (30, 300, 1_500)),
-    (waiting, (1_000, 10_000, 50_000)),
+    ("put and take", put_and_take, (1_000, 10_000, 100_000)),
+    ("tuples of 600 bytes", wide, (1_000, 10_000, 25_000)),
+    ("a counter", counter, (1_000, 10_000, 100_000)),
+    ("cascades of 1,000", cascades, (30, 300, 1_500)),
+    ("1,000 agents that wait", waiting, (1_000, 10_000, 50_000)),
 )
 
 
@@ -98,7 +98,7 @@ def main():
         with open(both, "w") as it:
             it.write(head())
         _, empty, _ = least([program("tucson_verify"), "verify"], both, said)
-        for work, sizes in WORKS:
+        for name, work, sizes in WORKS:
             for size in sizes:
                 with open(conf, "w") as it:
                     it.write(work(size))
@@ -110,7 +110,7 @@ def main():
                 told = open(said).read().strip()
                 note = "" if status == 0 and told == "yes" else f" ({told}, status {status})"
                 print(
-                    f"| {work.__doc__.split('.')[0]}, {size}{note} | {length / 1e6:.1f} | {ran:.2f} | {took:.2f} "
+                    f"| {name}, {size:,} calls{note} | {length / 1e6:.1f} | {ran:.2f} | {took:.2f} "
                     f"| {took / max(ran, 0.001):.2f} | {length / 1e6 / max(took, 0.001):.0f} | {(memory - empty) * 1024 / length:.0f} |",
                     flush=True,
                 )
