@@ -6,11 +6,11 @@ use Rattle.tc_lists.proofs.Elements.{All-append_left, All-append_right}
 use Rattle.tc_histline.specs.Lines.{HasNoFeed}
 use Rattle.tc_histtext.proofs.LineEnds.{ended-one}
 use Rattle.tc_histtext.specs.ReadTexts.{ended}
-use Rattle.tc_verify.specs.Inputs.{IsMarked, IsParted, IsPlain, IsUnmarked, mark}
+use Rattle.tc_verify.specs.Inputs.{HasMark, IsParted, IsPlainLine, HasNoMark, mark}
 
 -- no plain line stands at the front
 abbrev Stops : List ℕ → Type 0
-Stops bytes = (line rest : List ℕ) → IsPlain line → bytes ≡ ended line ++ rest → ⊥
+Stops bytes = (line rest : List ℕ) → IsPlainLine line → bytes ≡ ended line ++ rest → ⊥
 
 -- bytes without LF have no line with its end at their front
 no_end : (bytes line rest : List ℕ) → HasNoFeed bytes → bytes ≡ ended line ++ rest → ⊥
@@ -28,20 +28,20 @@ mark-stops : (rest : List ℕ) → Stops (ended mark ++ rest)
 mark-stops rest line more plain is = plain.other (sym (ended-one mark line rest more mark-whole plain.whole is).0)
 
 -- plain lines up to where none stands are the same, and so is what stands behind
-lines-one : (xs ys : List (List ℕ)) (r s : List ℕ) → All IsPlain xs → All IsPlain ys → Stops r → Stops s → flat_map ended xs ++ r ≡ flat_map ended ys ++ s → (xs ≡ ys) × (r ≡ s)
+lines-one : (xs ys : List (List ℕ)) (r s : List ℕ) → All IsPlainLine xs → All IsPlainLine ys → Stops r → Stops s → flat_map ended xs ++ r ≡ flat_map ended ys ++ s → (xs ≡ ys) × (r ≡ s)
 lines-one [] [] r s ours theirs stop stops same = (refl, same)
 lines-one [] (y ∷ ys) r s ours theirs stop stops same =
-    absurd (stop y (flat_map ended ys ++ s) (All-head IsPlain y ys theirs) (same ∙ append_assoc (ended y) (flat_map ended ys) s))
+    absurd (stop y (flat_map ended ys ++ s) (All-head IsPlainLine y ys theirs) (same ∙ append_assoc (ended y) (flat_map ended ys) s))
 lines-one (x ∷ xs) [] r s ours theirs stop stops same =
-    absurd (stops x (flat_map ended xs ++ r) (All-head IsPlain x xs ours) (sym same ∙ append_assoc (ended x) (flat_map ended xs) r))
+    absurd (stops x (flat_map ended xs ++ r) (All-head IsPlainLine x xs ours) (sym same ∙ append_assoc (ended x) (flat_map ended xs) r))
 lines-one (x ∷ xs) (y ∷ ys) r s ours theirs stop stops same =
-    let both = ended-one x y (flat_map ended xs ++ r) (flat_map ended ys ++ s) (All-head IsPlain x xs ours).whole (All-head IsPlain y ys theirs).whole
+    let both = ended-one x y (flat_map ended xs ++ r) (flat_map ended ys ++ s) (All-head IsPlainLine x xs ours).whole (All-head IsPlainLine y ys theirs).whole
     (sym (append_assoc (ended x) (flat_map ended xs) r) ∙ (same ∙ append_assoc (ended y) (flat_map ended ys) s)) in
-    let on = lines-one xs ys r s (All-tail IsPlain x xs ours) (All-tail IsPlain y ys theirs) stop stops both.1 in
+    let on = lines-one xs ys r s (All-tail IsPlainLine x xs ours) (All-tail IsPlainLine y ys theirs) stop stops both.1 in
     (ap₂ (λ z zs. z ∷ zs) both.0 on.0, on.1)
 
 -- two parts before a mark
-pub marked-one : (input a b c d : List ℕ) → IsMarked input a b → IsMarked input c d → (a ≡ c) × (b ≡ d)
+pub marked-one : (input a b c d : List ℕ) → HasMark input a b → HasMark input c d → (a ≡ c) × (b ≡ d)
 marked-one input a b c d m n = by m.stands n.stands
   where
     at : (r : List ℕ) → input ≡ a ++ r → input ≡ flat_map ended m.lines ++ r
@@ -68,7 +68,7 @@ marked-one input a b c d m n = by m.stands n.stands
         (firsts one.0, x.1 ∙ sym y.1)
 
 -- no input has a mark and none
-pub marked-unmarked : (input a b c d : List ℕ) → IsMarked input a b → IsUnmarked input c d → ⊥
+pub marked-unmarked : (input a b c d : List ℕ) → HasMark input a b → HasNoMark input c d → ⊥
 marked-unmarked input a b c d m u = by m.stands
   where
     by : (input ≡ a ++ (ended mark ++ b)) ⊎ ((input ≡ a ++ mark) × (b ≡ [])) → ⊥

@@ -7,17 +7,17 @@ use Rattle.std.proofs.lemmas.Grind.{flat_map-append}
 use Rattle.std.proofs.lemmas.List.Elements.{All-append, All-cons, All-nil}
 use Rattle.tc_histline.specs.Lines.{HasNoFeed}
 use Rattle.tc_histtext.specs.ReadTexts.{ended}
-use Rattle.tc_verify.specs.Inputs.{EndsLine, IsParted, IsPlain, mark}
+use Rattle.tc_verify.specs.Inputs.{EndsLine, IsParted, IsPlainLine, mark}
 
 -- how far an input was gone through: plain lines up to a place
 pub record HasPassed (input : List ℕ) (from : ℕ) : Type 0 where
   pub inside : from ≤ length input
   pub lines : List (List ℕ)
-  pub plain : All IsPlain lines
+  pub plain : All IsPlainLine lines
   pub passed : take from input ≡ flat_map ended lines
 
 pub passed-none : (input : List ℕ) → HasPassed input 0
-passed-none input = record { inside = omega arith; lines = []; plain = All-nil IsPlain; passed = refl }
+passed-none input = record { inside = omega arith; lines = []; plain = All-nil IsPlainLine; passed = refl }
 
 -- all is what was passed and what is left
 passed-split : (input : List ℕ) (from : ℕ) (p : HasPassed input from) → input ≡ flat_map ended p.lines ++ drop from input
@@ -35,7 +35,7 @@ passed-more input from end p e other =
     record {
       inside = omega (arith, e.within);
       lines = lines;
-      plain = All-append IsPlain p.lines (line ∷ []) p.plain (All-cons IsPlain line [] (record { whole = e.whole; other = other }) (All-nil IsPlain));
+      plain = All-append IsPlainLine p.lines (line ∷ []) p.plain (All-cons IsPlainLine line [] (record { whole = e.whole; other = other }) (All-nil IsPlainLine));
       passed = ap (λ l. take (end + 1) l) all ∙ (ap (λ k. take k (flat_map ended lines ++ drop (end + 1) input)) (sym long) ∙ take-append_seam (flat_map ended lines) (drop (end + 1) input));
     }
 

@@ -31,7 +31,7 @@ pub record IsJudged (question : Question) (input : List ℕ) (verdict : Verdict)
   pub line_is : line ≡ verdict_text config verdict
 
 -- the first part of the input is refused as a configuration, as the line tells
-pub record IsRefusedFor (input line : List ℕ) : Type 0 where
+pub record IsRefusedWith (input line : List ℕ) : Type 0 where
   pub first : List ℕ
   pub second : List ℕ
   pub parts : IsParted input first second
@@ -43,7 +43,7 @@ pub record IsRefusedFor (input line : List ℕ) : Type 0 where
 -- what an input comes to
 abbrev pub IsJudgement : Question → List ℕ → Judgement → Type 0
 IsJudgement question input (Judged verdict line) = IsJudged question input verdict line
-IsJudgement question input (Refused line) = IsRefusedFor input line
+IsJudgement question input (Refused line) = IsRefusedWith input line
 
 -- it comes to this verdict
 abbrev pub HasVerdict : Verdict → Judgement → Type 0
