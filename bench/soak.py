@@ -83,7 +83,7 @@ class Peer:
         self.draw = random.Random(f'{seed} {number}')
         self.asked = collections.deque()
         self.rows, self.held, self.pending = bytearray(), [], None
-        self.buffer, self.told, self.is_over, self.ended_by = b'', 0, False, None
+        self.buffer, self.told, self.last, self.is_over, self.ended_by = b'', 0, '', False, None
 
     async def sends(self, lines, rest=b''):
         """Sends the lines, and bytes that are none."""
@@ -105,6 +105,7 @@ class Peer:
         """Takes in the reply to the first line that has none."""
         line = self.asked.popleft()
         self.told += 1
+        self.last = reply
         if reply.startswith(LINE_FAULTS):
             return
         if line in ('poll', 'wait') and self.pending:
@@ -245,13 +246,26 @@ async def live(peer, until, faults):
     peer.link.close()
 
 
+async def serve_all_at(host, centre, name):
+    """Takes all tuples of this name, so that who waits for their absence is told, and then puts one of each."""
+    host.last = 'tuple'
+    while host.last.startswith('tuple'):
+        await host.sends([f'{centre} ? inp({name}(X))'])
+        await host.reads()
+    await host.sends([f'{centre} ? out({name}({key}))' for key in KEYS])
+    await host.reads()
+
+
 async def supply(host, until, server):
-    """Puts tuples and takes others until this time, and then faster until no other session is left."""
-    while time.monotonic() < until or server.seen()[1] > server.descriptors + 1:
+    """Puts tuples and takes others until this time, and then serves who waits until no other session is left."""
+    while time.monotonic() < until:
         centre, template = host.draw.choice(CENTRES), f'{host.draw.choice("pq")}({host.draw.choice(KEYS)})'
         await host.sends([f'{centre} ? {host.draw.choice(("out", "out", "inp"))}({template})'])
         await host.reads()
-        await asyncio.sleep(0.02 if time.monotonic() < until else 0.001)
+        await asyncio.sleep(0.02)
+    while server.seen()[1] > server.descriptors + 1:
+        await serve_all_at(host, host.draw.choice(CENTRES), host.draw.choice('pq'))
+        await asyncio.sleep(0.001)
     await end_by_quit(host)
     host.ended_by = 'end by quit'
 
