@@ -100,13 +100,11 @@ pub(crate) fn file(
     ensures filed { IsFiled index.new filed.new codes.now serials.now }
     ensures marked { is_marked ≡ true → (index.new ≡ index.old) × (filed.new ≡ filed.old) }
 {
-    if is_marked || serials.len() <= FEW {
+    let is_short = serials.len() <= FEW || serials[serials.len() - FEW - 1] < *filed;
+    if is_marked || is_short {
         return Ok(());
     }
     let start = count_below(serials, *filed);
-    if serials.len() - start <= FEW {
-        return Ok(());
-    }
     let behind = number_behind(serials, *filed)?;
     index.enter_from(codes, serials, start)?;
     *filed = behind;
