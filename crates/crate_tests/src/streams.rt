@@ -119,6 +119,8 @@ fn errors_of_the_outside_are_failures(rt: HostRuntime) {
 enum First {
     Fails,
     TakesNothing,
+    // A signal comes in between.
+    IsInterrupted,
     // It is well.
     Works,
 }
@@ -132,6 +134,7 @@ impl Read for Late {
         match mem::replace(&mut self.0, First::Works) {
             First::Fails => Err(io::Error::from(ErrorKind::Other)),
             First::TakesNothing => Ok(0),
+            First::IsInterrupted => Err(io::Error::from(ErrorKind::Interrupted)),
             First::Works => Ok(buf.len()),
         }
     }
@@ -142,6 +145,7 @@ impl Write for Late {
         match mem::replace(&mut self.0, First::Works) {
             First::Fails => Err(io::Error::from(ErrorKind::Other)),
             First::TakesNothing => Ok(0),
+            First::IsInterrupted => Err(io::Error::from(ErrorKind::Interrupted)),
             First::Works => Ok(buf.len()),
         }
     }
@@ -170,6 +174,15 @@ fn a_write_that_fails_once_is_told(rt: HostRuntime) {
         );
         assert!(rt; sink.write(TEXT).is_ok_and(|n| n == TEXT.len()));
     }
+}
+
+// Nor that a call is made again that a signal interrupted.
+#[test]
+fn an_interrupted_call_is_made_again(rt: HostRuntime) {
+    let mut source = StdSource::new(Late(First::IsInterrupted));
+    assert!(rt; source.read(&mut [0; 8]).is_ok_and(|n| n == 8));
+    let mut sink = StdSink::new(Late(First::IsInterrupted));
+    assert!(rt; sink.write(TEXT).is_ok_and(|n| n == TEXT.len()));
 }
 
 // A link that gives these bytes, and fails at no call.

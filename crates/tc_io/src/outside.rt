@@ -9,9 +9,12 @@ ghost use Rattle.tc_io.specs.Sinks.{AppendsAtMost};
 
 use crate::{Failed, Sink, SinkFault, Source};
 use std::io;
-use std::io::{Read, Write};
+use std::io::{ErrorKind, Read, Write};
 
-/// A reader, whose errors are counted.
+// How often a call is made at most that a signal interrupts.
+const MOST_TRIES: u32 = 1_000_000;
+
+/// A reader, whose errors are counted. A read that a signal interrupts is made again, and is none.
 #[derive(Drop)]
 pub struct StdSource<R> {
     reader: R,
@@ -24,6 +27,22 @@ impl<R: Read> StdSource<R> {
         ensures { result ≡ record { reader = reader; faults = 0 } }
     {
         StdSource { reader, faults: 0 }
+    }
+
+    // Reads once more where a signal came in between.
+    fn give(&mut self, into: &mut [u8]) -> Result<usize, io::Error>
+        ensures count { IfOk result (λ n. n ≤ length into.old) }
+        ensures given { ReadConsumes
+            (R.remaining self.old.reader) (R.remaining self.new.reader) result into.new }
+        ensures faults { self.new.faults ≡ self.old.faults }
+    {
+        for _ in 0..MOST_TRIES {
+            match self.reader.read(into) {
+                Err(e) if e.kind() == ErrorKind::Interrupted => {}
+                result => return result,
+            }
+        }
+        self.reader.read(into)
     }
 }
 
@@ -44,7 +63,7 @@ impl<R: Read> Source for StdSource<R> {
         ensures given { ReadConsumes
             (R.remaining self.old.reader) (R.remaining self.new.reader) result into.new }
     {
-        match self.reader.read(into) {
+        match self.give(into) {
             Ok(n) => Ok(n),
             Err(_) => {
                 self.faults = self.faults.saturating_add(1);
@@ -54,7 +73,8 @@ impl<R: Read> Source for StdSource<R> {
     }
 }
 
-/// A writer, whose errors are counted. Each piece is flushed as it is written.
+/// A writer, whose errors are counted. Each piece is flushed as it is written. A call that a signal
+/// interrupts is made again, and is no error.
 #[derive(Drop)]
 pub struct StdSink<W> {
     writer: W,
@@ -84,6 +104,12 @@ impl<W: Write> StdSink<W> {
         ensures faults { self.new.faults ≡ self.old.faults }
     {
         self.unflushed = true;
+        for _ in 0..MOST_TRIES {
+            match self.writer.write(piece) {
+                Err(e) if e.kind() == ErrorKind::Interrupted => {}
+                result => return result,
+            }
+        }
         self.writer.write(piece)
     }
 
@@ -93,8 +119,18 @@ impl<W: Write> StdSink<W> {
         ensures kept { Keeps (W.contents self.old.writer) (W.contents self.new.writer) }
         ensures faults { self.new.faults ≡ self.old.faults }
     {
-        self.unflushed = self.writer.flush().is_err();
-        !self.unflushed
+        self.unflushed = true;
+        for _ in 0..MOST_TRIES {
+            match self.writer.flush() {
+                Ok(()) => {
+                    self.unflushed = false;
+                    return true;
+                }
+                Err(e) if e.kind() == ErrorKind::Interrupted => {}
+                Err(_) => return false,
+            }
+        }
+        false
     }
 }
 
