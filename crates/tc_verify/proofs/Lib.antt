@@ -4,3 +4,8 @@ pub mod Parting
 pub mod OneBad
 pub mod OneFaulty
 pub mod OneVerdict
+pub mod Asks
+pub mod Told
+pub mod Wholes
+pub mod Sounds
+pub mod RunTexts

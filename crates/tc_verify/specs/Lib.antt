@@ -1,4 +1,5 @@
 pub mod Inputs
 pub mod Verdicts
+pub mod RunTexts
 pub mod Texts
 pub mod Judgements

@@ -24,7 +24,7 @@
 //! | ends | whether some agent waits, by the rows |
 //! | inputs | an input, parted |
 //! | printing | verdicts as lines |
-//! | laws | an input is parted in one way |
+//! | laws | which texts are verified yes; that a text has one verdict, and an input one parting |
 #![tactic(auto)]
 
 mod agents;
@@ -41,7 +41,9 @@ pub use agents::first_faulty_of;
 pub use centres::first_bad_of;
 pub use inputs::parted;
 pub use judging::{Judgement, Question, judge};
-pub use laws::an_input_is_parted_in_one_way;
+pub use laws::{
+    a_text_has_one_verdict, an_input_is_parted_in_one_way, yes_is_told_of_texts_of_runs,
+};
 pub use printing::verdict_text;
 pub use tc_lists::NoMemory;
 pub use texts::read_text_of;
