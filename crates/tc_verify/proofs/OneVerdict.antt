@@ -1,9 +1,11 @@
 -- The verdict on a text is one.
-use Rattle.std.proofs.Common.{◌≡◌, ℕ, List, refl, sym, ap, ap₂, subst}
+use Rattle.std.proofs.Common.{◌≡◌, ◌≢◌, ℕ, AllPairs, List, refl, sym, ap, ap₂, subst}
 use Rattle.std.proofs.lemmas.Option.{slice_get_within}
 use Rattle.tc_config.specs.Configurations.{Configuration, agent_names, centre_names}
 use Rattle.tc_histtext.specs.ReadTexts.{IsFirstFault, IsText}
 use Rattle.tc_histtext.specs.declared.read_texts.Text.{Text}
+use Rattle.tc_histtext.proofs.LineLaws.{line_laws}
+use Rattle.tc_histtext.proofs.OneAnswer.{fault-one, text-one}
 use Rattle.tc_rows.specs.Rows.{AreQuietRuns}
 use Rattle.tc_verify.specs.Texts.{IsOfKnown}
 use Rattle.tc_verify.specs.Verdicts.{AreAllSound, EndsAsRows, IsAudit, IsFirstAgent, IsFirstBad, IsSoundText, IsTextOfRuns, IsVerdict}
@@ -117,3 +119,26 @@ module _ (c : Configuration) (bytes : List ℕ) where
   verdict-known (NoEntry place number) is = slice_get_within c.centres place is.2.centre is.2.known
   verdict-known (NoAgent agent number) is = slice_get_within c.agents agent is.2.a is.2.known
   verdict-known NoEnd is = tt
+
+  module _ (differ : AllPairs ◌≢◌ (agent_names c)) where
+    text-same : (t : Text) → IsText (centre_names c) (agent_names c) t bytes → (u : Text) → IsText (centre_names c) (agent_names c) u bytes → t ≡ u
+    text-same t is u also = text-one (centre_names c) (agent_names c) (line_laws (agent_names c) differ) t u bytes is also
+
+    text-whole : (t : Text) → IsText (centre_names c) (agent_names c) t bytes → (k : ℕ) → IsFirstFault (centre_names c) (agent_names c) bytes k → ⊥
+    text-whole t is k fault = fault.unfinished t is
+
+    -- one verdict holds
+    pub verdict-one : (v w : Verdict) → IsVerdict c bytes v → IsVerdict c bytes w → v ≡ w
+    verdict-one Yes w is other =
+        let text = is.1.text.text in
+        verdict-yes is.0 (text-same is.0 text) (text-whole is.0 text) is.1.text.runs is.1.rows is.2 w other
+    verdict-one (NoText k) w is other =
+        verdict-line k is.unfinished (λ m also. fault-one (centre_names c) (agent_names c) bytes k m is also) w other
+    verdict-one (NoEntry place number) w is other =
+        verdict-entry is.0 (text-same is.0 is.1) (text-whole is.0 is.1) place number is.2 w other
+    verdict-one (NoAgent agent number) w is other =
+        let text = is.1.text in
+        verdict-agent is.0 (text-same is.0 text) (text-whole is.0 text) is.1.runs agent number is.2 w other
+    verdict-one NoEnd w is other =
+        let text = is.1.text.text in
+        verdict-end is.0 (text-same is.0 text) (text-whole is.0 text) is.1.text.runs is.1.rows is.2 w other
