@@ -1,7 +1,6 @@
 //! An input of a configuration and a text, judged.
 ghost use Rattle.std.specs.Prelude.{◌≡◌, ℕ, IfOk, List};
 ghost use Rattle.tc_config.specs.Configurations.{Configuration};
-ghost use Rattle.tc_config.specs.Refusals.{refused_text};
 ghost use Rattle.tc_config.specs.Texts.{IsRefused, Spells};
 ghost use Rattle.tc_config.specs.declared.faults.ConfigCause.{ConfigCause};
 ghost use Rattle.tc_verify.specs.Inputs.{IsParted};
@@ -14,7 +13,7 @@ use crate::inputs::parted;
 use crate::printing::verdict_text;
 use crate::verdicts::{Verdict, audit, verify};
 use std::alloc::Global;
-use tc_config::{Config, ConfigFault, read_config, refused_text};
+use tc_config::{Config, ConfigCause, ConfigFault, read_config};
 use tc_lists::{NoMemory, Seq};
 
 /// What is asked of a text.
@@ -26,12 +25,14 @@ pub enum Question {
     Run,
 }
 
-/// What an input comes to, with the line that tells it.
+/// What an input comes to.
 #[derive(Drop)]
 pub enum Judgement {
+    /// This verdict, with the line that tells it.
     Judged(Verdict, Seq<u8>),
-    /// Its configuration is refused.
-    Refused(Seq<u8>),
+    /// Its configuration is refused: the first faulty clause, from 1, or 0 for the whole of it; and
+    /// why.
+    Refused { clause: u32, cause: ConfigCause },
 }
 
 /// Judges an input of a configuration, a line `%%` and a text.
@@ -44,7 +45,7 @@ pub fn judge(alloc: Global, question: Question, input: &[u8]) -> Result<Judgemen
         → IsVerdictOn question c second verdict → IfOk result (HasVerdict verdict) }
     ensures refused { (first second : List ℕ) (clause : ℕ) (why : ConfigCause)
         → IsParted input.now first second → IsRefused first clause why
-        → IfOk result (λ j. j ≡ Judgement.Refused (refused_text clause why)) }
+        → IfOk result (λ j. j ≡ Judgement.Refused clause why) }
 {
     let (first, second) = parted(input);
     match read_config(alloc, first) {
@@ -53,10 +54,7 @@ pub fn judge(alloc: Global, question: Question, input: &[u8]) -> Result<Judgemen
             let line = verdict_text(alloc, &config, verdict)?;
             Ok(Judgement::Judged(verdict, Seq::new(line)))
         }
-        Err(ConfigFault::Bad { clause, cause }) => {
-            let line = refused_text(alloc, clause, cause)?;
-            Ok(Judgement::Refused(Seq::new(line)))
-        }
+        Err(ConfigFault::Bad { clause, cause }) => Ok(Judgement::Refused { clause, cause }),
         Err(ConfigFault::NoMemory) => Err(NoMemory),
     }
 }

@@ -1,5 +1,6 @@
 //! The rows of a table: inputs, each of a configuration and a text.
 use std::alloc::Global;
+use tc_config::refused_text;
 use tc_lists::NoMemory;
 use tc_verify::{Judgement, Question, judge};
 
@@ -61,8 +62,14 @@ fn print_verdict(
     into: &mut Vec<u8>,
 ) -> Result<(), NoMemory> {
     match judge(alloc, question, input)? {
-        Judgement::Judged(_, line) | Judgement::Refused(line) => {
-            into.extend_from_slice(line.items().strip_suffix(b"\n").unwrap_or(line.items()))
+        Judgement::Judged(_, line) => print_line(line.items(), into),
+        Judgement::Refused { clause, cause } => {
+            print_line(&refused_text(alloc, clause, cause)?, into)
         }
     }
+}
+
+// Prints a line without its end.
+fn print_line(line: &[u8], into: &mut Vec<u8>) -> Result<(), NoMemory> {
+    into.extend_from_slice(line.strip_suffix(b"\n").unwrap_or(line))
 }

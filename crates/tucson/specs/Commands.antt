@@ -2,7 +2,7 @@
 use Rattle.std.specs.Prelude.{◌≡◌, ◌≤◌, ℕ, decimal, codes}
 use Rattle.std.specs.Prelude.{Option, Some, None, List, [], ◌∷◌}
 use Rattle.tucson.specs.declared.command.Command.{Command}
-use Rattle.tucson.specs.declared.command.Command.TheVariants.{Run, Load, Serve}
+use Rattle.tucson.specs.declared.command.Command.TheVariants.{Run, Load, Serve, Verify}
 use Rattle.tucson.specs.declared.limits.TheConstants.{MOST_AGENTS, MOST_PORT, MOST_START}
 use Rattle.tucson.specs.declared.limits.TheConstants.{MOST_WORKERS, USUAL_WORKERS}
 
@@ -24,6 +24,7 @@ Asks (load ∷ count ∷ seed ∷ []) (Load agents start) =
     × IsNumber seed 0 MOST_START start
 Asks (serve ∷ word ∷ []) (Serve port) =
     (serve ≡ codes "serve") × IsNumber word 1 MOST_PORT port
+Asks (verify ∷ []) Verify = verify ≡ codes "verify"
 Asks words command = ⊥
 
 -- the words ask for this command, or for none

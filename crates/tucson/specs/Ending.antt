@@ -1,18 +1,27 @@
 -- How a call ends, by its status.
-use Rattle.std.specs.Prelude.{◌≡◌, ℕ, ◌⊎◌, false, Option, Some, None, List}
+use Rattle.std.specs.Prelude.{◌≡◌, ◌<◌, ◌≤◌, ℕ, ◌⊎◌, false, Option, Some, None, List, length}
 use Rattle.tc_io.specs.Faults.{CountRises, Counts}
 use Rattle.tc_io.specs.Sources.{SourceState}
 use Rattle.tc_io.specs.Sinks.{SinkState, AppendsFront, appended}
 use Rattle.tc_config.specs.Configurations.{Configuration}
 use Rattle.tc_config.specs.Texts.{IsRefused, Spells}
+use Rattle.tc_config.specs.declared.faults.ConfigCause.{ConfigCause}
+use Rattle.tc_config.specs.declared.faults.ConfigCause.TheVariants as cause
+use Rattle.tc_config.specs.declared.limits.TheConstants.{MOST_BYTES}
 use Rattle.tc_load.specs.Workload.{load_text}
+use Rattle.tc_verify.specs.Inputs.{IsParted}
+use Rattle.tc_verify.specs.Judgements.{IsRefusedWith}
+use Rattle.tc_verify.specs.Verdicts.{IsVerdict}
+use Rattle.tc_verify.specs.declared.verdicts.Verdict.{Verdict}
 use Rattle.tc_visits.specs.Service.{DoorState}
 use Rattle.tucson.specs.declared.command.Command.{Command}
-use Rattle.tucson.specs.declared.command.Command.TheVariants.{Run, Load, Serve}
+use Rattle.tucson.specs.declared.command.Command.TheVariants.{Run, Load, Serve, Verify}
 use Rattle.tucson.specs.declared.status.Status.{Status}
 use Rattle.tucson.specs.declared.status.Status.TheVariants.{Ended, WriteFault, Refused, Blocked}
 use Rattle.tucson.specs.declared.status.Status.TheVariants.{ReadFault, NoMemory, Usage, NetFault}
-use Rattle.tucson.specs.Answer.{Input, IsInput, IsDue, ReadsInput}
+use Rattle.tucson.specs.declared.limits.TheConstants.{MOST_INPUT}
+use Rattle.tucson.specs.Answer.{Input, IsInput, IsDue, ReadsInput, most_read}
+use Rattle.tucson.specs.Status.{status_of_verdict}
 
 -- a call: the command that it asks for, if it asks for one, and the source, the sink and the door
 -- as it begins and as it ends
@@ -25,6 +34,16 @@ pub record Call : Type 0 where
   pub door : DoorState
   pub door_after : DoorState
 
+-- the most bytes that the input of this command's call may have, or of a call for none
+abbrev pub most_read_by : Option Command → ℕ
+most_read_by (Some command) = most_read command
+most_read_by None = MOST_BYTES
+
+-- the call reads this input
+abbrev pub IsInputOf : Call → Input → Type 0
+IsInputOf call input =
+    IsInput (most_read_by call.command) call.source.left call.source_after.left input
+
 -- with this input, this status and this text are due to the call
 abbrev pub IsDueTo : Call → Input → Status → List ℕ → Type 0
 IsDueTo call input status text = IsDue call.command call.door call.door_after input status text
@@ -33,7 +52,7 @@ IsDueTo call input status text = IsDue call.command call.door call.door_after in
 pub record EndsAsDue (call : Call) (status : Status) : Type 0 where
   pub input : Input
   pub text : List ℕ
-  pub read : IsInput call.source.left call.source_after.left input
+  pub read : IsInputOf call input
   pub due : IsDueTo call input status text
   pub taken : call.sink_after.taken ≡ appended call.sink.taken text
 
@@ -42,7 +61,7 @@ pub record BreaksOff (call : Call) : Type 0 where
   pub input : Input
   pub status : Status
   pub text : List ℕ
-  pub read : IsInput call.source.left call.source_after.left input
+  pub read : IsInputOf call input
   pub due : IsDueTo call input status text
   pub taken : AppendsFront call.sink.taken call.sink_after.taken text
 
@@ -96,17 +115,49 @@ IsOfEnd OfService status = (status ≡ Ended) ⊎ (status ≡ Blocked) ⊎ (stat
 abbrev pub IsUnlessStopped : End → Status → Type 0
 IsUnlessStopped end status = IsOfEnd end status ⊎ IsStopped status
 
--- how a command ends that has a configuration
-abbrev pub end_of : Command → End
-end_of (Run workers) = OfRun
-end_of (Load agents start) = OfRun
-end_of (Serve port) = OfService
+-- how a command ends that runs or serves the agents of a configuration
+abbrev pub IsEndOf : Command → End → Type 0
+IsEndOf (Run workers) OfRun = Unit {0}
+IsEndOf (Load agents start) OfRun = Unit {0}
+IsEndOf (Serve port) OfService = Unit {0}
+IsEndOf command end = ⊥
 
--- how a command is to end whose configuration is spelt so
+-- how such a command is to end whose configuration is spelt so
 abbrev pub IsEndFor : Command → List ℕ → End → Type 0
 IsEndFor command spelt (With (Refused clause why)) = IsRefused spelt clause why
 IsEndFor command spelt (With status) = ⊥
-IsEndFor command spelt end = (end ≡ end_of command) × ((c : Configuration) × Spells spelt c)
+IsEndFor command spelt end = IsEndOf command end × ((c : Configuration) × Spells spelt c)
+
+-- the input is too long to be judged, which is told as a refusal of the whole
+pub record IsPastMost (input : List ℕ) (clause : ℕ) (why : ConfigCause) : Type 0 where
+  pub long : MOST_INPUT < length input
+  pub clause_is : clause ≡ 0
+  pub why_is : why ≡ cause.Length
+
+-- the input isn't too long, and its configuration is refused
+pub record HasRefusal (input : List ℕ) (clause : ℕ) (why : ConfigCause) : Type 0 where
+  pub short : length input ≤ MOST_INPUT
+  pub refused : IsRefusedWith input clause why
+
+-- the input isn't too long, and the verdict on the text in it has this status
+pub record HasStatus (input : List ℕ) (status : Status) : Type 0 where
+  pub short : length input ≤ MOST_INPUT
+  pub first : List ℕ
+  pub second : List ℕ
+  pub parts : IsParted input first second
+  pub config : Configuration
+  pub spells : Spells first config
+  pub verdict : Verdict
+  pub is : IsVerdict config second verdict
+  pub status_is : status ≡ status_of_verdict verdict
+
+-- how a call of `verify` is to end that has this input left: as too long an input, as a refused
+-- configuration, or by the verdict
+abbrev pub IsEndOfVerdict : List ℕ → End → Type 0
+IsEndOfVerdict input (With (Refused clause why)) =
+    IsPastMost input clause why ⊎ HasRefusal input clause why
+IsEndOfVerdict input (With status) = HasStatus input status
+IsEndOfVerdict input end = ⊥
 
 -- how a call is to end that asks for this command, or for none, and has this input left
 abbrev pub MustEnd : Option Command → Option (List ℕ) → End → Type 0
@@ -115,6 +166,7 @@ MustEnd (Some (Run workers)) (Some input) end = IsEndFor (Run workers) input end
 MustEnd (Some (Load agents start)) left end =
     IsEndFor (Load agents start) (load_text agents start) end
 MustEnd (Some (Serve port)) (Some input) end = IsEndFor (Serve port) input end
+MustEnd (Some Verify) (Some input) end = IsEndOfVerdict input end
 MustEnd command left end = ⊥
 
 -- the door is as it was; only `serve` uses it

@@ -14,14 +14,17 @@ pub enum Command {
     Load { agents: u32, start: u64 },
     /// To serve the agents of a configuration over the connections to this port, from 1.
     Serve { port: u16 },
+    /// To judge a text by the configuration before it.
+    Verify,
 }
 
-/// The command that the words ask for: `run`, `run --workers N`, `load N SEED` or `serve PORT`.
+/// The command that the words ask for: `run`, `run --workers N`, `load N SEED`, `serve PORT` or
+/// `verify`.
 pub fn command_of(words: &[Vec<u8>]) -> Option<Command>
     ensures { IsCommandOf (map (λ w. w.items) words.now) result }
 {
     match words {
-        [run] => of_one(run),
+        [word] => of_one(word),
         [serve, port] => of_two(serve, port),
         [name, first, second] => of_three(name, first, second),
         _ => None,
@@ -29,15 +32,18 @@ pub fn command_of(words: &[Vec<u8>]) -> Option<Command>
 }
 
 // The command that a single word asks for.
-fn of_one(run: &[u8]) -> Option<Command>
-    ensures { IsCommandOf (run.now ∷ []) result }
+fn of_one(word: &[u8]) -> Option<Command>
+    ensures { IsCommandOf (word.now ∷ []) result }
 {
-    if run != b"run".as_slice() {
-        return None;
+    if word == b"run".as_slice() {
+        return Some(Command::Run {
+            workers: USUAL_WORKERS,
+        });
     }
-    Some(Command::Run {
-        workers: USUAL_WORKERS,
-    })
+    if word == b"verify".as_slice() {
+        return Some(Command::Verify);
+    }
+    None
 }
 
 // The command that two words ask for.

@@ -6,8 +6,8 @@ ghost use Rattle.tc_model.specs.Choices.{TheFirst};
 ghost use Rattle.tc_visits.specs.Service.{DoorState, IsServiceBy};
 ghost use Rattle.tucson.specs.Answer.{IsTextOf};
 ghost use Rattle.tucson.specs.Texts.{whole_text};
-ghost use Rattle.tucson.specs.declared.limits.TheConstants.{MOST_AGENTS, MOST_PORT, MOST_START};
-ghost use Rattle.tucson.specs.declared.limits.TheConstants.{MOST_WORKERS, USUAL_WORKERS};
+ghost use Rattle.tucson.specs.declared.limits.TheConstants.{MOST_AGENTS, MOST_INPUT, MOST_PORT};
+ghost use Rattle.tucson.specs.declared.limits.TheConstants.{MOST_START, MOST_WORKERS, USUAL_WORKERS};
 
 /// The limits are these numbers.
 pub fn limits_are_these()
@@ -16,6 +16,7 @@ pub fn limits_are_these()
     ensures agents { MOST_AGENTS ≡ 1000 }
     ensures start { MOST_START ≡ 2 ^ 64 - 1 }
     ensures port { MOST_PORT ≡ 65535 }
+    ensures input { MOST_INPUT ≡ 268435456 }
 {}
 
 /// A text tells its histories: whoever finds in it a run of a configuration, or a service of its

@@ -14,3 +14,6 @@ pub const MOST_START: u64 = 18_446_744_073_709_551_615;
 
 /// The greatest port.
 pub const MOST_PORT: u64 = 65_535;
+
+/// The most bytes of a configuration, a line that parts, and a text.
+pub const MOST_INPUT: usize = 268_435_456;

@@ -2,7 +2,7 @@
 ghost use Rattle.std.specs.Prelude.{◌≡◌, ◌≤◌, ◌++◌, IfErr, IfOk, Some};
 ghost use Rattle.std.specs.Prelude.{drop, length, map};
 ghost use Rattle.tc_config.specs.Good.{IsGood};
-ghost use Rattle.tc_config.specs.Texts.{Spells};
+ghost use Rattle.tc_config.specs.Texts.{IsRefused, Spells};
 ghost use Rattle.tc_config.specs.declared.configs.CentreConf.{CentreConf};
 ghost use Rattle.tc_io.specs.Faults.{Counts};
 ghost use Rattle.tc_io.specs.Sinks.{sink_of};
@@ -23,7 +23,7 @@ use crate::reading::{Stop, read_text};
 use crate::refusing::stopped;
 use crate::running::run_config;
 use crate::status::Status;
-use crate::writing::{is_blocked, status_of_run, typed_histories, written};
+use crate::writing::{is_blocked, status_of_run, typed_histories, typed_logs, written};
 use std::alloc::Global;
 use std::sync::Wait;
 use std::thread::Threads;
@@ -69,7 +69,7 @@ pub fn load_main<R: Threads + Wait + Sync, K: Sink, G: Gate + Sync>(
 // The configuration of a workload.
 fn workload(alloc: Global, agents: u32, start: u64) -> Result<Config, Stop>
     ensures found { IfOk result (Spells (load_text agents start)) }
-    ensures stopped { IfErr result (IsStopFor (load_text agents start)) }
+    ensures stopped { IfErr result (IsStopFor IsRefused (load_text agents start)) }
 {
     let mut text = Vec::new(alloc);
     load_text(alloc, agents, start, &mut text)?;
@@ -116,6 +116,7 @@ fn summary<R: Threads + Wait + Sync, G: Gate + Sync>(
     let run = run_config(rt, alloc, USUAL_WORKERS, config, gate)?;
     let counts = last_counts(alloc, &first, &run.cores)?;
     typed_histories(&run.plan, &run.cores);
+    typed_logs(&run.logs);
     let blocked = is_blocked(&run.logs);
     let mut text = Vec::new(alloc);
     print_summary(alloc, agents, start, &counts, blocked, &mut text)?;

@@ -1,7 +1,8 @@
 //! A configuration, read to its end; or why a call has none.
 ghost use Rattle.std.specs.Prelude.{◌≡◌, IfErr, IfOk};
 ghost use Rattle.std.specs.Result.{IsErrOf};
-ghost use Rattle.tc_config.specs.Texts.{Spells};
+ghost use Rattle.tc_config.specs.Texts.{IsRefused, Spells};
+ghost use Rattle.tc_config.specs.declared.limits.TheConstants.{MOST_BYTES};
 ghost use Rattle.tc_io.specs.Faults.{Counts};
 ghost use Rattle.tc_io.specs.Sources.{source_of};
 ghost use Rattle.tucson.specs.Reading.{FindsConfig, IsStopFor, StopsReading};
@@ -66,7 +67,7 @@ impl From<NoMemory> for Stop {
 /// Reads a source to its end, and the configuration that this spells.
 pub fn read_source<S: Source>(alloc: Global, source: &mut S) -> Result<Config, Stop>
     ensures found { IfOk result (FindsConfig (S.left source.old) (S.left source.new)) }
-    ensures stopped { IfErr result (StopsReading
+    ensures stopped { IfErr result (StopsReading MOST_BYTES IsRefused
         (source_of S.left S.read_faults S.sure source.old)
         (source_of S.left S.read_faults S.sure source.new)) }
     ensures reads { Counts (IsErrOf result Stop.ReadFault)
@@ -79,7 +80,7 @@ pub fn read_source<S: Source>(alloc: Global, source: &mut S) -> Result<Config, S
 /// Reads the configuration that a text spells.
 pub fn read_text(alloc: Global, text: &[u8]) -> Result<Config, Stop>
     ensures found { IfOk result (Spells text.now) }
-    ensures stopped { IfErr result (IsStopFor text.now) }
+    ensures stopped { IfErr result (IsStopFor IsRefused text.now) }
 {
     Ok(read_config(alloc, text)?)
 }

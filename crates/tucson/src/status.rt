@@ -7,7 +7,8 @@ use tc_config::ConfigCause;
 /// How a call ends. The program exits with the number of its status.
 #[derive(Clone, Copy, PartialEq, Eq, Debug)]
 pub enum Status {
-    /// Every ask of every script has come to its end.
+    /// Every ask of every script has come to its end; or the text that is judged is that of a run
+    /// of the configuration.
     Ended,
     /// A write has failed.
     WriteFault,
@@ -15,6 +16,8 @@ pub enum Status {
     Refused { clause: u32, cause: ConfigCause },
     /// Some agent waits, and all others have come to the ends of their scripts.
     Blocked,
+    /// The text isn't that of a run of the configuration.
+    No,
     /// A read has failed.
     ReadFault,
     NoMemory,
@@ -34,6 +37,7 @@ impl Status {
             Status::WriteFault => 1,
             Status::Refused { .. } => 2,
             Status::Blocked => 3,
+            Status::No => 4,
             Status::ReadFault => 5,
             Status::NoMemory => 6,
             Status::Usage => 7,

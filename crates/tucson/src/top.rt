@@ -11,6 +11,7 @@ use crate::loading::load_main;
 use crate::running::run_main;
 use crate::serving::serve_main;
 use crate::status::Status;
+use crate::verifying::verify_main;
 use crate::writing::written;
 use std::alloc::Global;
 use std::sync::Wait;
@@ -26,12 +27,15 @@ const USAGE: &[u8] = b"usage: tucson run [--workers N] | verify | load N SEED | 
 /// writes the histories of its centres and the logs of its agents. `load` does so with a workload
 /// of so many agents, drawn from a start, and writes what each centre has counted. `serve` reads a
 /// configuration, serves its agents over connections, and writes their histories and logs.
+/// `verify` reads a configuration, a line `%%` and a text, and writes `yes` where the text is that
+/// of a run of the configuration, whatever was chosen in it, or else the first place at which it
+/// isn't. It runs nothing.
 ///
-/// However threads interleave, under `Ended` and `Blocked` the text holds for each centre one
-/// history that is a run from its configured state, and every reply in the logs is the one that
-/// this run gives; each served call of a script stands in it once, in script order. Under `Blocked`
-/// some agent still waits. The gate is passed before each ask of a script, but for those that are
-/// made once the workers have ended; no clause speaks of it.
+/// However threads interleave, under `Ended` and `Blocked` what the others write holds for each
+/// centre one history that is a run from its configured state, and every reply in the logs is the
+/// one that this run gives; each served call of a script stands in it once, in script order. Under
+/// `Blocked` some agent still waits. The gate is passed before each ask of a script, but for those
+/// that are made once the workers have ended; no clause speaks of it.
 pub fn tucson<R: Threads + Wait + Sync, S: Source, K: Sink, G: Gate + Sync, D: Door>(
     rt: &R,
     alloc: Global,
@@ -59,6 +63,7 @@ pub fn tucson<R: Threads + Wait + Sync, S: Source, K: Sink, G: Gate + Sync, D: D
         Some(Command::Run { workers }) => run_main(rt, alloc, workers, source, sink, gate),
         Some(Command::Load { agents, start }) => load_main(rt, alloc, agents, start, sink, gate),
         Some(Command::Serve { port }) => serve_main(rt, alloc, port, source, sink, door),
+        Some(Command::Verify) => verify_main(alloc, source, sink),
         None => written(Status::Usage, USAGE, sink),
     }
 }

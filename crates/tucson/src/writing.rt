@@ -8,6 +8,7 @@ ghost use Rattle.tc_io.specs.Sinks.{sink_of};
 ghost use Rattle.tc_config.specs.Configurations.{agent_names, centre_names};
 ghost use Rattle.tc_config.specs.Good.{IsGood};
 ghost use Rattle.tc_desk.specs.Logs.{is_blocked, rows_of};
+ghost use Rattle.tc_desk.specs.Typed.{IsTypedRow};
 ghost use Rattle.tc_histtext.specs.Text.{histories_text, logs_text};
 ghost use Rattle.tc_histline.specs.declared.versions.Version.TheVariants.{Two};
 ghost use Rattle.tc_runner.specs.Cores.{AreCores, histories};
@@ -21,7 +22,7 @@ ghost use Rattle.tucson.specs.Texts.{whole_text};
 use crate::status::Status;
 use std::alloc::Global;
 use tc_centre::Core;
-use tc_desk::{LogRow, has_pending};
+use tc_desk::{LogRow, has_pending, rows_are_typed};
 use tc_io::{Sink, SinkFault, write_all};
 use tc_model::Entry;
 use tc_runner::{Opened, Plan};
@@ -87,11 +88,13 @@ pub fn write_whole<K: Sink>(
         (sink_of K.taken K.write_faults K.sure sink.old)
         (sink_of K.taken K.write_faults K.sure sink.new) result }
     ensures typed { All (All IsTyped) (histories run.now.plan run.now.cores.items) }
+    ensures typed_logs { All (All IsTypedRow) (rows_of run.now.logs.items) }
     ensures writes { Counts (result ≡ Status.WriteFault)
         (K.write_faults sink.old) (K.write_faults sink.new) }
     ensures reads { result ≡ Status.ReadFault → ⊥ }
 {
     typed_histories(&run.plan, &run.cores);
+    typed_logs(&run.logs);
     let mut kept = Vec::new(alloc);
     match write_text(alloc, run, blocked, sink, &mut kept) {
         Ok(()) => status,
@@ -107,6 +110,17 @@ pub fn typed_histories(plan: &Plan, cores: &[Core])
     let _centres = plan.centres();
     for core in cores {
         let _history = core.history();
+    }
+}
+
+/// Tells contracts what rows promise of themselves, and does nothing.
+///
+/// Walks each ask's term, as `rows_are_typed` does.
+pub fn typed_logs(logs: &[Vec<LogRow>])
+    ensures { All (All IsTypedRow) (rows_of logs.now) }
+{
+    for log in logs {
+        rows_are_typed(log);
     }
 }
 

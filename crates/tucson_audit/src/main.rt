@@ -1,8 +1,8 @@
-//! Whether a text on standard input is that of a run of the configuration before it, or whether its
-//! histories are.
+//! Whether the histories in a text on standard input are those of runs of the configuration before
+//! it; the rows of its logs are read, and not judged.
 //!
-//! Reads a configuration, a line `%%` and a text. What they come to, `judge` of tc_verify says,
-//! whose clauses hold for every input; here it is read and written.
+//! Reads a configuration, a line `%%` and a text, as `verify` of the top call does. What they come
+//! to, `judge` of tc_verify says, whose clauses hold for every input; here it is read and written.
 #![tactic(auto)]
 
 use std::alloc::Global;
@@ -14,7 +14,7 @@ use tc_lists::{NoMemory, Seq};
 use tc_verify::{Judgement, Question, Verdict, judge};
 
 /// The most bytes that an input may have.
-const MOST_INPUT: usize = 268435456;
+const MOST_INPUT: usize = 268_435_456;
 
 const YES: u8 = 0;
 
@@ -31,13 +31,13 @@ const NO_MEMORY: u8 = 6;
 const USAGE: u8 = 7;
 
 fn main(rt: HostRuntime) -> ExitCode {
-    let Some(question) = question_of(&rt) else {
+    if !is_asked(&rt) {
         return ExitCode::from(USAGE);
-    };
+    }
     let alloc = rt.alloc();
     let answer = match read_all(alloc, &mut StdSource::new(rt.stdin()), MOST_INPUT) {
-        Ok(input) => answer_to(alloc, question, &input),
-        Err(InputFault::TooLong) => too_long(alloc),
+        Ok(input) => answer_to(alloc, &input),
+        Err(InputFault::TooLong) => refusal(alloc, 0, ConfigCause::Length),
         Err(InputFault::Failed) => return ExitCode::from(READ_FAULT),
         Err(InputFault::NoMemory) => Err(NoMemory),
     };
@@ -51,31 +51,29 @@ fn main(rt: HostRuntime) -> ExitCode {
     }
 }
 
-// What the one word asks.
-fn question_of(rt: &HostRuntime) -> Option<Question> {
-    let mut words = env::args(rt).ok()?.skip(1);
-    let word = words.next()?;
-    if words.next().is_some() {
-        return None;
-    }
-    match word.as_bytes() {
-        b"verify" => Some(Question::Run),
-        b"audit" => Some(Question::Histories),
-        _ => None,
-    }
+// Whether the one word is `audit`.
+fn is_asked(rt: &HostRuntime) -> bool {
+    let Ok(args) = env::args(rt) else {
+        return false;
+    };
+    let mut words = args.skip(1);
+    let Some(word) = words.next() else {
+        return false;
+    };
+    word.as_bytes() == b"audit".as_slice() && words.next().is_none()
 }
 
 // The status and the line for an input.
-fn answer_to(alloc: Global, question: Question, input: &[u8]) -> Result<(u8, Seq<u8>), NoMemory> {
-    match judge(alloc, question, input)? {
+fn answer_to(alloc: Global, input: &[u8]) -> Result<(u8, Seq<u8>), NoMemory> {
+    match judge(alloc, Question::Histories, input)? {
         Judgement::Judged(Verdict::Yes, line) => Ok((YES, line)),
         Judgement::Judged(_, line) => Ok((NO, line)),
-        Judgement::Refused(line) => Ok((REFUSED, line)),
+        Judgement::Refused { clause, cause } => refusal(alloc, clause, cause),
     }
 }
 
-// Those for an input that is too long.
-fn too_long(alloc: Global) -> Result<(u8, Seq<u8>), NoMemory> {
-    let line = refused_text(alloc, 0, ConfigCause::Length)?;
+// Those where the configuration is refused.
+fn refusal(alloc: Global, clause: u32, cause: ConfigCause) -> Result<(u8, Seq<u8>), NoMemory> {
+    let line = refused_text(alloc, clause, cause)?;
     Ok((REFUSED, Seq::new(line)))
 }
