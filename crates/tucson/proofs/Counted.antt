@@ -7,6 +7,7 @@ use Rattle.tc_config.specs.Good.{IsGood, origin_of}
 use Rattle.tc_config.specs.declared.configs.AgentConf.{AgentConf}
 use Rattle.tc_config.specs.declared.configs.CentreConf.{CentreConf}
 use Rattle.tc_desk.specs.Logs.{is_blocked}
+use Rattle.tc_desk.specs.Typed.{IsTypedRow}
 use Rattle.tc_desk.specs.declared.rows.LogRow.{LogRow}
 use Rattle.tc_load.specs.Counts.{counted_in}
 use Rattle.tc_load.specs.Summaries.{summary}
@@ -88,15 +89,16 @@ module _ (c plan : Configuration) (cores : List Centre) (same : plan ≡ c) (are
   -- the summary of counts so taken is one of a workload's run
   pub summed : (agents start : ℕ) (logs : List (List LogRow)) (counts : List (Option ℤ)) (blocked : Bool) (before text : List ℕ)
       → IsGood TheFirst plan (histories plan cores) logs → counts ≡ last_of (first_of c.centres) cores → blocked ≡ is_blocked logs
-      → before ≡ [] → text ≡ before ++ summary agents start counts blocked → All (All IsTyped) (histories plan cores)
+      → before ≡ [] → text ≡ before ++ summary agents start counts blocked → All (All IsTyped) (histories plan cores) → All (All IsTypedRow) logs
       → IsTextOf (IsGood TheFirst c) (load_summary agents start c) blocked text
-  summed agents start logs counts blocked before text good counted_are waits nothing is typed =
+  summed agents start logs counts blocked before text good counted_are waits nothing is typed typed_logs =
       let these : last_of (first_of c.centres) cores ≡ counts_of c (histories c cores) = subst IsOf same (counted plan cores are none) in
       record {
         histories = histories c cores;
         logs = logs;
         are = subst (λ (d : Configuration). IsGood TheFirst d (histories d cores) logs) same good;
         typed = subst (λ (d : Configuration). All (All IsTyped) (histories d cores)) same typed;
+        typed_logs = typed_logs;
         end = sym waits;
         is = is ∙ ap (λ (b : List ℕ). b ++ summary agents start counts blocked) nothing ∙ ap₂ (summary agents start) (counted_are ∙ these) waits;
       }

@@ -2,12 +2,12 @@
 use Rattle.std.proofs.Common.{◌≡◌, ℕ, List, sym, subst, inl, inr}
 use Rattle.tc_io.specs.Sinks.{appended}
 use Rattle.tucson.specs.declared.status.Status.{Status}
-use Rattle.tucson.specs.declared.status.Status.TheVariants.{Ended, WriteFault, Refused, Blocked, ReadFault, NoMemory, Usage, NetFault}
-use Rattle.tucson.specs.Answer.{Input, IsInput}
-use Rattle.tucson.specs.Ending.{Call, EndsAsDue, Ends, IsDueTo, WritesDue, Writes}
+use Rattle.tucson.specs.declared.status.Status.TheVariants.{Ended, WriteFault, Refused, Blocked, No, ReadFault, NoMemory, Usage, NetFault}
+use Rattle.tucson.specs.Answer.{Input}
+use Rattle.tucson.specs.Ending.{Call, EndsAsDue, Ends, IsDueTo, IsInputOf, WritesDue, Writes}
 
 module _ (call : Call) where
-  answers : (status same : Status) (input : Input) (text : List ℕ) → IsInput call.source.left call.source_after.left input
+  answers : (status same : Status) (input : Input) (text : List ℕ) → IsInputOf call input
       → IsDueTo call input status text → (same ≡ status) × (call.sink_after.taken ≡ appended call.sink.taken text) → EndsAsDue call same
   answers status same input text read due wrote = record {
     input = input;
@@ -18,10 +18,11 @@ module _ (call : Call) where
   }
 
   -- the text that is due was written, or the writing was stopped
-  pub Ends-written : (status result : Status) (input : Input) (text : List ℕ) → IsInput call.source.left call.source_after.left input
+  pub Ends-written : (status result : Status) (input : Input) (text : List ℕ) → IsInputOf call input
       → IsDueTo call input status text → Writes status text call.sink call.sink_after result → Ends call result
   Ends-written status Ended input text read due wrote = answers status Ended input text read due wrote
   Ends-written status Blocked input text read due wrote = answers status Blocked input text read due wrote
+  Ends-written status No input text read due wrote = answers status No input text read due wrote
   Ends-written status (Refused clause cause) input text read due wrote = answers status (Refused clause cause) input text read due wrote
   Ends-written status Usage input text read due wrote = answers status Usage input text read due wrote
   Ends-written status NetFault input text read due wrote = answers status NetFault input text read due wrote
@@ -35,7 +36,7 @@ module _ (call : Call) where
       inr (record { input = input; status = status; text = text; read = read; due = due; taken = wrote })
 
   -- what is due was written, or the writing was stopped, or memory ran out before
-  pub Ends-told : (due : Status → List ℕ → Type 0) (result : Status) (input : Input) → IsInput call.source.left call.source_after.left input
+  pub Ends-told : (due : Status → List ℕ → Type 0) (result : Status) (input : Input) → IsInputOf call input
       → ((status : Status) (text : List ℕ) → due status text → IsDueTo call input status text)
       → WritesDue due call.sink call.sink_after result → Ends call result
   Ends-told due result input read is_due (inl told) =

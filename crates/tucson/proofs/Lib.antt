@@ -1,4 +1,6 @@
 pub mod Endings
+pub mod OneVerdict
+pub mod Judged
 pub mod Dues
 pub mod Outcomes
 pub mod Stops
@@ -10,3 +12,5 @@ pub mod Zipped
 pub mod Told
 pub mod Counted
 pub mod OneReading
+pub mod RunLines
+pub mod Verified

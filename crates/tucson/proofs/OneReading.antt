@@ -50,7 +50,7 @@ one-list : (c : Configuration) → IsConfig c → (hs gs : List (List Entry)) (l
 one-list c config hs gs ls ms text ours theirs is same =
     (run_text-one Two Two (centre_names c) (agent_names c) hs gs ls ms config.agents_differ ours theirs (sym is ∙ same)).1
 
-run-lines : (c : Configuration) (waits : Bool) (text : List ℕ) (a : IsTextOf (IsGood TheFirst c) (whole_text c) waits text)
+pub run-lines : (c : Configuration) (waits : Bool) (text : List ℕ) (a : IsTextOf (IsGood TheFirst c) (whole_text c) waits text)
     → HaveLines (centre_names c) (agent_names c) a.histories
 run-lines c waits text a =
     let runs = a.are.going.runs in

@@ -2,6 +2,7 @@
 use Rattle.std.proofs.Common.{◌≡◌, ◌⊎◌, ℕ, Bool, true, false, List, [], All, refl, sym, subst, inl, inr}
 use Rattle.tc_config.specs.Configurations.{Configuration}
 use Rattle.tc_desk.specs.Logs.{is_blocked}
+use Rattle.tc_desk.specs.Typed.{IsTypedRow}
 use Rattle.tc_desk.specs.declared.rows.LogRow.{LogRow}
 use Rattle.tc_io.specs.Faults.{CountRises}
 use Rattle.tc_io.specs.Sinks.{SinkState}
@@ -14,7 +15,7 @@ use Rattle.tucson.specs.Ending.{IsFault, IsStopped, WritesDue, Writes}
 use Rattle.tucson.specs.Status.{status_of_run, status_of_service}
 use Rattle.tucson.specs.Texts.{whole_text}
 use Rattle.tucson.specs.declared.status.Status.{Status}
-use Rattle.tucson.specs.declared.status.Status.TheVariants.{Ended, WriteFault, Refused, Blocked, ReadFault, NoMemory, Usage, NetFault}
+use Rattle.tucson.specs.declared.status.Status.TheVariants.{Ended, WriteFault, Refused, Blocked, No, ReadFault, NoMemory, Usage, NetFault}
 
 abbrev Hists : Type 0
 Hists = List (List Entry)
@@ -40,9 +41,9 @@ run_outcome Are text_of false text is = is
 
 -- the text of such histories and logs
 pub text_of_these : (Are : Hists → Logs → Type 0) (text_of : Hists → Logs → List ℕ) (histories : Hists) (logs : Logs) → Are histories logs
-    → All (All IsTyped) histories → IsTextOf Are text_of (is_blocked logs) (text_of histories logs)
-text_of_these Are text_of histories logs are typed =
-    record { histories = histories; logs = logs; are = are; typed = typed; end = refl; is = refl }
+    → All (All IsTyped) histories → All (All IsTypedRow) logs → IsTextOf Are text_of (is_blocked logs) (text_of histories logs)
+text_of_these Are text_of histories logs are typed typed_logs =
+    record { histories = histories; logs = logs; are = are; typed = typed; typed_logs = typed_logs; end = refl; is = refl }
 
 -- no status of a service is a fault of writing or of reading
 pub service_sure : (all enough blocked : Bool) → IsFault (status_of_service all enough blocked) → ⊥
@@ -82,6 +83,7 @@ told_nets door after c sink sink_after status Blocked text is wrote =
     let blocked = of_status door after c status Blocked text wrote.0 is in λ other. inr (blocked.are.all_are.1)
 told_nets door after c sink sink_after status (Refused clause why) text is wrote =
     absurd (of_status door after c status (Refused clause why) text wrote.0 is)
+told_nets door after c sink sink_after status No text is wrote = absurd (of_status door after c status No text wrote.0 is)
 told_nets door after c sink sink_after status Usage text is wrote = absurd (of_status door after c status Usage text wrote.0 is)
 told_nets door after c sink sink_after status NetFault text is wrote = λ other. absurd (other refl)
 told_nets door after c sink sink_after status WriteFault text is wrote = λ other. inl tt

@@ -9,7 +9,7 @@ use Rattle.tc_io.specs.Flow.{Flow, HandsOn}
 use Rattle.tc_io.proofs.Flows.{appended-nil}
 use Rattle.tucson.specs.Ending.{IsFault, Writes}
 use Rattle.tucson.specs.declared.status.Status.{Status}
-use Rattle.tucson.specs.declared.status.Status.TheVariants.{Ended, WriteFault, Refused, Blocked, ReadFault, NoMemory, Usage, NetFault}
+use Rattle.tucson.specs.declared.status.Status.TheVariants.{Ended, WriteFault, Refused, Blocked, No, ReadFault, NoMemory, Usage, NetFault}
 
 -- a sink, and what is kept
 abbrev with_kept : SinkState → List ℕ → Flow
@@ -27,6 +27,7 @@ pub writes_whole : (status : Status) (text : List ℕ) (old new : SinkState) →
     → Writes status text old new status
 writes_whole Ended text old new sure taken = (refl, taken)
 writes_whole Blocked text old new sure taken = (refl, taken)
+writes_whole No text old new sure taken = (refl, taken)
 writes_whole (Refused clause why) text old new sure taken = (refl, taken)
 writes_whole Usage text old new sure taken = (refl, taken)
 writes_whole NetFault text old new sure taken = (refl, taken)

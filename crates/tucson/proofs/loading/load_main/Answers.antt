@@ -1,4 +1,4 @@
-use Rattle.std.proofs.Common.{Some, refl, inr}
+use Rattle.std.proofs.Common.{Some, [], refl, inr}
 use Rattle.tc_io.specs.Sinks.{sink_of}
 use Rattle.tc_load.specs.Workload.{load_text}
 use Rattle.tucson.specs.Answer.{Unread}
@@ -12,7 +12,7 @@ returns-in-Ok g c = λ source door.
     returns-told command source source
     (sink_of g.K.Sink.taken g.K.Sink.write_faults g.K.Sink.sure c.args.sink.now)
     (sink_of g.K.Sink.taken g.K.Sink.write_faults g.K.Sink.sure c.load.new.sink)
-    door door Unread (load_text c.args.agents c.args.start) c.in-Ok.config c.load.result refl refl c.in-Ok.ensures.found c.load.ensures.tells
+    door door Unread (load_text c.args.agents c.args.start) [] c.in-Ok.config c.load.result refl (refl, refl) c.in-Ok.ensures.found c.load.ensures.tells
     c.load.ensures.reads refl c.load.ensures.writes (leaves (Some command) door) (λ other. inr refl)
 
 pub returns-in-Err : goal.returns-in-Err

@@ -1,4 +1,4 @@
-use Rattle.std.proofs.Common.{refl}
+use Rattle.std.proofs.Common.{[], refl}
 use Rattle.tc_io.specs.Sinks.{sink_of}
 use Rattle.tc_io.specs.Sources.{source_of}
 use Rattle.tc_visits.specs.Service.{door_of}
@@ -6,7 +6,7 @@ use Rattle.tucson.specs.Answer.{Whole}
 use Rattle.tucson.specs.declared.command.Command.TheVariants.{Serve}
 use Rattle.tucson.proofs.Outcomes.{service_nets}
 use Rattle.tucson.proofs.Stops.{stop_counts}
-use Rattle.tucson.proofs.Returning.{reading_stops, returns-stopped, returns-told}
+use Rattle.tucson.proofs.Returning.{reading_stops, returns-stopped, returns-told, serve_reads}
 use Rattle.tucson.proofs.serving.serve_main.Goals as goal
 
 pub returns-in-Ok : goal.returns-in-Ok
@@ -19,7 +19,7 @@ returns-in-Ok g c =
     returns-told (Serve c.args.port)
     (source_of g.S.Source.left g.S.Source.read_faults g.S.Source.sure c.args.source.now)
     (source_of g.S.Source.left g.S.Source.read_faults g.S.Source.sure c.read_source.new.source)
-    old new door after (Whole found.spelt) found.spelt c.in-Ok.config c.serve.result found.read refl found.spells c.serve.ensures.tells
+    old new door after (Whole found.spelt) found.spelt [] c.in-Ok.config c.serve.result found.read (refl, refl) found.spells c.serve.ensures.tells
     c.serve.ensures.reads (c.in-Ok.ensures.reads.unfailed (λ failed. cc)) c.serve.ensures.writes tt
     (service_nets door after c.in-Ok.config old new c.serve.result c.serve.ensures.tells)
 
@@ -32,5 +32,5 @@ returns-in-Err g c =
     returns-stopped (Serve c.args.port) source after
     (sink_of g.K.Sink.taken g.K.Sink.write_faults g.K.Sink.sure c.args.sink.now)
     (sink_of g.K.Sink.taken g.K.Sink.write_faults g.K.Sink.sure c.stopped.new.sink)
-    (door_of g.D.Door.opened g.D.Door.door_faults c.args.door.now) why c.stopped.result (reading_stops (Serve c.args.port) source after why tt c.in-Err.ensures.stopped counts) counts
+    (door_of g.D.Door.opened g.D.Door.door_faults c.args.door.now) why c.stopped.result (reading_stops (Serve c.args.port) source after why (serve_reads c.args.port) c.in-Err.ensures.stopped counts) counts
     c.stopped.ensures.tells c.stopped.ensures.reads c.stopped.ensures.writes

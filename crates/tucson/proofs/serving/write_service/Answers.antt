@@ -25,5 +25,5 @@ returns-clause-tells g c = λ door after served.
     c.status_of_service-status.ensures ∙ ap (status_of_service s.all s.enough) blocked in
     due_written (IsOutcomeOfService door after run.plan) (status_of_service s.all s.enough (is_blocked logs)) text old new c.write_whole.result
     (service_outcome door after run.plan s.all s.enough (is_blocked logs) text
-    (text_of_these (IsServiceBy door after s.all s.enough run.plan) (whole_text run.plan) (histories run.plan run.cores.items) logs served c.write_whole.ensures.typed))
+    (text_of_these (IsServiceBy door after s.all s.enough run.plan) (whole_text run.plan) (histories run.plan run.cores.items) logs served c.write_whole.ensures.typed c.write_whole.ensures.typed_logs))
     (subst (λ (st : Status). Writes st text old new c.write_whole.result) status c.write_whole.ensures.wrote)

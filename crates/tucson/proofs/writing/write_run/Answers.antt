@@ -24,5 +24,5 @@ returns-clause-tells g c =
     let status : c.status_of_run.result ≡ status_of_run (is_blocked logs) = c.status_of_run.ensures ∙ ap status_of_run blocked in
     due_written (IsOutcomeOf (IsGood TheFirst run.plan) (whole_text run.plan)) (status_of_run (is_blocked logs)) text old new c.write_whole.result
     (run_outcome (IsGood TheFirst run.plan) (whole_text run.plan) (is_blocked logs) text
-    (text_of_these (IsGood TheFirst run.plan) (whole_text run.plan) (histories run.plan run.cores.items) logs c.requires.good c.write_whole.ensures.typed))
+    (text_of_these (IsGood TheFirst run.plan) (whole_text run.plan) (histories run.plan run.cores.items) logs c.requires.good c.write_whole.ensures.typed c.write_whole.ensures.typed_logs))
     (subst (λ (st : Status). Writes st text old new c.write_whole.result) status c.write_whole.ensures.wrote)
