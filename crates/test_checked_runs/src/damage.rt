@@ -1,7 +1,8 @@
-//! Texts that are damaged on purpose, each of which the check has to tell.
+//! Texts that are damaged on purpose, each of which the check and `verify` have to tell.
+use crate::both::{Said, said_of};
 use std::alloc::Global;
 use tc_lists::NoMemory;
-use test_run_check::{Fault, check};
+use test_run_check::Fault;
 
 /// How a text is damaged.
 #[derive(Clone, Copy, PartialEq, Eq, Debug)]
@@ -14,7 +15,7 @@ pub enum Damage {
     Letter,
 }
 
-/// How many texts come of this one that are damaged so, and how many of them the check tells as wrong.
+/// How many texts come of this one that are damaged so, and how many of them both tell as wrong.
 pub fn told(
     alloc: Global,
     configuration: &[u8],
@@ -27,21 +28,13 @@ pub fn told(
     for place in 0..text.len() {
         if let Some(damaged) = damaged(alloc, text, place, damage)? {
             made = made.saturating_add(1);
-            if is_wrong(check(alloc, configuration, &damaged, status))? {
+            let said = said_of(alloc, configuration, &damaged, status)?;
+            if matches!(said, Said::Wrong(_)) {
                 wrong = wrong.saturating_add(1);
             }
         }
     }
     Ok((made, wrong))
-}
-
-// Whether the check has told a text as wrong.
-fn is_wrong(checked: Result<(), Fault>) -> Result<bool, Fault> {
-    match checked {
-        Ok(()) => Ok(false),
-        Err(Fault::Wrong(_)) => Ok(true),
-        Err(fault) => Err(fault),
-    }
 }
 
 // The text, damaged at this place, if that is one for this damage.

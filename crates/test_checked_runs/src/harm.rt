@@ -1,13 +1,14 @@
-//! What is damaged, and a line on whether the check tells it.
+//! What is damaged, and a line on whether the check and `verify` tell it.
+use crate::both::said_of;
 use crate::damage::{Damage, replaced, told};
-use crate::lines::{append_outcome, append_verdict};
+use crate::lines::{append_said, append_verdict};
 use crate::running::run;
 use std::alloc::Global;
 use std::sync::Wait;
 use std::thread::Threads;
 use tc_desk::NoGate;
 use tc_lists::append_number;
-use test_run_check::{Draws, Fault, append_all, check, next_drawn};
+use test_run_check::{Draws, Fault, append_all, next_drawn};
 
 // A configuration whose texts are damaged by hand.
 const SMALL: &[u8] = b"centre(c).\nrole(r).\ngrant(r,c,out).\ngrant(r,c,in).\ngrant(r,c,rd).\n\
@@ -109,7 +110,7 @@ const REACTIVE_DAMAGES: [(&[u8], &[u8], &[u8]); 12] = [
     ),
 ];
 
-/// Damages texts, and tells whether the check finds that.
+/// Damages texts, and tells whether the check and `verify` find that.
 pub fn report_damage<R: Threads + Wait + Sync>(
     rt: &R,
     alloc: Global,
@@ -142,7 +143,7 @@ fn report_by_hand<R: Threads + Wait + Sync>(
     for (name, that, this) in damages {
         append_all(&[b"damaged, ", name, b": "], into)?;
         match replaced(alloc, &ran.text, that, this)? {
-            Some(text) => append_outcome(check(alloc, configuration, &text, ran.status), into)?,
+            Some(text) => append_said(said_of(alloc, configuration, &text, ran.status)?, into)?,
             None => into.extend_from_slice(b"nothing to damage")?,
         }
         into.extend_from_slice(b"\n")?;

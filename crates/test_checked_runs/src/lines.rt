@@ -1,8 +1,9 @@
 //! The lines that are printed on runs.
+use crate::both::{Said, said_of};
 use crate::running::Ran;
 use std::alloc::Global;
 use tc_lists::{NoMemory, append_number};
-use test_run_check::{Fault, append_all, check};
+use test_run_check::{Fault, append_all};
 
 /// Appends what is run, how it has ended, and whether its text is right.
 pub fn append_line(
@@ -38,15 +39,15 @@ pub fn append_verdict(
     ran: &Ran,
     into: &mut Vec<u8>,
 ) -> Result<(), Fault> {
-    append_outcome(check(alloc, configuration, &ran.text, ran.status), into)
+    append_said(said_of(alloc, configuration, &ran.text, ran.status)?, into)?;
+    Ok(())
 }
 
-/// Appends what a check has told.
-pub fn append_outcome(checked: Result<(), Fault>, into: &mut Vec<u8>) -> Result<(), Fault> {
-    match checked {
-        Ok(()) => into.extend_from_slice(b"checked")?,
-        Err(Fault::Wrong(why)) => append_all(&[b"wrong: ", why.as_bytes()], into)?,
-        Err(fault) => return Err(fault),
+/// Appends what is said of a text.
+pub fn append_said(said: Said, into: &mut Vec<u8>) -> Result<(), NoMemory> {
+    match said {
+        Said::Right => into.extend_from_slice(b"checked"),
+        Said::Wrong(why) => append_all(&[b"wrong: ", why.as_bytes()], into),
+        Said::Apart => into.extend_from_slice(b"verify says otherwise than the check"),
     }
-    Ok(())
 }

@@ -1,4 +1,5 @@
-//! Runs whole configurations with one to 64 workers, and holds every text against a check of its own.
+//! Runs whole configurations with one to 64 workers, and holds every text against a check of its own,
+//! and against `verify`, which has to say the same.
 //!
 //! The check is that of test_run_check, which shares no code with what serves calls.
 //!
@@ -11,13 +12,14 @@
 //! | rings, locks, pairs and a meeting | that logs which don't depend on the order of calls stay the same |
 //! | philosophers, a counter and a barrier | the same where reactions do the work |
 //! | two agents and a gate | that agents of two workers go on side by side |
-//! | texts that are damaged | that the check tells each damage |
+//! | texts that are damaged | that the check and `verify` tell each damage |
 //! | 1,000 agents at 64 centres | the same as the first, at size |
 //! | the table on standard input | that rows worked out by hand for one worker are right with several too |
 //!
 //! In that table a configuration stands behind each line `%% NAME`, and before the first a comment.
 #![tactic(auto)]
 
+mod both;
 mod damage;
 mod gates;
 mod harm;

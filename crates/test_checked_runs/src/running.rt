@@ -1,11 +1,11 @@
-//! Runs of configurations by the top call, over a source and a sink in memory.
+//! Runs of configurations by the top call, over a source and a sink in memory, and verdicts on texts.
 use std::alloc::Global;
 use std::sync::Wait;
 use std::thread::Threads;
 use tc_desk::Gate;
 use tc_io::{MemDoor, SureSink, SureSource};
 use tc_lists::{NoMemory, append_number};
-use tucson::tucson;
+use tucson::{Status, tucson, verify_main};
 
 /// What a run has written, and the number of its status.
 #[derive(Drop)]
@@ -31,6 +31,16 @@ pub fn run<R: Threads + Wait + Sync, G: Gate + Sync>(
         text: sink.taken().to_vec(alloc)?,
         status: status.number(),
     })
+}
+
+/// Whether `verify` says yes of a text behind a configuration.
+pub fn is_verified(alloc: Global, configuration: &[u8], text: &[u8]) -> Result<bool, NoMemory> {
+    let mut input = configuration.to_vec(alloc)?;
+    input.extend_from_slice(b"\n%%\n")?;
+    input.extend_from_slice(text)?;
+    let mut source = SureSource::new(input);
+    let mut sink = SureSink::new(alloc);
+    Ok(verify_main(alloc, &mut source, &mut sink) == Status::Ended)
 }
 
 // The words of the call.

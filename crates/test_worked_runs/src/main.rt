@@ -16,6 +16,8 @@
 //! | `%refuse N` | the door's Nth call fails: the first one listens, and each other accepts |
 //! | `%show logs` | the logs alone are printed, for they don't depend on the order of calls |
 //!
+//! In a row of `verify` a line `%%` and a text stand behind the configuration.
+//!
 //! What stands before the first configuration is a comment of the table. Behind the end of a row
 //! stands with which of these numbers of workers it was the same. With one where it wasn't, how it
 //! ended is printed as an end of its own.

@@ -207,12 +207,12 @@ pub reading_stops : (command : Command) (source source_after : SourceState) (why
     → StopsReading MOST_BYTES IsRefused source source_after why → Counts (why ≡ stop.ReadFault) source.read_faults source_after.read_faults
     → StopsCommand command source source_after why
 reading_stops command source source_after (stop.Refused clause why) config stops counts = (
-      stops.0,
-      subst (λ (most : ℕ). IsInput most source.left source_after.left stops.0) (sym config.most) stops.1,
-      λ door door_after.
-          refusal_due command door door_after IsRefused stops.0 clause why config.reads
-          (λ text refused. (text, [], config.whole text, record { refused = refused; is = refl })) stops.2,
-    )
+  stops.0,
+  subst (λ (most : ℕ). IsInput most source.left source_after.left stops.0) (sym config.most) stops.1,
+  λ door door_after.
+      refusal_due command door door_after IsRefused stops.0 clause why config.reads
+      (λ text refused. (text, [], config.whole text, record { refused = refused; is = refl })) stops.2,
+)
 reading_stops command source source_after stop.ReadFault config stops counts = (config.reads, stops, counts.failed refl)
 reading_stops command source source_after stop.NoMemory config stops counts = tt
 
@@ -220,12 +220,12 @@ reading_stops command source source_after stop.NoMemory config stops counts = tt
 pub judging_stops : (source source_after : SourceState) (why : Stop) → StopsReading MOST_INPUT IsRefusedWith source source_after why
     → Counts (why ≡ stop.ReadFault) source.read_faults source_after.read_faults → StopsCommand Verify source source_after why
 judging_stops source source_after (stop.Refused clause why) stops counts = (
-      stops.0,
-      stops.1,
-      λ door door_after.
-          refusal_due Verify door door_after IsRefusedWith stops.0 clause why tt
-          (λ text refused. (refused.first, refused.second, refused.parts, record { refused = refused.refused; is = refl })) stops.2,
-    )
+  stops.0,
+  stops.1,
+  λ door door_after.
+      refusal_due Verify door door_after IsRefusedWith stops.0 clause why tt
+      (λ text refused. (refused.first, refused.second, refused.parts, record { refused = refused.refused; is = refl })) stops.2,
+)
 judging_stops source source_after stop.ReadFault stops counts = (tt, stops, counts.failed refl)
 judging_stops source source_after stop.NoMemory stops counts = tt
 

@@ -191,9 +191,9 @@ lines-stand c hs logs config have follow typed =
     let P = HasLine Two (agent_names c) in
     let t = text_telling Two hs logs in
     let centres : All AreBytes (centre_names c) =
-        All-map AreBytes (λ (s : CentreConf). s.name) c.centres (All-weaker IsCentre (λ (s : CentreConf). AreBytes s.name) (λ s is. is.name.bytes) c.centres config.centres) in
+    All-map AreBytes (λ (s : CentreConf). s.name) c.centres (All-weaker IsCentre (λ (s : CentreConf). AreBytes s.name) (λ s is. is.name.bytes) c.centres config.centres) in
     let agents : All AreBytes (agent_names c) =
-        All-map AreBytes (λ (a : AgentConf). a.name) c.agents (All-weaker (IsAgent c) (λ (a : AgentConf). AreBytes a.name) (λ a is. is.name.bytes) c.agents config.agents) in
+    All-map AreBytes (λ (a : AgentConf). a.name) c.agents (All-weaker (IsAgent c) (λ (a : AgentConf). AreBytes a.name) (λ a is. is.name.bytes) c.agents config.agents) in
     let histories = histories-stand (agent_names c) (centre_names c) hs centres have.lines in
     let rows = logs-stand (agent_names c) (agent_names c) t.logs agents (rows-stand c hs logs typed follow) in
     let end = All-cons P (line.End t.blocked) [] tt (All-nil P) in

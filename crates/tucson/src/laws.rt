@@ -3,6 +3,8 @@ ghost use Rattle.std.specs.Prelude.{◌≡◌, ◌-◌, ◌^◌, ℕ, Bool, List
 ghost use Rattle.tc_config.specs.Configurations.{Configuration, IsConfig};
 ghost use Rattle.tc_config.specs.Good.{IsGood};
 ghost use Rattle.tc_model.specs.Choices.{TheFirst};
+ghost use Rattle.tc_verify.specs.Verdicts.{IsVerdict};
+ghost use Rattle.tc_verify.specs.declared.verdicts.Verdict.{Verdict};
 ghost use Rattle.tc_visits.specs.Service.{DoorState, IsServiceBy};
 ghost use Rattle.tucson.specs.Answer.{IsTextOf};
 ghost use Rattle.tucson.specs.Texts.{whole_text};
@@ -31,4 +33,10 @@ pub fn a_text_tells_its_histories()
         → (a : IsTextOf (IsServiceBy door after all enough c) (whole_text c) waits text)
         → (b : IsTextOf (IsServiceBy first last every ample c) (whole_text c) others text)
         → a.histories ≡ b.histories }
+{}
+
+/// What `run` writes is verified yes.
+pub fn what_run_writes_is_verified_yes()
+    ensures { (c : Configuration) (waits : Bool) (text : List ℕ) → IsConfig c
+        → IsTextOf (IsGood TheFirst c) (whole_text c) waits text → IsVerdict c text Verdict.Yes }
 {}
