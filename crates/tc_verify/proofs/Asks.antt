@@ -1,5 +1,5 @@
 -- What an agent asks, by what a text tells of the asks before.
-use Rattle.std.proofs.Common.{◌≡◌, ℕ, ◌==◌, if◌then◌else◌, List, [], ◌∷◌, ◌++◌, map, take, refl, sym, subst, ap, ap₂, ◌∙◌}
+use Rattle.std.proofs.Common.{◌≡◌, ℕ, ◌==◌, if◌then◌else◌, List, [], ◌∷◌, ◌++◌, map, take, refl, subst, ap, ap₂, ◌∙◌}
 use Rattle.std.proofs.lemmas.List.{take-map}
 use Rattle.tc_term.specs.Equations.{Equation}
 use Rattle.tc_config.specs.Configurations.{Configuration}
@@ -47,9 +47,6 @@ module _ (version : Version) where
       ap (λ rs. equations script steps (take k rs)) (results-told log)
       ∙ (ap (equations script steps) (take-map (told version) k (results_of log))
       ∙ equations-told script steps (take k (results_of log)))
-
-pub AreAlike-sym : (rs qs : List LogResult) → AreAlike rs qs → AreAlike qs rs
-AreAlike-sym rs qs alike script steps = sym (alike script steps)
 
 -- the same is asked after results that are alike
 pub IsAsk-alike : (scripts : List Lines) (k : ℕ) (rs qs : List LogResult) (step : ScriptStep) (ask : Ask) → AreAlike rs qs

@@ -1,33 +1,28 @@
 -- Texts that are verified yes are those of runs.
-use Rattle.std.proofs.Common.{◌≡◌, ℕ, ◌+◌, ◌<◌, List, All, Contains, Some, length, map, slice_get, refl, sym, subst, ap, ap₂, ◌∙◌, arith}
+use Rattle.std.proofs.Common.{◌≡◌, ℕ, ◌+◌, List, All, Contains, Some, length, map, slice_get, refl, sym, subst, ap, ap₂, ◌∙◌, arith}
 use Rattle.std.proofs.Common.{eq-eqb}
 use Rattle.std.proofs.lemmas.List.{length-map}
 use Rattle.std.proofs.lemmas.List.Elements.{All-contains_itself}
-use Rattle.std.proofs.lemmas.Option.{same_Some, slice_get_within}
+use Rattle.std.proofs.lemmas.Option.{same_Some}
 use Rattle.tc_lists.proofs.Elements.{All-from_slice_get, All-slice_get}
 use Rattle.tc_lists.proofs.Sets.{slice_get-as_long, slice_get-map_from, slice_get_inside}
-use Rattle.tc_model.specs.Calls.{call_of, calls_of, id_of, is_call_of}
+use Rattle.tc_model.specs.Calls.{call_of, calls_of, is_call_of}
 use Rattle.tc_model.specs.Choices.{AnyOne}
-use Rattle.tc_model.specs.declared.calls.CallId.{CallId}
 use Rattle.tc_model.specs.declared.entries.Entry.{Entry}
 use Rattle.tc_model.specs.declared.entries.Entry.TheVariants.{Called, Gave, Looked}
-use Rattle.tc_model.specs.declared.outcomes.Reply.{Reply}
-use Rattle.std.specs.declared.option.Option.{Option}
 use Rattle.tc_config.specs.Configurations.{Configuration, agent_names, centre_names}
-use Rattle.tc_config.specs.Good.{AreHistories, Follows, IsEnded, IsGood, IsHistory, IsNoLook, origin_of}
+use Rattle.tc_config.specs.Good.{AreHistories, Follows, IsEnded, IsGood, IsNoLook}
 use Rattle.tc_config.specs.declared.configs.AgentConf.{AgentConf}
 use Rattle.tc_config.specs.declared.configs.CentreConf.{CentreConf}
-use Rattle.tc_desk.specs.Logs.{is_blocked}
 use Rattle.tc_desk.specs.declared.rows.LogRow.{LogRow}
 use Rattle.tc_histline.specs.Lines.{HasLine}
 use Rattle.tc_histline.specs.declared.lines.TextRow.{TextRow}
 use Rattle.tc_histtext.specs.ReadTexts.{IsText, lines_of, text_of}
 use Rattle.tc_histtext.specs.declared.read_texts.Text.{Text}
-use Rattle.tc_replay.specs.Bad.{IsQuietRun}
 use Rattle.tc_rows.specs.Rows.{AreQuietRuns, AreSound, IsNoLookOf, told_row}
 use Rattle.tc_rows.proofs.Calls.{All-filter_at}
 use Rattle.tc_verify.specs.RunTexts.{IsTextOfRun, text_telling}
-use Rattle.tc_verify.specs.Verdicts.{AreAllSound, EndsAsRows, IsSoundText, IsTextOfRuns, IsVerdict, any_waits}
+use Rattle.tc_verify.specs.Verdicts.{AreAllSound, EndsAsRows, IsVerdict, any_waits}
 use Rattle.tc_verify.specs.declared.verdicts.Verdict.TheVariants.{Yes}
 use Rattle.tc_verify.proofs.Sounds.{are-sound}
 use Rattle.tc_verify.proofs.Told.{any_waits-told, text_of-told}
@@ -137,7 +132,9 @@ run-from_yes c bytes (t, sound, ends) =
       histories = t.histories;
       logs = w.0;
       good = are_good c t quiet sound.rows text.logs w.0 w.1 w.2;
-      lines = subst (λ (u : Text). All (HasLine t.version (agent_names c)) (lines_of (centre_names c) (agent_names c) u)) (sym same) text.lines;
+      lines =
+          subst (λ (u : Text). All (HasLine t.version (agent_names c)) (lines_of (centre_names c) (agent_names c) u))
+          (sym same) text.lines;
       is =
           text.is
           ∙ (ap (text_of (centre_names c) (agent_names c)) (sym same)

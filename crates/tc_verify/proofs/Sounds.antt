@@ -1,5 +1,5 @@
 -- Sound rows of a text that tell of a log of a run.
-use Rattle.std.proofs.Common.{◌≡◌, ◌≢◌, ℕ, ◌+◌, ◌<◌, false, true, ◌⊎◌, List, All, Some, length, map, slice_get, take, get_or, None}
+use Rattle.std.proofs.Common.{◌≡◌, ◌≢◌, ℕ, ◌+◌, ◌<◌, false, true, ◌⊎◌, List, All, Some, length, map, slice_get}
 use Rattle.std.proofs.Common.{refl, sym, subst, ap, ◌∙◌, ⊎_elim, arith}
 use Rattle.std.proofs.lemmas.Bool.{true≢false}
 use Rattle.std.proofs.lemmas.List.{length-map}
@@ -7,23 +7,21 @@ use Rattle.std.proofs.lemmas.List.Elements.{All-contains, All-weaker}
 use Rattle.std.proofs.lemmas.Option.{same_Some, slice_get_within}
 use Rattle.tc_lists.proofs.Places.{slice_get-Contains}
 use Rattle.tc_lists.proofs.Sets.{slice_get-map_from}
-use Rattle.tc_model.specs.Calls.{call_of, calls_of, id_of}
-use Rattle.tc_model.specs.Replies.{reply_in}
+use Rattle.tc_model.specs.Calls.{calls_of, id_of}
 use Rattle.tc_model.specs.declared.entries.Entry.{Entry}
 use Rattle.tc_model.specs.declared.entries.Entry.TheVariants.{Called, Gave, Looked}
 use Rattle.tc_config.specs.Configurations.{Configuration}
 use Rattle.tc_config.specs.Good.{Follows, IsEnded, IsNoLook, IsRow, IsServedNumber}
 use Rattle.tc_config.specs.declared.configs.AgentConf.{AgentConf}
 use Rattle.tc_desk.specs.Asks.{ScriptStep, steps_of}
-use Rattle.tc_desk.specs.Logs.{any_pending, is_served, results_of}
+use Rattle.tc_desk.specs.Logs.{any_pending, is_served}
 use Rattle.tc_desk.specs.declared.rows.LogRow.{LogRow}
-use Rattle.tc_desk.specs.declared.rows.LogResult.TheVariants.{Pending}
 use Rattle.tc_histline.specs.declared.lines.TextRow.{TextRow}
 use Rattle.tc_histline.specs.declared.versions.Version.{Version}
-use Rattle.tc_rows.specs.Rows.{AreSound, HasNone, HasStrayEntry, IsNoLookOf, IsSoundRow, IsWrongEnd, logged, told, told_row}
+use Rattle.tc_rows.specs.Rows.{AreSound, HasStrayEntry, IsNoLookOf, IsSoundRow, IsWrongEnd, logged, told_row}
 use Rattle.tc_rows.proofs.Faults.{sound-items}
 use Rattle.tc_rows.proofs.Telling.{pending-same}
-use Rattle.tc_verify.proofs.Asks.{AreAlike-sym, IsRow-alike, results-alike}
+use Rattle.tc_verify.proofs.Asks.{IsRow-alike, results-alike}
 use Rattle.tc_verify.proofs.Told.{any_pending-told, is_served-told}
 
 -- an entry that is no look is none of any number
@@ -54,14 +52,14 @@ module _ (version : Version) (c : Configuration) (histories : List (List Entry))
       elsewhere (sym served.there ∙ ap (λ (s : ScriptStep). s.item.centre) step_is))
       other
 
-  told-sound : (k : ℕ) (whole : LogRow) → slice_get log k ≡ Some whole → IsSoundRow version c histories agent a rows k (told_row version whole)
+  told-sound : (k : ℕ) (whole : LogRow) → slice_get log k ≡ Some whole
+      → IsSoundRow version c histories agent a rows k (told_row version whole)
   told-sound k whole at =
       let own : IsRow c histories agent a log k whole = follows.rows k whole at in
       record {
         whole = whole;
         tells = refl;
-        is = IsRow-alike c histories agent a log (logged rows) k whole
-            (AreAlike-sym (take k (results_of (logged rows))) (take k (results_of log)) (results-alike version log k)) own;
+        is = IsRow-alike c histories agent a log (logged rows) k whole (λ script steps. sym (results-alike version log k script steps)) own;
         alone = λ place history there other.
             All-weaker (λ e. IsServedNumber a log place (id_of e).number) (λ e. (id_of e).number ≢ k + 1)
             (λ e served.
@@ -102,7 +100,8 @@ module _ (version : Version) (c : Configuration) (histories : List (List Entry))
       (λ (more : (length (steps_of a.scripts) < length rows) ⊎ HasStrayEntry histories agent rows).
       ⊎_elim
       (λ (many : length (steps_of a.scripts) < length rows).
-      omega (arith, many, sound-items version c histories agent a rows (length rows) (omega arith) (λ k row below at. rows-sound k row at)))
+      let items = sound-items version c histories agent a rows (length rows) (omega arith) (λ k row below at. rows-sound k row at) in
+      omega (arith, many, items))
       no-stray
       more)
       wrong

@@ -1,5 +1,5 @@
 -- What a text tells of the rows of logs, and how it prints them.
-use Rattle.std.proofs.Common.{◌≡◌, ℕ, ◌||◌, List, [], ◌∷◌, ◌++◌, codes, map, refl, sym, ap, ap₂, ◌∙◌}
+use Rattle.std.proofs.Common.{◌≡◌, ℕ, ◌||◌, List, [], ◌∷◌, ◌++◌, codes, map, refl, ap, ap₂}
 use Rattle.std.specs.Fmt.{decimal}
 use Rattle.std.specs.List.{flat_map}
 use Rattle.tc_lists.specs.Texts.{joined}
@@ -15,7 +15,7 @@ use Rattle.tc_histline.specs.Text.{agent_heading, end_text, refusal_text, result
 use Rattle.tc_histline.specs.declared.versions.Version.{Version}
 use Rattle.tc_histline.specs.declared.versions.Version.TheVariants.{One, Two}
 use Rattle.tc_histtext.specs.ReadTexts.{as_logged, text_of}
-use Rattle.tc_histtext.specs.Text.{histories_text, log_text, logs_text, run_text}
+use Rattle.tc_histtext.specs.Text.{histories_text, logs_text, run_text}
 use Rattle.tc_rows.specs.Rows.{logged, told, told_refusal, told_row}
 use Rattle.tc_verify.specs.RunTexts.{text_telling}
 use Rattle.tc_verify.specs.Verdicts.{any_waits, some_pending}

@@ -1,7 +1,7 @@
 -- A log that sound rows of a text tell of.
-use Rattle.std.proofs.Common.{◌≡◌, ◌≢◌, ℕ, zero, suc, ◌+◌, ◌<◌, ◌≤◌, true, false, ◌⊎◌, List, [], ◌∷◌, All, Contains, Option, Some, None, length, map, slice_get}
+use Rattle.std.proofs.Common.{◌≡◌, ◌≢◌, ℕ, zero, suc, ◌+◌, ◌<◌, ◌≤◌, true, false, ◌⊎◌, List, [], ◌∷◌, Contains, Some, None, length, map, slice_get}
 use Rattle.std.proofs.Common.{inl, inr, take, refl, sym, subst, ap, ap₂, ◌∙◌, ⊎_elim, arith}
-use Rattle.std.proofs.lemmas.Bool.{cases_Bool, cases_eq, cases_lt}
+use Rattle.std.proofs.lemmas.Bool.{cases_Bool, cases_eq}
 use Rattle.std.proofs.lemmas.List.{length-map}
 use Rattle.std.proofs.lemmas.List.Elements.{All-contains}
 use Rattle.std.proofs.lemmas.Option.{none-some, same_Some}
@@ -20,7 +20,7 @@ use Rattle.tc_desk.specs.declared.rows.LogRow.{LogRow}
 use Rattle.tc_desk.specs.declared.rows.LogResult.TheVariants.{Pending}
 use Rattle.tc_histline.specs.declared.lines.TextRow.{TextRow}
 use Rattle.tc_histline.specs.declared.versions.Version.{Version}
-use Rattle.tc_rows.specs.Rows.{AreSound, HasNone, HasStrayEntry, IsSoundRow, logged, told, told_row}
+use Rattle.tc_rows.specs.Rows.{AreSound, IsSoundRow, logged, told, told_row}
 use Rattle.tc_verify.proofs.Asks.{AreAlike, IsRow-alike, results-alike}
 use Rattle.tc_verify.proofs.Told.{any_pending-told, is_served-told}
 
@@ -91,7 +91,8 @@ module _ (version : Version) (c : Configuration) (histories : List (List Entry))
     whole-row k whole at =
         let of = wholes k whole at in
         let alike : AreAlike (take k (results_of (logged rows))) (take k (results_of log)) =
-        subst (λ (rs : List TextRow). AreAlike (take k (results_of (logged rs))) (take k (results_of log))) tells (results-alike version log k) in
+        subst (λ (rs : List TextRow). AreAlike (take k (results_of (logged rs))) (take k (results_of log))) tells
+        (results-alike version log k) in
         subst (IsRow c histories agent a log k) of.is
         (IsRow-alike c histories agent a (logged rows) log k of.sound.whole alike of.sound.is)
 
@@ -108,7 +109,9 @@ module _ (version : Version) (c : Configuration) (histories : List (List Entry))
         let whole = slice_get_inside log n.0 (omega (arith, n.2, long)) in
         let of = wholes n.0 whole.0 whole.1 in
         let never : (is_served of.row.result ≡ false) ⊎ (place ≢ of.sound.is.step.item.centre) → ⊥ =
-        λ other. All-contains (λ x. (id_of x).number ≢ n.0 + 1) (calls_of agent history) e (of.sound.alone place history there other) made n.1 in
+        λ other.
+        All-contains (λ x. (id_of x).number ≢ n.0 + 1) (calls_of agent history) e
+        (of.sound.alone place history there other) made n.1 in
         record {
           k = n.0;
           counted = n.1;

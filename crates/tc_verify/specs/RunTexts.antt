@@ -23,7 +23,8 @@ text_telling version histories logs = record {
 }
 
 -- the bytes are the text, in one of the versions, of histories and logs of a run of the
--- configuration in which any choice was taken; each of its lines may stand in a text of that version
+-- configuration in which any choice was taken; each of its lines may stand in a text of that
+-- version
 pub record IsTextOfRun (c : Configuration) (bytes : List ℕ) : Type 0 where
   pub version : Version
   pub histories : List (List Entry)

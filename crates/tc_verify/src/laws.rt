@@ -1,4 +1,4 @@
-//! Laws.
+//! Laws of verdicts and of inputs, for callers to cite.
 ghost use Rattle.std.specs.Prelude.{◌≡◌, ◌≢◌, ℕ, AllPairs, List};
 ghost use Rattle.tc_config.specs.Configurations.{Configuration, agent_names};
 ghost use Rattle.tc_verify.specs.Inputs.{IsParted};
