@@ -1,13 +1,11 @@
 -- What is due to a call that judges a text decides how it ends.
-use Rattle.std.proofs.Common.{◌≡◌, ◌∙◌, ◌<◌, ◌≤◌, ℕ, List, length, refl, sym, ap, ap₂, subst, inl, inr, arith}
-use Rattle.tc_config.specs.Configurations.{Configuration}
+use Rattle.std.proofs.Common.{◌≡◌, ◌∙◌, ◌<◌, ◌≤◌, ℕ, List, length, sym, ap, ap₂, subst, inl, inr, arith}
 use Rattle.tc_config.specs.Texts.{IsRefused, Spells}
 use Rattle.tc_config.specs.declared.faults.ConfigCause.{ConfigCause}
 use Rattle.tc_config.specs.declared.faults.ConfigCause.TheVariants as cause
 use Rattle.tc_config.proofs.OneConfig.{one_configuration, one_refusal, spelt_or_refused}
 use Rattle.tc_verify.specs.Inputs.{IsParted}
 use Rattle.tc_verify.specs.Verdicts.{IsVerdict}
-use Rattle.tc_verify.specs.declared.verdicts.Verdict.{Verdict}
 use Rattle.tc_verify.proofs.OneParting.{parted-one}
 use Rattle.tc_visits.specs.Service.{DoorState}
 use Rattle.tucson.specs.declared.command.Command.TheVariants.{Verify}

@@ -1,13 +1,13 @@
 -- Each line of what a run writes may stand in a text.
-use Rattle.std.proofs.Common.{◌≡◌, ◌<◌, ◌+◌, ℕ, Option, Some, None, IfSome, List, [], ◌∷◌, ◌++◌, All, length, map, slice_get, refl, sym, ap, subst, ◌∙◌, arith}
+use Rattle.std.proofs.Common.{◌+◌, ℕ, Option, Some, None, IfSome, List, [], ◌∷◌, ◌++◌, All, map, slice_get, refl, arith}
 use Rattle.std.specs.List.{flat_map}
 use Rattle.std.proofs.lemmas.List.Elements.{All-append, All-cons, All-head, All-map, All-nil, All-tail, All-weaker}
 use Rattle.std.proofs.lemmas.Option.{slice_get_within}
 use Rattle.tc_lists.proofs.Elements.{All-from_slice_get, All-slice_get}
 use Rattle.tc_lists.proofs.Sets.{slice_get_inside}
-use Rattle.tc_model.specs.Calls.{call_of, id_of}
+use Rattle.tc_model.specs.Calls.{call_of}
 use Rattle.tc_model.specs.Entries.{IsNumbered, IsOutcomeWellFormed}
-use Rattle.tc_model.specs.State.{IsName, Origin}
+use Rattle.tc_model.specs.State.{Origin}
 use Rattle.tc_model.specs.Typed.{AreBytes, IsTypedItem, IsTypedOp, IsTypedOutcome, IsTypedReply}
 use Rattle.tc_model.specs.declared.asks.Ask.{Ask}
 use Rattle.tc_model.specs.declared.calls.CallId.{CallId}
@@ -31,7 +31,6 @@ use Rattle.tc_config.specs.Configurations.{Configuration, IsAgent, IsCentre, IsC
 use Rattle.tc_config.specs.Good.{AllFollow, IsRow}
 use Rattle.tc_config.specs.declared.configs.AgentConf.{AgentConf}
 use Rattle.tc_config.specs.declared.configs.CentreConf.{CentreConf}
-use Rattle.tc_histline.specs.Items.{HasItemLine}
 use Rattle.tc_histline.specs.Lines.{HasLine, HasRowLine, IsResultIn}
 use Rattle.tc_histline.specs.Operations.{IsWrittenIn, written_op}
 use Rattle.tc_histline.specs.Outcomes.{IsOutcomeIn, IsReplyIn, IsToldIn}

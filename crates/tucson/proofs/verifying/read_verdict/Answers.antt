@@ -1,4 +1,4 @@
-use Rattle.std.proofs.Common.{ℕ, List, IfOk, subst, sym}
+use Rattle.std.proofs.Common.{ℕ, List, subst, sym}
 use Rattle.tc_io.specs.Sources.{ReadsAll, source_of}
 use Rattle.tc_verify.specs.Judgements.{IsRefusedWith}
 use Rattle.tucson.specs.Reading.{StopsReading, stop_of_input}

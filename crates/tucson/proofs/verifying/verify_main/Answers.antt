@@ -1,4 +1,4 @@
-use Rattle.std.proofs.Common.{◌∙◌, Some, refl, inr, ap, subst}
+use Rattle.std.proofs.Common.{Some, refl, inr, subst}
 use Rattle.tc_io.specs.Sinks.{sink_of}
 use Rattle.tc_io.specs.Sources.{source_of}
 use Rattle.tucson.specs.Answer.{IsOutcomeOfVerdict, Whole}

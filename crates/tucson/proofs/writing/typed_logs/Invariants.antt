@@ -1,5 +1,4 @@
 use Rattle.std.proofs.Common.{All, take}
-use Rattle.tc_desk.specs.Logs.{rows_of}
 use Rattle.tc_desk.specs.Typed.{IsTypedRow}
 use Rattle.tucson.proofs.writing.typed_logs.Given as goal
 
