@@ -24,7 +24,7 @@ Differ c = AllPairs ◌≢◌ (agent_names c)
 
 nowhere : (place : Option ℕ) → (IsSome place → ⊥) → place ≡ None
 nowhere None never = refl
-nowhere (Some k) never = absurd (never tt)
+nowhere (Some k) never = absurd (never refl)
 
 -- a clause keeps the agents' names apart
 clause-differ : (c : Configuration) (vars : ℕ) (x : Form) (e : Configuration) → IsFaultless c x → ClauseMakes c vars x e → Differ c → Differ e

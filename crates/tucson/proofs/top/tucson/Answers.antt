@@ -4,7 +4,7 @@ use Rattle.tc_io.specs.Sources.{source_of}
 use Rattle.tc_visits.specs.Service.{door_of}
 use Rattle.tucson.specs.Commands.{IsCommandOf}
 use Rattle.tucson.specs.Texts.{usage_text}
-use Rattle.tucson.specs.declared.command.Command.TheVariants.{Run, Load}
+use Rattle.tucson.specs.declared.command.Command.TheVariants.{Run, Load, Verify}
 use Rattle.tucson.proofs.Returning.{returns-usage}
 use Rattle.tucson.proofs.top.tucson.Goals as goal
 
@@ -27,6 +27,14 @@ returns-in-Some-Load g c =
       subst (IsCommandOf words) (c.in-Some-Load.is ∙ ap Some c.in-Some-Load.field-0-is) c.command_of.ensures,
       c.load_main.ensures (source_of g.S.Source.left g.S.Source.read_faults g.S.Source.sure c.args.source.now)
           (door_of g.D.Door.opened g.D.Door.door_faults c.args.door.now),
+    )
+
+pub returns-in-Some-Verify : goal.returns-in-Some-Verify
+returns-in-Some-Verify g c =
+    let words = map bytes c.args.words.now in (
+      Some Verify,
+      subst (IsCommandOf words) (c.in-Some-Verify.is ∙ ap Some c.in-Some-Verify.field-0-is) c.command_of.ensures,
+      c.verify_main.ensures (door_of g.D.Door.opened g.D.Door.door_faults c.args.door.now),
     )
 
 pub returns-in-None : goal.returns-in-None
