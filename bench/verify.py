@@ -1,10 +1,10 @@
 #!/usr/bin/env python3
 """What `verify` takes beside the run that wrote the text, what reading takes, and whether hostile texts stay linear.
 
-    verify.py [RUNNER [JUDGE]] [--only WORD] [--scale X]
-    verify.py [RUNNER [JUDGE]] --configurations            the same of the texts of hostile.py's configurations
+    verify.py [RUNNER [AUDITOR]] [--only WORD] [--scale X]
+    verify.py [RUNNER [AUDITOR]] --configurations            the same of the texts of hostile.py's configurations
 
-RUNNER is the program of `run`, and JUDGE that of `verify` and `audit`: where they aren't given, those of the
+RUNNER is the program of `run` and `verify`, and AUDITOR that of `audit`: where they aren't given, those of the
 repository, which are proved and built first (./tucson build). It prints the tables of docs/SPEED.md; with a word only
 the rows whose names have it, and with a scale below 1 hostile texts are so much smaller.
 
@@ -152,7 +152,7 @@ def ran(program, words, given, written):
 
 def judged(word, told, given, said):
     """A judgement, and a note where it isn't the one that is due."""
-    run, line = ran(JUDGE, (word,), given, said)
+    run, line = ran(AUDITOR if word == "audit" else RUNNER, (word,), given, said)
     return run, "" if line.startswith(told) else f" **({line or run.status}, not {told})**"
 
 
@@ -245,15 +245,15 @@ def table_hostile(only_word, scale):
 
 
 def main():
-    global RUNNER, JUDGE
+    global RUNNER, AUDITOR
     words = argparse.ArgumentParser(description=__doc__, formatter_class=argparse.RawDescriptionHelpFormatter)
     words.add_argument("runner", nargs="?", default=TOP / "crates/tucson_run/out/tucson_run")
-    words.add_argument("judge", nargs="?", default=TOP / "crates/tucson_verify/out/tucson_verify")
+    words.add_argument("auditor", nargs="?", default=TOP / "crates/tucson_audit/out/tucson_audit")
     words.add_argument("--only", default="")
     words.add_argument("--scale", type=float, default=1.0)
     words.add_argument("--configurations", action="store_true")
     given = words.parse_args()
-    RUNNER, JUDGE = given.runner, given.judge
+    RUNNER, AUDITOR = given.runner, given.auditor
     if given.configurations:
         table_beside(OF_HOSTILE, given.only)
     else:
