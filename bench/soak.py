@@ -468,7 +468,7 @@ def main():
     words.add_argument('program', nargs='?', default=os.path.join(HERE, '../crates/tucson_run/out/tucson_run'))
     words.add_argument('--seed', type=int, default=1)
     words.add_argument('--picture', default='soak.svg')
-    words.add_argument('--judge', default=os.path.join(HERE, '../crates/tucson_verify/out/tucson_verify'))
+    words.add_argument('--judge', default=os.path.join(HERE, '../crates/tucson_audit/out/tucson_audit'))
     given = words.parse_args()
     signal.signal(signal.SIGPIPE, signal.SIG_IGN)
     primitives = known_primitives(given.program)
