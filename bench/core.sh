@@ -75,7 +75,8 @@ done
 heading "out(w(1)), no(w(1)) that waits, inp(w(1)), beside so many requests"
 row "none" gone 0 50000 500
 row "1000 for other tuples" gone 1000 50000 500
-row "1000 for the absence of other tuples" absent 1000 50000 500
+row "none, among 1000 other tuples" among 1000 50000 500
+row "1000 for the absence of these tuples" absent 1000 50000 500
 
 heading "beside requests, and ten times as many tuples of one functor"
 for size in 0 100 1000; do

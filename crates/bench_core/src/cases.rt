@@ -19,6 +19,8 @@ pub enum Case {
     Gone,
     /// The same beside requests for the absence of `v(k)`, each of which is there.
     Absent,
+    /// The same among these tuples `v(k)`, beside no request.
+    Among,
     /// `inp(p(k,V))` and `out(p(k,k))` among tuples of that functor.
     First,
     /// `inp(p(X,Y))`, which takes the oldest, and `out(p(0,0))`, among tuples of that functor.
@@ -56,7 +58,7 @@ reaction(out_r(s(N)),(N > 0,in_r(s(N)),M is N - 1,out_r(s(M)))).";
 
 impl Case {
     /// All cases.
-    pub fn all() -> [Case; 16] {
+    pub fn all() -> [Case; 17] {
         [
             Case::Pair,
             Case::Ten,
@@ -64,6 +66,7 @@ impl Case {
             Case::Other,
             Case::Gone,
             Case::Absent,
+            Case::Among,
             Case::First,
             Case::Oldest,
             Case::Names,
@@ -86,6 +89,7 @@ impl Case {
             Case::Other => "other",
             Case::Gone => "gone",
             Case::Absent => "absent",
+            Case::Among => "among",
             Case::First => "first",
             Case::Oldest => "oldest",
             Case::Names => "names",
@@ -121,7 +125,8 @@ impl Case {
     /// How many tuples its centre begins with, where it has this size.
     pub fn tuples(self, size: u32) -> u32 {
         match self {
-            Case::First | Case::Oldest | Case::Names | Case::Held | Case::Absent => size,
+            Case::First | Case::Oldest | Case::Names | Case::Held => size,
+            Case::Absent | Case::Among => size,
             Case::Unasked | Case::Missing => size.saturating_mul(10),
             Case::Table => 3,
             Case::Counter => 1,
@@ -137,7 +142,7 @@ impl Case {
             Case::Held => Ok(pair(alloc, int(k), Term::Int(0))?),
             Case::Counter => Ok(one(alloc, b"count", Term::Int(0))?),
             Case::Table => chopstick(alloc, k),
-            Case::Absent => self.request(alloc, k),
+            Case::Absent | Case::Among => self.request(alloc, k),
             _ => Ok(pair(alloc, int(k), int(k))?),
         }
     }
@@ -163,7 +168,7 @@ impl Case {
     pub fn request(self, alloc: Global, k: u32) -> Result<Term, BenchFault> {
         match self {
             Case::Same => Ok(one(alloc, b"w", int(k.saturating_add(2)))?),
-            Case::Other | Case::Gone | Case::Absent => {
+            Case::Other | Case::Gone | Case::Absent | Case::Among => {
                 Ok(one(alloc, b"v", int(k.saturating_add(2)))?)
             }
             _ => Ok(pair(alloc, Term::Int(-1), int(k))?),
@@ -182,7 +187,7 @@ impl Case {
     pub fn first_verb(self) -> Verb {
         match self {
             Case::Pair | Case::Ten | Case::Unasked | Case::Cascade | Case::Outs => Verb::Out,
-            Case::Gone | Case::Absent => Verb::Out,
+            Case::Gone | Case::Absent | Case::Among => Verb::Out,
             Case::Same | Case::Other | Case::Counter | Case::Table => Verb::In,
             Case::First | Case::Oldest | Case::Missing => Verb::Inp,
             Case::Names | Case::Held => Verb::Rdp,
@@ -195,7 +200,7 @@ impl Case {
             Case::Pair | Case::Ten | Case::Cascade => Some(Verb::Inp),
             Case::Same | Case::Other | Case::First | Case::Oldest => Some(Verb::Out),
             Case::Counter | Case::Table => Some(Verb::Out),
-            Case::Gone | Case::Absent => Some(Verb::No),
+            Case::Gone | Case::Absent | Case::Among => Some(Verb::No),
             Case::Names | Case::Unasked | Case::Missing | Case::Held | Case::Outs => None,
         }
     }
@@ -203,7 +208,7 @@ impl Case {
     /// What a round asks last, if anything: for what it has asked first.
     pub fn third_verb(self) -> Option<Verb> {
         match self {
-            Case::Gone | Case::Absent => Some(Verb::Inp),
+            Case::Gone | Case::Absent | Case::Among => Some(Verb::Inp),
             _ => None,
         }
     }
@@ -212,7 +217,8 @@ impl Case {
     pub fn texts(self) -> (&'static [u8], &'static [u8]) {
         match self {
             Case::Ten => (b"p(1,a,f(b,2),g(c),3,4)", b"p(1,X,f(Y,2),g(c),Z,4)"),
-            Case::Same | Case::Other | Case::Gone | Case::Absent => (b"w(1)", b"w(1)"),
+            Case::Same | Case::Other => (b"w(1)", b"w(1)"),
+            Case::Gone | Case::Absent | Case::Among => (b"w(1)", b"w(1)"),
             Case::Oldest => (b"p(X,Y)", b"p(0,0)"),
             Case::Missing => (b"p(-2,X)", b"p"),
             Case::Counter => (b"count(X)", b"count(1)"),
