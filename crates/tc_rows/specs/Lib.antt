@@ -1,7 +1,9 @@
+pub mod Beside
 pub mod Fulls
 pub mod Gaps
 pub mod Index
 pub mod Made
 pub mod Rows
+pub mod ServedRows
 pub mod Sound
 pub mod Told

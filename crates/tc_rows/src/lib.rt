@@ -1,5 +1,5 @@
 //! An agent's rows, as a text tells them, beside the histories of its centres: the first that is at
-//! fault.
+//! fault, of an agent that runs its scripts or of one that a service knows by its rows alone.
 //!
 //! The histories have to be those of runs to quiet states. An index of them is made once, and asked
 //! for each agent. Nothing here serves a call.
@@ -19,13 +19,18 @@
 //! | row | one row beside the item whose ask is known |
 //! | told | its result: whether the ask may have come to it |
 //! | ends | entries that have no row |
+//! | served_rows | `first_unserved`: the rows of a service, one after another |
+//! | agreeing | what one of them tells, beside the history of its centre |
+//! | entries | whether each entry has its row |
 //! | index | `Index`: what the histories tell |
 //! | made, replies, fulls | a history's entries by agent, its replies, and where its centre was full |
 //! | gaps | whether a centre was full where an entry could stand |
 //! | same | operations and replies, compared |
 #![tactic(auto)]
 
+mod agreeing;
 mod ends;
+mod entries;
 mod fulls;
 mod gaps;
 mod index;
@@ -34,8 +39,10 @@ mod replies;
 mod row;
 mod rows;
 mod same;
+mod served_rows;
 mod told;
 
 pub use index::Index;
 pub use rows::first_faulty;
+pub use served_rows::first_unserved;
 pub use tc_lists::NoMemory;

@@ -137,8 +137,8 @@ fn is_told_there(
     )
 }
 
-// Whether a grant permits the agent to use the primitive on the centre.
-fn is_permitted(config: &Config, agent: usize, centre: u32, primitive: Primitive) -> bool
+/// Whether a grant permits the agent to use the primitive on the centre.
+pub(crate) fn is_permitted(config: &Config, agent: usize, centre: u32, primitive: Primitive) -> bool
     requires { agent < length config.now.agents }
     ensures { (a : AgentConf) → slice_get config.now.agents agent ≡ Some a
         → (IsTrue result ↔ Contains config.now.roles (grant a.role centre primitive)) }
@@ -165,8 +165,8 @@ fn may_stand(became: &LogResult, last: bool) -> bool
     }
 }
 
-// Whether the ask was served.
-fn is_served(became: &LogResult) -> bool
+/// Whether the ask was served.
+pub(crate) fn is_served(became: &LogResult) -> bool
     ensures { result ≡ is_served became.now }
 {
     match became {

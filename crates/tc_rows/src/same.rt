@@ -41,8 +41,19 @@ pub(crate) fn same_reply(a: &Reply, b: &Reply) -> bool
     }
 }
 
-// Whether the tuples are equal.
-fn same_tuple(t: &Ground, u: &Ground) -> bool
+/// Whether what was told of a call is the same.
+pub(crate) fn same_told(a: &Option<Reply>, b: &Option<Reply>) -> bool
+    ensures { IsTrue result ↔ (a.now ≡ b.now) }
+{
+    match (a, b) {
+        (Some(reply), Some(other)) => same_reply(reply, other),
+        (None, None) => true,
+        _ => false,
+    }
+}
+
+/// Whether the tuples are equal.
+pub(crate) fn same_tuple(t: &Ground, u: &Ground) -> bool
     ensures { IsTrue result ↔ (t.now ≡ u.now) }
 {
     t.term() == u.term()

@@ -203,9 +203,9 @@ fn has_op(alloc: Global, entry: &Entry, op: &Op) -> Result<bool, NoMemory>
     }
 }
 
-// Whether the centre was full where the call could stand, with this load where the version tells
-// one. The history has no entry of the call's number.
-fn is_told_full(
+/// Whether the centre was full where the call could stand, with this load where the version tells
+/// one. The history has no entry of the call's number.
+pub(crate) fn is_told_full(
     version: Version,
     index: &CentreIndex,
     history: &[Entry],
