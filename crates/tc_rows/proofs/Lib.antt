@@ -6,10 +6,17 @@ pub mod Faults
 pub mod Found
 pub mod Indexing
 pub mod Loads
+pub mod Leaving
 pub mod Looking
 pub mod Making
+pub mod Naming
+pub mod Owning
+pub mod Permitted
 pub mod Pointing
+pub mod Polling
+pub mod Refusing
 pub mod Rowing
+pub mod Serving
 pub mod Sounding
 pub mod Stepping
 pub mod Strays

@@ -101,3 +101,10 @@ pub record IsFirstUnserved (version : Version) (c : Configuration)
   pub unserved : IsUnserved version c histories agent a rows number
   pub before : (k : ℕ) (row : TextRow) → k + 1 < number → slice_get rows k ≡ Some row
       → IsServedRow version c histories agent a rows k row
+
+-- the pending rows of the log have no reply in the histories of their centres
+abbrev pub AreUnanswered : List (List ℕ) → List (List Entry) → ℕ → List LogRow → Type 0
+AreUnanswered names histories agent log =
+    (k place : ℕ) (row : LogRow) (history : List Entry) → slice_get log k ≡ Some row
+    → row.result ≡ Pending → slice_get names place ≡ Some row.centre
+    → slice_get histories place ≡ Some history → reply_in history (call_of agent (k + 1)) ≡ None

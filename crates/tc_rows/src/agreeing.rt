@@ -1,19 +1,17 @@
 //! Whether what a row tells agrees with the history of its centre.
-ghost use Rattle.std.specs.Prelude.{◌≡◌, ◌↔◌, ◌<◌, ◌+◌, None, Some, IsTrue, length, slice_get, take};
-ghost use Rattle.tc_calls.specs.Places.{ArePlaces, reply_from};
-ghost use Rattle.tc_calls.specs.Places as replies;
+ghost use Rattle.std.specs.Prelude.{◌≡◌, ◌↔◌, ◌<◌, ◌+◌, None, Some, IsTrue, Contains, length};
+ghost use Rattle.std.specs.Prelude.{slice_get, take};
+ghost use Rattle.tc_calls.specs.Places.{ArePlaces, lists_of, reply_from};
 ghost use Rattle.tc_config.specs.Good.{Permits};
 ghost use Rattle.tc_config.specs.declared.configs.AgentConf.{AgentConf};
 ghost use Rattle.tc_desk.specs.Agreeing.{HasPolled};
 ghost use Rattle.tc_histtext.specs.ReadTexts.{as_logged};
-ghost use Rattle.tc_histline.specs.declared.lines.TextRow.{TextRow};
 ghost use Rattle.tc_model.specs.Calls.{call_of};
 ghost use Rattle.tc_model.specs.Replies.{reply_in, reply_of};
 ghost use Rattle.tc_model.specs.Run.{HasCall};
 ghost use Rattle.tc_model.specs.State.{Origin};
-ghost use Rattle.tc_rows.specs.Beside.{IsLastAt, IsLookOf};
+ghost use Rattle.tc_rows.specs.Beside.{IsLastAt, IsLookOf, IsPermittedEntry};
 ghost use Rattle.tc_rows.specs.Index.{IsIndexed, IsSomeIndex};
-ghost use Rattle.tc_rows.specs.Made.{AreAllMade, lists_of};
 ghost use Rattle.tc_rows.specs.Rows.{logged};
 ghost use Rattle.tc_rows.specs.ServedRows.{AgreesTold, IsPermittedCall, IsToldRefusal};
 ghost use Rattle.tc_rows.specs.ServedRows.{op_primitive};
@@ -23,7 +21,7 @@ use crate::index::CentreIndex;
 use crate::made::entry_of;
 use crate::replies::entry_telling;
 use crate::row::is_permitted;
-use crate::same::{same_told, same_tuple};
+use crate::same::{same_name, same_told, same_tuple};
 use crate::told::is_told_full;
 use tc_calls::Places;
 use tc_config::Config;
@@ -31,8 +29,8 @@ use tc_desk::{LogResult, Refusal};
 use tc_histline::{TextRow, Version};
 use tc_model::{CallId, Entry, Op, Outcome, Primitive, Reply};
 
-/// Whether what the row at this place tells agrees with the history of its centre. The last row
-/// before it that was served is known.
+/// Whether what a row tells, behind those before its place, agrees with the history of its centre.
+/// The last of them that was served is known.
 pub(crate) fn agrees(
     version: Version,
     config: &Config,
@@ -43,35 +41,71 @@ pub(crate) fn agrees(
     rows: &[TextRow],
     last: Option<usize>,
     place: usize,
+    row: &TextRow,
 ) -> bool
     requires index { IsSomeIndex history.now index.now }
     requires inside { agent < length config.now.agents }
     requires there { place < length rows.now }
     requires last { IsLastAt rows.now place last }
-    ensures { (origin : Origin) (a : AgentConf) (row : TextRow)
-        → IsIndexed origin history.now index.now → slice_get config.now.agents agent ≡ Some a
-        → slice_get rows.now place ≡ Some row
+    ensures { (origin : Origin) (a : AgentConf) → IsIndexed origin history.now index.now
+        → slice_get config.now.agents agent ≡ Some a
         → (IsTrue result
         ↔ AgreesTold version (Permits config.now a.role centre) origin history.now
-        (call_of agent (place + 1)) (logged (take place rows.now)) (as_logged row) row.result) }
+        (call_of agent (place + 1)) (logged (take place rows.now)) (as_logged row.now)
+        row.now.result) }
 {
     let _agents = config.agents();
     let id = CallId {
         agent: agent as u32,
         number: place as u64 + 1,
     };
-    match &rows[place].result {
-        LogResult::Replied(reply) => {
-            is_permitted_call(config, index, history, agent, centre, id)
-                && has_reply(&index.replies, history, id, reply)
-        }
-        LogResult::Pending => {
-            is_permitted_call(config, index, history, agent, centre, id)
-                && has_no_reply(&index.replies, history, id)
-        }
+    match &row.result {
+        LogResult::Replied(reply) => is_replied(config, index, history, agent, centre, id, reply),
+        LogResult::Pending => is_waiting(config, index, history, agent, centre, id),
         LogResult::Refused(why) => is_told_refusal(version, index, history, id, *why),
-        LogResult::Polled(told) => has_polled(index, history, id, rows, last, place, told),
+        LogResult::Polled(told) => has_polled(index, history, id, rows, last, place, row, told),
     }
+}
+
+// Whether the history has the call, with an operation that a grant permits, and this reply to it.
+fn is_replied(
+    config: &Config,
+    index: &CentreIndex,
+    history: &[Entry],
+    agent: usize,
+    centre: u32,
+    id: CallId,
+    reply: &Reply,
+) -> bool
+    requires index { IsSomeIndex history.now index.now }
+    requires inside { agent < length config.now.agents }
+    ensures { (a : AgentConf) → slice_get config.now.agents agent ≡ Some a
+        → (IsTrue result
+        ↔ (IsPermittedCall (Permits config.now a.role centre) history.now id
+        × (reply_in history.now id ≡ Some reply.now))) }
+{
+    is_permitted_call(config, index, history, agent, centre, id)
+        && has_reply(&index.replies, history, id, reply)
+}
+
+// Whether it has the call, with an operation that a grant permits, and no reply to it.
+fn is_waiting(
+    config: &Config,
+    index: &CentreIndex,
+    history: &[Entry],
+    agent: usize,
+    centre: u32,
+    id: CallId,
+) -> bool
+    requires index { IsSomeIndex history.now index.now }
+    requires inside { agent < length config.now.agents }
+    ensures { (a : AgentConf) → slice_get config.now.agents agent ≡ Some a
+        → (IsTrue result
+        ↔ (IsPermittedCall (Permits config.now a.role centre) history.now id
+        × (reply_in history.now id ≡ None))) }
+{
+    is_permitted_call(config, index, history, agent, centre, id)
+        && has_no_reply(&index.replies, history, id)
 }
 
 // Whether the history has the call, with an operation that a grant permits.
@@ -83,14 +117,26 @@ fn is_permitted_call(
     centre: u32,
     id: CallId,
 ) -> bool
-    requires made { AreAllMade (lists_of index.now.makers.items) history.now }
+    requires index { IsSomeIndex history.now index.now }
     requires inside { agent < length config.now.agents }
     ensures { (a : AgentConf) → slice_get config.now.agents agent ≡ Some a
         → (IsTrue result ↔ IsPermittedCall (Permits config.now a.role centre) history.now id) }
 {
     match entry_of(&index.makers, history, id.agent, id.number) {
-        Some(Entry::Called { op, .. }) => is_permitted(config, agent, centre, op_primitive(op)),
-        Some(Entry::Gave { .. } | Entry::Looked { .. }) | None => false,
+        Some(entry) => is_permitted_entry(config, agent, centre, entry),
+        None => false,
+    }
+}
+
+// Whether the entry is a call with an operation that a grant permits.
+fn is_permitted_entry(config: &Config, agent: usize, centre: u32, entry: &Entry) -> bool
+    requires inside { agent < length config.now.agents }
+    ensures { (a : AgentConf) → slice_get config.now.agents agent ≡ Some a
+        → (IsTrue result ↔ IsPermittedEntry (Permits config.now a.role centre) entry.now) }
+{
+    match entry {
+        Entry::Called { op, .. } => is_permitted(config, agent, centre, op_primitive(op)),
+        Entry::Gave { .. } | Entry::Looked { .. } => false,
     }
 }
 
@@ -113,7 +159,7 @@ fn op_primitive(op: &Op) -> Primitive
 
 // Whether the history gives the call this reply.
 fn has_reply(places: &Places, history: &[Entry], id: CallId, reply: &Reply) -> bool
-    requires places { ArePlaces (replies.lists_of places.now.items) history.now }
+    requires places { ArePlaces (lists_of places.now.items) history.now }
     requires called { HasCall id history.now }
     ensures { IsTrue result ↔ (reply_in history.now id ≡ Some reply.now) }
 {
@@ -125,7 +171,7 @@ fn has_reply(places: &Places, history: &[Entry], id: CallId, reply: &Reply) -> b
 
 // Whether the history gives the call no reply.
 fn has_no_reply(places: &Places, history: &[Entry], id: CallId) -> bool
-    requires places { ArePlaces (replies.lists_of places.now.items) history.now }
+    requires places { ArePlaces (lists_of places.now.items) history.now }
     requires called { HasCall id history.now }
     ensures { IsTrue result ↔ (reply_in history.now id ≡ None) }
 {
@@ -201,8 +247,13 @@ fn is_told_refusal(
                 && is_told_full(version, index, history, id, Load { weight, pending })
         }
         Refusal::NoMemory => false,
-        Refusal::UnknownCentre | Refusal::Waiting | Refusal::Denied | Refusal::TooBig => true,
-        Refusal::NotGround | Refusal::BadSpec(_) | Refusal::TurnsSpent => true,
+        Refusal::UnknownCentre => true,
+        Refusal::Waiting => true,
+        Refusal::Denied => true,
+        Refusal::TooBig => true,
+        Refusal::NotGround => true,
+        Refusal::BadSpec(_) => true,
+        Refusal::TurnsSpent => true,
     }
 }
 
@@ -214,24 +265,39 @@ fn has_polled(
     rows: &[TextRow],
     last: Option<usize>,
     place: usize,
+    row: &TextRow,
     told: &Option<Reply>,
 ) -> bool
-    requires made { AreAllMade (lists_of index.now.makers.items) history.now }
+    requires index { IsSomeIndex history.now index.now }
     requires there { place < length rows.now }
     requires last { IsLastAt rows.now place last }
-    ensures { (row : TextRow) → slice_get rows.now place ≡ Some row
-        → (IsTrue result
+    ensures { IsTrue result
         ↔ HasPolled history.now id (logged (take place rows.now))
-        (length (logged (take place rows.now))) (as_logged row) told.now) }
+        (length (logged (take place rows.now))) (as_logged row.now) told.now }
 {
-    let Some(last) = last else {
-        return false;
-    };
-    if rows[last].centre != rows[place].centre {
-        return false;
+    match last {
+        Some(last) => {
+            let earlier = &rows[last];
+            same_name(&earlier.centre, &row.centre)
+                && has_looked(index, history, id, earlier.number, told)
+        }
+        None => false,
     }
+}
+
+// Whether the history has the look of this id at the call of this number, which was told this.
+fn has_looked(
+    index: &CentreIndex,
+    history: &[Entry],
+    id: CallId,
+    number: u64,
+    told: &Option<Reply>,
+) -> bool
+    requires index { IsSomeIndex history.now index.now }
+    ensures { IsTrue result ↔ Contains history.now (Entry.Looked id number told.now) }
+{
     match entry_of(&index.makers, history, id.agent, id.number) {
-        Some(entry) => is_look_of(entry, rows[last].number, told),
+        Some(entry) => is_look_of(entry, number, told),
         None => false,
     }
 }

@@ -1,16 +1,17 @@
 //! Whether what an agent made has its row.
-ghost use Rattle.std.specs.Prelude.{◌≡◌, ◌↔◌, All, IsTrue, length};
+ghost use Rattle.std.specs.Prelude.{◌≡◌, ◌↔◌, ◌<◌, All, IsTrue, Some, length, slice_get};
 ghost use Rattle.tc_config.specs.Configurations.{centre_names};
 ghost use Rattle.tc_desk.specs.Agreeing.{HasRow, HaveRows, IsMadeBy};
 ghost use Rattle.tc_model.specs.Calls.{calls_of, id_of};
+ghost use Rattle.tc_model.specs.declared.entries.Entry.{Entry};
 ghost use Rattle.tc_rows.specs.Made.{AreAllMade, lists_of};
 ghost use Rattle.tc_rows.specs.Rows.{logged};
 ghost use Rattle.tc_rows.specs.Sound.{HasMade};
 
 use crate::index::Index;
-use crate::made::{Makers, made_by};
+use crate::made::{Made, Makers, made_by};
 use crate::row::is_served;
-use crate::same::same_told;
+use crate::same::{same_name, same_told};
 use tc_config::Config;
 use tc_desk::LogResult;
 use tc_histline::TextRow;
@@ -34,7 +35,8 @@ pub(crate) fn have_rows(
     let centres = config.centres();
     for (place, history) in histories.iter().enumerate() {
         let makers = &index.centres[place].makers;
-        if !have_rows_of(makers, history.items(), agent, &centres[place].name, rows) {
+        let centre = &centres[place];
+        if !have_rows_of(makers, history.items(), agent, &centre.name, rows) {
             return false;
         }
     }
@@ -53,12 +55,22 @@ fn have_rows_of(
     ensures { IsTrue result
         ↔ All (HasRow (logged rows.now) centre.now) (calls_of agent history.now) }
 {
-    for made in made_by(makers, agent) {
-        if !has_row(&history[made.place], centre, rows) {
+    let own = made_by(makers, agent);
+    for made in own {
+        if !has_row_at(history, made, centre, rows) {
             return false;
         }
     }
     true
+}
+
+// Whether the one at this place has.
+fn has_row_at(history: &[Entry], made: &Made, centre: &Name, rows: &[TextRow]) -> bool
+    requires { made.now.place < length history.now }
+    ensures { (e : Entry) → slice_get history.now made.now.place ≡ Some e
+        → (IsTrue result ↔ HasRow (logged rows.now) centre.now e) }
+{
+    has_row(&history[made.place], centre, rows)
 }
 
 // Whether the entry has its row: the one of its number, which is of this centre, and came to it.
@@ -69,8 +81,9 @@ fn has_row(entry: &Entry, centre: &Name, rows: &[TextRow]) -> bool
     if number == 0 || number > rows.len() as u64 {
         return false;
     }
-    let row = &rows[number as usize - 1];
-    row.centre == *centre && is_made_by(entry, &row.result)
+    let place = number as usize - 1;
+    let row = &rows[place];
+    same_name(&row.centre, centre) && is_made_by(entry, &row.result)
 }
 
 // The number of an entry's id.

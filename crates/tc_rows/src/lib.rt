@@ -26,6 +26,7 @@
 //! | made, replies, fulls | a history's entries by agent, its replies, and where its centre was full |
 //! | gaps | whether a centre was full where an entry could stand |
 //! | same | operations and replies, compared |
+//! | laws | what holds of rows that a service has left |
 #![tactic(auto)]
 
 mod agreeing;
@@ -34,6 +35,7 @@ mod entries;
 mod fulls;
 mod gaps;
 mod index;
+mod laws;
 mod made;
 mod replies;
 mod row;
@@ -43,6 +45,7 @@ mod served_rows;
 mod told;
 
 pub use index::Index;
+pub use laws::rows_of_services_are_served;
 pub use rows::first_faulty;
 pub use served_rows::first_unserved;
 pub use tc_lists::NoMemory;

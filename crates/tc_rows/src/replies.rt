@@ -70,8 +70,10 @@ fn place_in(places: &Places, id: CallId) -> Option<usize>
     requires { Rises (calls_in (lists_of places.now.items) id.agent) }
     ensures { result ≡ place_in (lists_of places.now.items) id }
 {
-    let calls = places.get(id.agent as usize)?;
-    place_of(calls, id.number)
+    match places.get(id.agent as usize) {
+        Some(calls) => place_of(calls, id.number),
+        None => None,
+    }
 }
 
 // The same of the calls of one agent.
@@ -79,8 +81,10 @@ fn place_of(calls: &[(u64, usize)], number: u64) -> Option<usize>
     requires { Rises calls.now }
     ensures { result ≡ place_of calls.now number }
 {
-    let at = position(calls, number)?;
-    Some(calls[at].1)
+    match position(calls, number) {
+        Some(at) => Some(calls[at].1),
+        None => None,
+    }
 }
 
 // Where the call of this number stands among them.

@@ -5,7 +5,7 @@ use std::alloc::Global;
 use tc_lists::NoMemory;
 use tc_model::{Clauses, Op, Reply};
 use tc_spec::print_spec;
-use tc_term::{Ground, Pattern};
+use tc_term::{Ground, Name, Pattern};
 
 /// Whether the operations are equal. Clauses are compared by their texts, which take memory.
 pub(crate) fn same_op(alloc: Global, a: &Op, b: &Op) -> Result<bool, NoMemory>
@@ -77,4 +77,11 @@ fn same_clauses(alloc: Global, cs: &Clauses, ds: &Clauses) -> Result<bool, NoMem
     let mut other = Vec::new(alloc);
     print_spec(alloc, ds, &mut other)?;
     Ok(text == other)
+}
+
+/// Whether the names are equal.
+pub(crate) fn same_name(a: &Name, b: &Name) -> bool
+    ensures { IsTrue result ↔ (a.now ≡ b.now) }
+{
+    *a == *b
 }

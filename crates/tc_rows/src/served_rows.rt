@@ -1,10 +1,10 @@
 //! An agent's rows as a service leaves them, one after another, and the entries that have none.
 ghost use Rattle.std.specs.Prelude.{◌≡◌, ◌↔◌, ◌<◌, ◌+◌, IfNone, IfSome, IsTrue, Contains};
-ghost use Rattle.std.specs.Prelude.{Some, length, map, slice_get, take};
+ghost use Rattle.std.specs.Prelude.{List, Some, length, map, slice_get};
 ghost use Rattle.tc_config.specs.declared.configs.AgentConf.{AgentConf};
 ghost use Rattle.tc_config.specs.declared.configs.CentreConf.{CentreConf};
 ghost use Rattle.tc_histline.specs.declared.lines.TextRow.{TextRow};
-ghost use Rattle.tc_rows.specs.Beside.{IsCentreOf, IsLastAt, IsOfUnknown};
+ghost use Rattle.tc_rows.specs.Beside.{IsCentreOf, IsLastAt};
 ghost use Rattle.tc_rows.specs.Index.{IsIndexOf};
 ghost use Rattle.tc_rows.specs.Rows.{AreQuietRuns, logged};
 ghost use Rattle.tc_rows.specs.ServedRows.{AreServedRows, IsFirstUnserved, IsServedRow};
@@ -13,6 +13,7 @@ use crate::agreeing::agrees;
 use crate::entries::have_rows;
 use crate::index::Index;
 use crate::row::is_served;
+use crate::same::same_name;
 use tc_config::{CentreConf, Config};
 use tc_desk::{LogResult, Refusal};
 use tc_histline::{TextRow, Version};
@@ -41,19 +42,31 @@ pub fn first_unserved(
         → IfNone result (AreServedRows version config.now histories.now agent a rows.now) }
 {
     let mut last = None;
-    for place in 0..rows.len() {
-        if !may_stand(version, config, histories, index, agent, rows, last, place) {
+    for (place, row) in rows.iter().enumerate() {
+        if !may_stand(
+            version, config, histories, index, agent, rows, last, place, row,
+        ) {
             return Some(place + 1);
         }
-        if is_served(&rows[place].result) {
-            last = Some(place);
-        }
+        last = last_with(last, place, &row.result);
     }
     let _agents = config.agents();
     if have_rows(config, histories, index, agent as u32, rows) {
         None
     } else {
         Some(rows.len() + 1)
+    }
+}
+
+// The last row that was served, once one at this place came to this.
+fn last_with(last: Option<usize>, place: usize, became: &LogResult) -> Option<usize>
+    ensures { (rows : List TextRow) (row : TextRow) → slice_get rows place ≡ Some row
+        → row.result ≡ became.now → IsLastAt rows place last → IsLastAt rows (place + 1) result }
+{
+    if is_served(became) {
+        Some(place)
+    } else {
+        last
     }
 }
 
@@ -67,18 +80,17 @@ fn may_stand(
     rows: &[TextRow],
     last: Option<usize>,
     place: usize,
+    row: &TextRow,
 ) -> bool
     requires quiet { AreQuietRuns config.now histories.now }
     requires index { IsIndexOf config.now histories.now index.now }
     requires inside { agent < length config.now.agents }
     requires there { place < length rows.now }
     requires last { IsLastAt rows.now place last }
-    ensures { (a : AgentConf) (row : TextRow) → slice_get config.now.agents agent ≡ Some a
-        → slice_get rows.now place ≡ Some row
+    ensures { (a : AgentConf) → slice_get config.now.agents agent ≡ Some a
         → (IsTrue result
-        ↔ IsServedRow version config.now histories.now agent a rows.now place row) }
+        ↔ IsServedRow version config.now histories.now agent a rows.now place row.now) }
 {
-    let row = &rows[place];
     if row.number != place as u64 + 1 {
         return false;
     }
@@ -95,6 +107,7 @@ fn may_stand(
                     rows,
                     last,
                     place,
+                    row,
                 )
         }
         None => is_of_unknown(&row.result),
@@ -108,7 +121,8 @@ fn centre_of(centres: &[CentreConf], name: &Name) -> Option<usize>
         (Contains (map (λ (s : CentreConf). s.name) centres.now) name.now → ⊥) }
 {
     for place in 0..centres.len() {
-        if centres[place].name == *name {
+        let centre = &centres[place];
+        if same_name(&centre.name, name) {
             return Some(place);
         }
     }
