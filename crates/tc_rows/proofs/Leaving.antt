@@ -46,7 +46,7 @@ op-needs (Inp t) op is = ap op_primitive is.1
 op-needs (Rdp t) op is = ap op_primitive is.1
 op-needs (No t) op is = ap op_primitive is.1
 op-needs (Nop t) op is = ap op_primitive is.1
-op-needs (SetSpec t) op is = ap op_primitive is.is
+op-needs (SetSpec t) op is = ap op_primitive is.1.is
 op-needs GetSpec op is = let same : op ≡ operation.GetSpec = cc in ap op_primitive same
 
 module _ (version : Version) where

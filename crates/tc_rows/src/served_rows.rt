@@ -63,11 +63,7 @@ fn last_with(last: Option<usize>, place: usize, became: &LogResult) -> Option<us
     ensures { (rows : List TextRow) (row : TextRow) → slice_get rows place ≡ Some row
         → row.result ≡ became.now → IsLastAt rows place last → IsLastAt rows (place + 1) result }
 {
-    if is_served(became) {
-        Some(place)
-    } else {
-        last
-    }
+    if is_served(became) { Some(place) } else { last }
 }
 
 // Whether the row at this place may stand there. The last row before it that was served is known.

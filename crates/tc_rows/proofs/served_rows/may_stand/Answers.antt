@@ -42,11 +42,13 @@ returns-else-not-is_of_unknown c = λ a ata.
     let hs = c.args.histories.now in
     let p = c.in-Some.centre in
     let is = c.in-Some.ensures.some in
-    let s = is.centre in
-    (λ yes. absurd (false≢true (subst (λ b. not b ≡ true) c.if-not-is_of_unknown.false yes)), λ stands.
-    absurd (refused-known c.args.version config hs c.args.agent a c.args.rows.now c.args.place c.args.row.now c.centres.ensures.config p s
-    (subst (λ all. slice_get all p ≡ Some s) c.centres.ensures.centres is.known) is.named stands
-    (c.is_of_unknown.ensures.0 c.if-not-is_of_unknown.false)))
+    let s = is.centre in (
+      λ yes. absurd (false≢true (subst (λ b. not b ≡ true) c.if-not-is_of_unknown.false yes)),
+      λ stands.
+          absurd (refused-known c.args.version config hs c.args.agent a c.args.rows.now c.args.place c.args.row.now c.centres.ensures.config p s
+          (subst (λ all. slice_get all p ≡ Some s) c.centres.ensures.centres is.known) is.named stands
+          (c.is_of_unknown.ensures.0 c.if-not-is_of_unknown.false)),
+    )
 
 pub returns-in-None : goal.returns-in-None
 returns-in-None c = λ a ata.
