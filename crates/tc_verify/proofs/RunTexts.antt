@@ -23,12 +23,13 @@ use Rattle.tc_rows.specs.Rows.{AreQuietRuns, AreSound, IsNoLookOf, told_row}
 use Rattle.tc_rows.proofs.Calls.{All-filter_at}
 use Rattle.tc_verify.specs.RunTexts.{IsTextOfRun, text_telling}
 use Rattle.tc_verify.specs.Verdicts.{AreAllSound, EndsAsRows, IsVerdict, any_waits}
+use Rattle.tc_verify.specs.declared.verdicts.Question.TheVariants.{Run}
 use Rattle.tc_verify.specs.declared.verdicts.Verdict.TheVariants.{Yes}
 use Rattle.tc_verify.proofs.Sounds.{are-sound}
 use Rattle.tc_verify.proofs.Told.{any_waits-told, text_of-told}
 use Rattle.tc_verify.proofs.Wholes.{entry-numbered, map-from, whole-ended, whole-follows, whole-log}
 
-module _ (c : Configuration) (t : Text) (quiet : AreQuietRuns c t.histories) (sound : AreAllSound c t)
+module _ (c : Configuration) (t : Text) (quiet : AreQuietRuns c t.histories) (sound : AreAllSound Run c t)
     (many : length t.logs ≡ length (agent_names c)) where
   each_agent : length c.agents ≡ length t.logs
   each_agent = sym (many ∙ length-map c.agents (λ (a : AgentConf). a.name))
@@ -168,7 +169,7 @@ module _ (c : Configuration) (bytes : List ℕ) (of : IsTextOfRun c bytes) where
       let centre = slice_get-as_long of.histories c.centres place history (sym of.good.going.runs.whole) stands in
       (of.good.going.runs.each place centre.0 history centre.1 stands).looks
 
-  told-sound : AreAllSound c there
+  told-sound : AreAllSound Run c there
   told-sound agent a rows known at =
       let log = slice_get-map_from (map (told_row of.version)) of.logs agent rows at in
       subst (AreSound of.version c of.histories agent a) log.2

@@ -5,17 +5,11 @@ use Rattle.tc_config.specs.Texts.{IsRefused, Spells}
 use Rattle.tc_config.specs.declared.faults.ConfigCause.{ConfigCause}
 use Rattle.tc_verify.specs.Inputs.{IsParted}
 use Rattle.tc_verify.specs.Texts.{verdict_text}
-use Rattle.tc_verify.specs.Verdicts.{IsAudit, IsVerdict}
+use Rattle.tc_verify.specs.Verdicts.{IsVerdictOn}
 use Rattle.tc_verify.specs.declared.judging.Judgement.{Judgement}
 use Rattle.tc_verify.specs.declared.judging.Judgement.TheVariants.{Judged, Refused}
-use Rattle.tc_verify.specs.declared.judging.Question.{Question}
-use Rattle.tc_verify.specs.declared.judging.Question.TheVariants.{Histories, Run}
+use Rattle.tc_verify.specs.declared.verdicts.Question.{Question}
 use Rattle.tc_verify.specs.declared.verdicts.Verdict.{Verdict}
-
--- the verdict on what is asked of the bytes
-abbrev pub IsVerdictOn : Question → Configuration → List ℕ → Verdict → Type 0
-IsVerdictOn Histories c bytes verdict = IsAudit c bytes verdict
-IsVerdictOn Run c bytes verdict = IsVerdict c bytes verdict
 
 -- the first part of the input spells a configuration, and this is the verdict on the other part,
 -- with the line that tells it

@@ -8,10 +8,14 @@ use Rattle.tc_config.specs.Good.{origin_of}
 use Rattle.tc_config.specs.declared.configs.AgentConf.{AgentConf}
 use Rattle.tc_config.specs.declared.configs.CentreConf.{CentreConf}
 use Rattle.tc_histline.specs.declared.lines.TextRow.{TextRow}
+use Rattle.tc_histline.specs.declared.versions.Version.{Version}
 use Rattle.tc_histtext.specs.ReadTexts.{IsFirstFault, IsText}
 use Rattle.tc_histtext.specs.declared.read_texts.Text.{Text}
 use Rattle.tc_replay.specs.Bad.{IsBadAt, IsQuietRun}
 use Rattle.tc_rows.specs.Rows.{AreQuietRuns, AreSound, IsFirstFaulty}
+use Rattle.tc_rows.specs.ServedRows.{AreServedRows, IsFirstUnserved}
+use Rattle.tc_verify.specs.declared.verdicts.Question.{Question}
+use Rattle.tc_verify.specs.declared.verdicts.Question.TheVariants.{Run, Service}
 use Rattle.tc_verify.specs.declared.verdicts.Verdict.{Verdict}
 use Rattle.tc_verify.specs.declared.verdicts.Verdict.TheVariants.{NoAgent, NoEnd, NoEntry, NoText, Yes}
 
@@ -38,33 +42,49 @@ pub record IsTextOfRuns (c : Configuration) (bytes : List ℕ) (t : Text) : Type
   pub text : IsText (centre_names c) (agent_names c) t bytes
   pub runs : AreQuietRuns c t.histories
 
--- the agents before this place have sound rows
-abbrev pub AreSoundBefore : Configuration → Text → ℕ → Type 0
-AreSoundBefore c t place =
+-- an agent's rows are as asked: sound as those of a run, or such as a service may leave
+abbrev pub AreRowsOf : Question → Version → Configuration → List (List Entry) → ℕ → AgentConf
+    → List TextRow → Type 0
+AreRowsOf Run version c histories agent a rows = AreSound version c histories agent a rows
+AreRowsOf Service version c histories agent a rows = AreServedRows version c histories agent a rows
+
+-- of rows that are not, this is the first at fault
+abbrev pub IsFirstAtFault : Question → Version → Configuration → List (List Entry) → ℕ
+    → AgentConf → List TextRow → ℕ → Type 0
+IsFirstAtFault Run version c histories agent a rows number =
+    IsFirstFaulty version c histories agent a rows number
+IsFirstAtFault Service version c histories agent a rows number =
+    IsFirstUnserved version c histories agent a rows number
+
+-- the rows of the agents before this place are as asked
+abbrev pub AreSoundBefore : Question → Configuration → Text → ℕ → Type 0
+AreSoundBefore question c t place =
     (k : ℕ) (a : AgentConf) (rows : List TextRow) → k < place
     → slice_get c.agents k ≡ Some a → slice_get t.logs k ≡ Some rows
-    → AreSound t.version c t.histories k a rows
+    → AreRowsOf question t.version c t.histories k a rows
 
 -- the agent at this place is the first that has a row at fault, and this is its first
-pub record IsFirstAgent (c : Configuration) (t : Text) (agent number : ℕ) : Type 0 where
-  pub before : AreSoundBefore c t agent
+pub record IsFirstAgent (question : Question) (c : Configuration) (t : Text) (agent number : ℕ)
+    : Type 0 where
+  pub before : AreSoundBefore question c t agent
   pub a : AgentConf
   pub known : slice_get c.agents agent ≡ Some a
   pub rows : List TextRow
   pub there : slice_get t.logs agent ≡ Some rows
-  pub first : IsFirstFaulty t.version c t.histories agent a rows number
+  pub first : IsFirstAtFault question t.version c t.histories agent a rows number
 
--- the rows of every agent are sound
-abbrev pub AreAllSound : Configuration → Text → Type 0
-AreAllSound c t =
+-- the rows of every agent are as asked
+abbrev pub AreAllSound : Question → Configuration → Text → Type 0
+AreAllSound question c t =
     (k : ℕ) (a : AgentConf) (rows : List TextRow)
     → slice_get c.agents k ≡ Some a → slice_get t.logs k ≡ Some rows
-    → AreSound t.version c t.histories k a rows
+    → AreRowsOf question t.version c t.histories k a rows
 
--- besides, the rows of every agent are sound
-pub record IsSoundText (c : Configuration) (bytes : List ℕ) (t : Text) : Type 0 where
+-- besides, the rows of every agent are as asked
+pub record IsSoundText (question : Question) (c : Configuration) (bytes : List ℕ) (t : Text)
+    : Type 0 where
   pub text : IsTextOfRuns c bytes t
-  pub rows : AreAllSound c t
+  pub rows : AreAllSound question c t
 
 -- whether some row is pending
 abbrev pub some_pending : List TextRow → Bool
@@ -78,23 +98,23 @@ any_waits logs = list_any some_pending logs
 abbrev pub EndsAsRows : Text → Type 0
 EndsAsRows t = t.blocked ≡ any_waits t.logs
 
--- the verdict on the bytes
-abbrev pub IsVerdict : Configuration → List ℕ → Verdict → Type 0
-IsVerdict c bytes Yes = (t : Text) × IsSoundText c bytes t × EndsAsRows t
-IsVerdict c bytes (NoText line) = IsFirstFault (centre_names c) (agent_names c) bytes line
-IsVerdict c bytes (NoEntry centre number) =
+-- the verdict on the bytes, by what is asked of them
+abbrev pub IsVerdictOn : Question → Configuration → List ℕ → Verdict → Type 0
+IsVerdictOn question c bytes Yes = (t : Text) × IsSoundText question c bytes t × EndsAsRows t
+IsVerdictOn question c bytes (NoText line) =
+    IsFirstFault (centre_names c) (agent_names c) bytes line
+IsVerdictOn question c bytes (NoEntry centre number) =
     (t : Text) × IsText (centre_names c) (agent_names c) t bytes
     × IsFirstBad c t.histories centre number
-IsVerdict c bytes (NoAgent agent number) =
-    (t : Text) × IsTextOfRuns c bytes t × IsFirstAgent c t agent number
-IsVerdict c bytes NoEnd = (t : Text) × IsSoundText c bytes t × (EndsAsRows t → ⊥)
+IsVerdictOn question c bytes (NoAgent agent number) =
+    (t : Text) × IsTextOfRuns c bytes t × IsFirstAgent question c t agent number
+IsVerdictOn question c bytes NoEnd =
+    (t : Text) × IsSoundText question c bytes t × (EndsAsRows t → ⊥)
 
--- the verdict on their histories alone
+-- the verdict on them as the text of a run
+abbrev pub IsVerdict : Configuration → List ℕ → Verdict → Type 0
+IsVerdict = IsVerdictOn Run
+
+-- the verdict on them as the text of a service
 abbrev pub IsAudit : Configuration → List ℕ → Verdict → Type 0
-IsAudit c bytes Yes = (t : Text) × IsTextOfRuns c bytes t
-IsAudit c bytes (NoText line) = IsFirstFault (centre_names c) (agent_names c) bytes line
-IsAudit c bytes (NoEntry centre number) =
-    (t : Text) × IsText (centre_names c) (agent_names c) t bytes
-    × IsFirstBad c t.histories centre number
-IsAudit c bytes (NoAgent agent number) = ⊥
-IsAudit c bytes NoEnd = ⊥
+IsAudit = IsVerdictOn Service

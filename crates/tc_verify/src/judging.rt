@@ -4,26 +4,17 @@ ghost use Rattle.tc_config.specs.Configurations.{Configuration};
 ghost use Rattle.tc_config.specs.Texts.{IsRefused, Spells};
 ghost use Rattle.tc_config.specs.declared.faults.ConfigCause.{ConfigCause};
 ghost use Rattle.tc_verify.specs.Inputs.{IsParted};
-ghost use Rattle.tc_verify.specs.Judgements.{HasVerdict, IsJudgement, IsVerdictOn};
-ghost use Rattle.tc_verify.specs.Texts.{IsOfKnown};
+ghost use Rattle.tc_verify.specs.Judgements.{HasVerdict, IsJudgement};
+ghost use Rattle.tc_verify.specs.Verdicts.{IsVerdictOn};
 ghost use Rattle.tc_verify.specs.declared.judging.Judgement.{Judgement};
 ghost use Rattle.tc_verify.specs.declared.verdicts.Verdict.{Verdict};
 
 use crate::inputs::parted;
 use crate::printing::verdict_text;
-use crate::verdicts::{Verdict, audit, verify};
+use crate::verdicts::{Question, Verdict, verdict_on};
 use std::alloc::Global;
 use tc_config::{Config, ConfigCause, ConfigFault, read_config};
 use tc_lists::{NoMemory, Seq};
-
-/// What is asked of a text.
-#[derive(Clone, Copy, Debug, PartialEq, Eq)]
-pub enum Question {
-    /// Whether its histories are those of runs of the configuration's centres.
-    Histories,
-    /// Whether it is the text of a run of the configuration.
-    Run,
-}
 
 /// What an input comes to.
 #[derive(Drop)]
@@ -56,23 +47,5 @@ pub fn judge(alloc: Global, question: Question, input: &[u8]) -> Result<Judgemen
         }
         Err(ConfigFault::Bad { clause, cause }) => Ok(Judgement::Refused { clause, cause }),
         Err(ConfigFault::NoMemory) => Err(NoMemory),
-    }
-}
-
-// The verdict on what is asked.
-fn verdict_on(
-    alloc: Global,
-    question: Question,
-    config: &Config,
-    text: &[u8],
-) -> Result<Verdict, NoMemory>
-    ensures verdict { IfOk result (IsVerdictOn question config.now text.now) }
-    ensures same { (v : Verdict) → IsVerdictOn question config.now text.now v
-        → IfOk result (λ w. w ≡ v) }
-    ensures known { IfOk result (IsOfKnown config.now) }
-{
-    match question {
-        Question::Histories => audit(alloc, config, text),
-        Question::Run => verify(alloc, config, text),
     }
 }

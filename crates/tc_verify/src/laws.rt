@@ -3,7 +3,7 @@ ghost use Rattle.std.specs.Prelude.{◌≡◌, ◌≢◌, ℕ, AllPairs, List};
 ghost use Rattle.tc_config.specs.Configurations.{Configuration, agent_names};
 ghost use Rattle.tc_verify.specs.Inputs.{IsParted};
 ghost use Rattle.tc_verify.specs.RunTexts.{IsTextOfRun};
-ghost use Rattle.tc_verify.specs.Verdicts.{IsVerdict};
+ghost use Rattle.tc_verify.specs.Verdicts.{IsAudit, IsVerdict};
 ghost use Rattle.tc_verify.specs.declared.verdicts.Verdict.{Verdict};
 
 /// A text is verified yes exactly where it is that of a run of the configuration, whatever was
@@ -15,10 +15,13 @@ pub fn yes_is_told_of_texts_of_runs()
         → IsVerdict c bytes Verdict.Yes }
 {}
 
-/// A text has one verdict, where agents' names differ.
+/// A text has one verdict as that of a run, and one as that of a service, where agents' names
+/// differ.
 pub fn a_text_has_one_verdict()
-    ensures { (c : Configuration) (bytes : List ℕ) (v w : Verdict) → AllPairs ◌≢◌ (agent_names c)
-        → IsVerdict c bytes v → IsVerdict c bytes w → v ≡ w }
+    ensures run { (c : Configuration) (bytes : List ℕ) (v w : Verdict)
+        → AllPairs ◌≢◌ (agent_names c) → IsVerdict c bytes v → IsVerdict c bytes w → v ≡ w }
+    ensures service { (c : Configuration) (bytes : List ℕ) (v w : Verdict)
+        → AllPairs ◌≢◌ (agent_names c) → IsAudit c bytes v → IsAudit c bytes w → v ≡ w }
 {}
 
 /// An input is parted in one way.

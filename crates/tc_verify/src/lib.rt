@@ -1,5 +1,5 @@
 //! Texts, judged: whether a text is that of a run of a configuration, whatever was chosen in it, or
-//! the first place at which it is not.
+//! that of a service of its agents, as far as it tells; or the first place at which it is not.
 //!
 //! Nothing is served here: what is recorded is followed, entry by entry and row by row.
 //!
@@ -18,7 +18,7 @@
 //! | File | Holds |
 //! |---|---|
 //! | judging | an input of a configuration and a text, judged |
-//! | verdicts | `Verdict`; `verify`, and `audit`, which judges histories alone |
+//! | verdicts | `Question` and `Verdict`; `verify`, of a run, and `audit`, of a service |
 //! | texts | the text of a configuration's centres and agents, read back |
 //! | centres, agents | histories, one centre after another; rows, one agent after another |
 //! | ends | whether some agent waits, by the rows |
@@ -37,14 +37,14 @@ mod printing;
 mod texts;
 mod verdicts;
 
-pub use agents::first_faulty_of;
+pub use agents::first_agent_of;
 pub use centres::first_bad_of;
 pub use inputs::parted;
-pub use judging::{Judgement, Question, judge};
+pub use judging::{Judgement, judge};
 pub use laws::{
     a_text_has_one_verdict, an_input_is_parted_in_one_way, yes_is_told_of_texts_of_runs,
 };
 pub use printing::verdict_text;
 pub use tc_lists::NoMemory;
 pub use texts::read_text_of;
-pub use verdicts::{Verdict, audit, verify};
+pub use verdicts::{Question, Verdict, audit, verdict_on, verify};

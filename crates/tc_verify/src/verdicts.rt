@@ -1,9 +1,10 @@
 //! Verdicts on texts.
 ghost use Rattle.std.specs.Prelude.{◌≡◌, IfOk};
-ghost use Rattle.tc_verify.specs.Verdicts.{IsAudit, IsVerdict};
+ghost use Rattle.tc_verify.specs.Texts.{IsOfKnown};
+ghost use Rattle.tc_verify.specs.Verdicts.{IsAudit, IsVerdict, IsVerdictOn};
 ghost use Rattle.tc_verify.specs.declared.verdicts.Verdict.{Verdict};
 
-use crate::agents::first_faulty_of;
+use crate::agents::first_agent_of;
 use crate::centres::first_bad_of;
 use crate::ends::any_waits;
 use crate::texts::read_text_of;
@@ -11,6 +12,15 @@ use std::alloc::Global;
 use tc_config::Config;
 use tc_histtext::TextFault;
 use tc_lists::NoMemory;
+
+/// What is asked of a text.
+#[derive(Clone, Copy, Debug, PartialEq, Eq)]
+pub enum Question {
+    /// Whether it is the text of a run of the configuration.
+    Run,
+    /// Whether it is the text of a service of the configuration's agents, as far as it tells.
+    Service,
+}
 
 /// What is found of a text: the first of these that is so. Places are counted from 0, lines,
 /// entries and rows from 1.
@@ -29,34 +39,43 @@ pub enum Verdict {
     NoEnd,
 }
 
-/// Whether the bytes are a text whose histories are those of runs of the configuration's centres,
-/// in which any choice was taken, or the first place at which they are not.
+/// Whether the bytes are the text of a run of the configuration: histories of runs of its centres to
+/// quiet states, in which any choice was taken, and the rows that the scripts of its agents have come
+/// to by them; or the first place at which they are not.
 ///
-/// The rows of its logs are read, and not judged. Takes time linear in the text, but for what the
-/// reactions that it tells take, and memory in proportion to it.
+/// Takes time linear in the text, but for what the reactions that it tells take, and memory in
+/// proportion to it.
+pub fn verify(alloc: Global, config: &Config, text: &[u8]) -> Result<Verdict, NoMemory>
+    ensures verdict { IfOk result (IsVerdict config.now text.now) }
+
+    // Each verdict comes exactly where it is due, but for want of memory.
+    ensures same { (v : Verdict) → IsVerdict config.now text.now v → IfOk result (λ w. w ≡ v) }
+{
+    verdict_on(alloc, Question::Run, config, text)
+}
+
+/// Whether the bytes are the text of a service of the configuration's agents, as far as a text tells
+/// it: histories as for `verify`, and rows that agree with them, of asks that grants permit.
 pub fn audit(alloc: Global, config: &Config, text: &[u8]) -> Result<Verdict, NoMemory>
     ensures verdict { IfOk result (IsAudit config.now text.now) }
 
     // Each verdict comes exactly where it is due, but for want of memory.
     ensures same { (v : Verdict) → IsAudit config.now text.now v → IfOk result (λ w. w ≡ v) }
 {
-    match read_text_of(alloc, config, text) {
-        Ok(told) => match first_bad_of(alloc, config, told.histories.items())? {
-            Some((centre, number)) => Ok(Verdict::NoEntry(centre, number)),
-            None => Ok(Verdict::Yes),
-        },
-        Err(TextFault::Line(line)) => Ok(Verdict::NoText(line)),
-        Err(TextFault::NoMemory) => Err(NoMemory),
-    }
+    verdict_on(alloc, Question::Service, config, text)
 }
 
-/// Whether the bytes are the text of a run of the configuration: histories as for `audit`, and the
-/// rows that the scripts of its agents have come to by them.
-pub fn verify(alloc: Global, config: &Config, text: &[u8]) -> Result<Verdict, NoMemory>
-    ensures verdict { IfOk result (IsVerdict config.now text.now) }
-
-    // Each verdict comes exactly where it is due, but for want of memory.
-    ensures same { (v : Verdict) → IsVerdict config.now text.now v → IfOk result (λ w. w ≡ v) }
+/// The verdict on the bytes, by what is asked of them.
+pub fn verdict_on(
+    alloc: Global,
+    question: Question,
+    config: &Config,
+    text: &[u8],
+) -> Result<Verdict, NoMemory>
+    ensures verdict { IfOk result (IsVerdictOn question config.now text.now) }
+    ensures same { (v : Verdict) → IsVerdictOn question config.now text.now v
+        → IfOk result (λ w. w ≡ v) }
+    ensures known { IfOk result (IsOfKnown config.now) }
 {
     let told = match read_text_of(alloc, config, text) {
         Ok(told) => told,
@@ -66,7 +85,7 @@ pub fn verify(alloc: Global, config: &Config, text: &[u8]) -> Result<Verdict, No
     if let Some((centre, number)) = first_bad_of(alloc, config, told.histories.items())? {
         return Ok(Verdict::NoEntry(centre, number));
     }
-    if let Some((agent, number)) = first_faulty_of(alloc, config, &told)? {
+    if let Some((agent, number)) = first_agent_of(alloc, question, config, &told)? {
         return Ok(Verdict::NoAgent(agent, number));
     }
     if told.blocked == any_waits(told.logs.items()) {

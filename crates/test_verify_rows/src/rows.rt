@@ -49,7 +49,7 @@ pub fn print_row(alloc: Global, row: &Row<'_>, into: &mut Vec<u8>) -> Result<(),
     into.extend_from_slice(b": ")?;
     print_verdict(alloc, Question::Run, &row.input, into)?;
     into.extend_from_slice(b"; its histories: ")?;
-    print_verdict(alloc, Question::Histories, &row.input, into)?;
+    print_verdict(alloc, Question::Service, &row.input, into)?;
     into.push(b'\n')?;
     Ok(())
 }

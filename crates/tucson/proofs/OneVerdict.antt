@@ -16,6 +16,7 @@ use Rattle.tc_config.specs.declared.forms.Form.{Form}
 use Rattle.tc_config.specs.declared.forms.Form.TheVariants.{Centre, Tuple, Spec, Role, Grant, Agent, Script}
 use Rattle.tc_config.proofs.Changed.{map-changed}
 use Rattle.tc_verify.specs.Verdicts.{IsVerdict}
+use Rattle.tc_verify.specs.declared.verdicts.Question.TheVariants.{Run}
 use Rattle.tc_verify.specs.declared.verdicts.Verdict.{Verdict}
 use Rattle.tc_verify.proofs.OneVerdict.{verdict-one}
 
@@ -58,4 +59,4 @@ spelt-differ spelt c spells =
 
 pub one_verdict : (spelt : List ℕ) (c : Configuration) (text : List ℕ) (v w : Verdict) → Spells spelt c
     → IsVerdict c text v → IsVerdict c text w → v ≡ w
-one_verdict spelt c text v w spells is other = verdict-one c text (spelt-differ spelt c spells) v w is other
+one_verdict spelt c text v w spells is other = verdict-one Run c text (spelt-differ spelt c spells) v w is other

@@ -65,7 +65,7 @@ fn is_asked(rt: &HostRuntime) -> bool {
 
 // The status and the line for an input.
 fn answer_to(alloc: Global, input: &[u8]) -> Result<(u8, Seq<u8>), NoMemory> {
-    match judge(alloc, Question::Histories, input)? {
+    match judge(alloc, Question::Service, input)? {
         Judgement::Judged(Verdict::Yes, line) => Ok((YES, line)),
         Judgement::Judged(_, line) => Ok((NO, line)),
         Judgement::Refused { clause, cause } => refusal(alloc, clause, cause),

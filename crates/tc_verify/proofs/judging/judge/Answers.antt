@@ -1,7 +1,7 @@
 use Rattle.std.proofs.Common.{sym, ap₂, subst, ◌∙◌}
 use Rattle.tc_config.specs.Answers.{IsConfigWant, IsThisRefusal}
 use Rattle.tc_config.specs.Texts.{IsRefused, Spells}
-use Rattle.tc_verify.specs.Judgements.{IsVerdictOn}
+use Rattle.tc_verify.specs.Verdicts.{IsVerdictOn}
 use Rattle.tc_verify.specs.declared.judging.Judgement.TheVariants.{Refused}
 use Rattle.tc_verify.proofs.OneParting.{parted-one}
 use Rattle.tc_verify.proofs.judging.judge.Goals as goal
