@@ -9,7 +9,7 @@ descriptors and threads are looked at, and drawn beside the replies so far: FILE
 
 At the end the text is looked through: each line is one of docs/FORMATS.md's, the replies of each session stand in its
 log in order, each served row has an entry in its centre's history, numbers of calls rise there for each agent, and what
-is pending is what waits. Its histories are judged by the program of `audit`, where that is built, or by PROGRAM. What
+is pending is what waits. It is judged by the program of `audit`, where that is built, or by PROGRAM. What
 isn't so is told, the text is kept, and the status is 1.
 """
 import argparse, asyncio, collections, os, random, re, signal, socket, struct, subprocess, sys, tempfile, time

@@ -1,11 +1,12 @@
-//! Reads a table of inputs of `verify`, and prints of each its verdict, and that on its histories
-//! alone.
+//! Reads a table of inputs of `verify` and `audit`, and prints of each its verdict as the text of a
+//! run, and that as the text of a service.
 //!
 //! A row is the line `== NAME`, and then the lines of the input: a configuration, a line `%%` and a
 //! text. What stands behind `%end ` is a last line without an end.
 //!
-//! What the table shows beyond what is proved: that the definitions of a run and of its text say
-//! what is meant, and that verdicts come where memory is ample. They were worked out by hand.
+//! What the table shows beyond what is proved: that the definitions of a run, of a service and of
+//! their texts say what is meant, and that verdicts come where memory is ample. They were worked out
+//! by hand.
 #![tactic(auto)]
 
 mod rows;

@@ -43,12 +43,12 @@ impl Row<'_> {
     }
 }
 
-/// Prints the verdict on the row's input, and that on its histories alone.
+/// Prints the verdict on the row's input as the text of a run, and that on it as one of a service.
 pub fn print_row(alloc: Global, row: &Row<'_>, into: &mut Vec<u8>) -> Result<(), NoMemory> {
     into.extend_from_slice(row.name)?;
     into.extend_from_slice(b": ")?;
     print_verdict(alloc, Question::Run, &row.input, into)?;
-    into.extend_from_slice(b"; its histories: ")?;
+    into.extend_from_slice(b"; of a service: ")?;
     print_verdict(alloc, Question::Service, &row.input, into)?;
     into.push(b'\n')?;
     Ok(())

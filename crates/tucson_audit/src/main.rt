@@ -1,5 +1,5 @@
-//! Whether the histories in a text on standard input are those of runs of the configuration before
-//! it; the rows of its logs are read, and not judged.
+//! Whether a text on standard input is that of a service of the configuration before it, as far as it
+//! tells, or the first place at which it isn't.
 //!
 //! Reads a configuration, a line `%%` and a text, as `verify` of the top call does. What they come
 //! to, `judge` of tc_verify says, whose clauses hold for every input; here it is read and written.
