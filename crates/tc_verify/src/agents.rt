@@ -72,8 +72,6 @@ fn first_at_fault(
 {
     match question {
         Question::Run => first_faulty(alloc, version, config, histories, index, agent, rows),
-        Question::Service => {
-            Ok(first_unserved(version, config, histories, index, agent, rows))
-        }
+        Question::Service => { Ok(first_unserved(version, config, histories, index, agent, rows)) }
     }
 }
