@@ -17,7 +17,9 @@ use Rattle.tc_config.specs.declared.configs.CentreConf.{CentreConf}
 use Rattle.tc_desk.specs.declared.rows.LogRow.{LogRow}
 use Rattle.tc_histline.specs.Lines.{HasLine}
 use Rattle.tc_histline.specs.declared.lines.TextRow.{TextRow}
+use Rattle.tc_histline.specs.declared.versions.Version.{Version}
 use Rattle.tc_histtext.specs.ReadTexts.{IsText, lines_of, text_of}
+use Rattle.tc_histtext.specs.Text.{run_text}
 use Rattle.tc_histtext.specs.declared.read_texts.Text.{Text}
 use Rattle.tc_rows.specs.Rows.{AreQuietRuns, AreSound, IsNoLookOf, told_row}
 use Rattle.tc_rows.proofs.Calls.{All-filter_at}
@@ -142,19 +144,26 @@ run-from_yes c bytes (t, sound, ends) =
           ∙ text_of-told t.version (centre_names c) (agent_names c) t.histories w.0);
     }
 
+-- what a text tells of histories and logs, one for each centre and agent, is read of the bytes that it is
+pub telling-text : (version : Version) (c : Configuration) (histories : List (List Entry)) (logs : List (List LogRow))
+    (bytes : List ℕ) → length histories ≡ length c.centres → length logs ≡ length c.agents
+    → All (HasLine version (agent_names c)) (lines_of (centre_names c) (agent_names c) (text_telling version histories logs))
+    → bytes ≡ run_text version (centre_names c) (agent_names c) histories logs
+    → IsText (centre_names c) (agent_names c) (text_telling version histories logs) bytes
+telling-text version c histories logs bytes whole each lines is = record {
+  histories = whole ∙ sym (length-map c.centres (λ (s : CentreConf). s.name));
+  logs = length-map logs (map (told_row version)) ∙ (each ∙ sym (length-map c.agents (λ (a : AgentConf). a.name)));
+  lines = lines;
+  is = is ∙ sym (text_of-told version (centre_names c) (agent_names c) histories logs);
+}
+
 module _ (c : Configuration) (bytes : List ℕ) (of : IsTextOfRun c bytes) where
   abbrev there : Text
   there = text_telling of.version of.histories of.logs
 
   told-text : IsText (centre_names c) (agent_names c) there bytes
-  told-text = record {
-    histories = of.good.going.runs.whole ∙ sym (length-map c.centres (λ (s : CentreConf). s.name));
-    logs =
-        length-map of.logs (map (told_row of.version))
-        ∙ (of.good.going.follow.whole ∙ sym (length-map c.agents (λ (a : AgentConf). a.name)));
-    lines = of.lines;
-    is = of.is ∙ sym (text_of-told of.version (centre_names c) (agent_names c) of.histories of.logs);
-  }
+  told-text =
+      telling-text of.version c of.histories of.logs bytes of.good.going.runs.whole of.good.going.follow.whole of.lines of.is
 
   told-runs : AreQuietRuns c of.histories
   told-runs = record {
