@@ -45,16 +45,14 @@ pub record IsTextOfRuns (c : Configuration) (bytes : List ℕ) (t : Text) : Type
 -- an agent's rows are as asked: sound as those of a run, or such as a service may leave
 abbrev pub AreRowsOf : Question → Version → Configuration → List (List Entry) → ℕ → AgentConf
     → List TextRow → Type 0
-AreRowsOf Run version c histories agent a rows = AreSound version c histories agent a rows
-AreRowsOf Service version c histories agent a rows = AreServedRows version c histories agent a rows
+AreRowsOf Run = AreSound
+AreRowsOf Service = AreServedRows
 
 -- of rows that are not, this is the first at fault
 abbrev pub IsFirstAtFault : Question → Version → Configuration → List (List Entry) → ℕ
     → AgentConf → List TextRow → ℕ → Type 0
-IsFirstAtFault Run version c histories agent a rows number =
-    IsFirstFaulty version c histories agent a rows number
-IsFirstAtFault Service version c histories agent a rows number =
-    IsFirstUnserved version c histories agent a rows number
+IsFirstAtFault Run = IsFirstFaulty
+IsFirstAtFault Service = IsFirstUnserved
 
 -- the rows of the agents before this place are as asked
 abbrev pub AreSoundBefore : Question → Configuration → Text → ℕ → Type 0

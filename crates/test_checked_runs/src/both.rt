@@ -10,7 +10,10 @@ pub enum Said {
     Right,
     /// By both, that it is wrong; and by the check, why.
     Wrong(&'static str),
-    /// By one of them, that it is right, and by the other, that it is wrong.
+    /// By the check, that it is wrong, and by `verify`, that it is right: the check allows the first
+    /// choices alone, and `verify` any.
+    OfOtherChoices,
+    /// By the check, that it is right, and by `verify`, that it is wrong.
     Apart,
 }
 
@@ -25,7 +28,8 @@ pub fn said_of(
     match (check(alloc, configuration, text, status), is_verified) {
         (Ok(()), true) => Ok(Said::Right),
         (Err(Fault::Wrong(why)), false) => Ok(Said::Wrong(why)),
-        (Ok(()), false) | (Err(Fault::Wrong(_)), true) => Ok(Said::Apart),
+        (Err(Fault::Wrong(_)), true) => Ok(Said::OfOtherChoices),
+        (Ok(()), false) => Ok(Said::Apart),
         (Err(fault), _) => Err(fault),
     }
 }

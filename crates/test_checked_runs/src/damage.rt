@@ -15,26 +15,45 @@ pub enum Damage {
     Letter,
 }
 
-/// How many texts come of this one that are damaged so, and how many of them both tell as wrong.
+/// How many texts come of one that are damaged in one way, how many of them the check tells as
+/// wrong, and how many it alone.
+#[derive(Clone, Copy, PartialEq, Eq, Debug)]
+pub struct Told {
+    pub made: u64,
+    pub wrong: u64,
+    pub by_check_alone: u64,
+}
+
+/// What is told of the texts that come of this one where it is damaged so.
 pub fn told(
     alloc: Global,
     configuration: &[u8],
     text: &[u8],
     status: u8,
     damage: Damage,
-) -> Result<(u64, u64), Fault> {
-    let mut made: u64 = 0;
-    let mut wrong: u64 = 0;
+) -> Result<Told, Fault> {
+    let mut told = Told {
+        made: 0,
+        wrong: 0,
+        by_check_alone: 0,
+    };
     for place in 0..text.len() {
         if let Some(damaged) = damaged(alloc, text, place, damage)? {
-            made = made.saturating_add(1);
-            let said = said_of(alloc, configuration, &damaged, status)?;
-            if matches!(said, Said::Wrong(_)) {
-                wrong = wrong.saturating_add(1);
-            }
+            count(said_of(alloc, configuration, &damaged, status)?, &mut told);
         }
     }
-    Ok((made, wrong))
+    Ok(told)
+}
+
+// Counts what is said of one more text.
+fn count(said: Said, told: &mut Told) {
+    told.made = told.made.saturating_add(1);
+    if matches!(said, Said::Wrong(_) | Said::OfOtherChoices) {
+        told.wrong = told.wrong.saturating_add(1);
+    }
+    if said == Said::OfOtherChoices {
+        told.by_check_alone = told.by_check_alone.saturating_add(1);
+    }
 }
 
 // The text, damaged at this place, if that is one for this damage.
