@@ -14,3 +14,5 @@ pub mod Counted
 pub mod OneReading
 pub mod RunLines
 pub mod Verified
+pub mod KnownRows
+pub mod Audited

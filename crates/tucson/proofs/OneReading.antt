@@ -62,7 +62,7 @@ pub one-run : (c : Configuration) (text : List ℕ) (waits others : Bool) → Is
 one-run c text waits others config a b =
     one-list c config a.histories b.histories a.logs b.logs text (run-lines c waits text a) (run-lines c others text b) a.is b.is
 
-service-lines : (c : Configuration) (waits : Bool) (text : List ℕ) (door after : DoorState) (all enough : Bool)
+pub service-lines : (c : Configuration) (waits : Bool) (text : List ℕ) (door after : DoorState) (all enough : Bool)
     (a : IsTextOf (IsServiceBy door after all enough c) (whole_text c) waits text)
     → HaveLines (centre_names c) (agent_names c) a.histories
 service-lines c waits text door after all enough a =

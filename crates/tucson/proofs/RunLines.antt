@@ -1,5 +1,5 @@
--- Each line of what a run writes may stand in a text.
-use Rattle.std.proofs.Common.{◌+◌, ℕ, Option, Some, None, IfSome, List, [], ◌∷◌, ◌++◌, All, map, slice_get, refl, arith}
+-- Each line of what is written may stand in a text.
+use Rattle.std.proofs.Common.{◌≡◌, ◌+◌, ℕ, Option, Some, None, IfSome, List, [], ◌∷◌, ◌++◌, All, map, slice_get, refl, subst, arith}
 use Rattle.std.specs.List.{flat_map}
 use Rattle.std.proofs.lemmas.List.Elements.{All-append, All-cons, All-head, All-map, All-nil, All-tail, All-weaker}
 use Rattle.std.proofs.lemmas.Option.{slice_get_within}
@@ -28,7 +28,7 @@ use Rattle.tc_desk.specs.declared.rows.LogResult.TheVariants.{Replied, Pending, 
 use Rattle.tc_desk.specs.declared.rows.LogRow.{LogRow}
 use Rattle.tc_desk.specs.declared.rows.Refusal.TheVariants as refusal
 use Rattle.tc_config.specs.Configurations.{Configuration, IsAgent, IsCentre, IsConfig, agent_names, centre_names}
-use Rattle.tc_config.specs.Good.{AllFollow, IsRow}
+use Rattle.tc_config.specs.Good.{AllFollow}
 use Rattle.tc_config.specs.declared.configs.AgentConf.{AgentConf}
 use Rattle.tc_config.specs.declared.configs.CentreConf.{CentreConf}
 use Rattle.tc_histline.specs.Lines.{HasLine, HasRowLine, IsResultIn}
@@ -81,21 +81,25 @@ told-in : (r : Option Reply) → IfSome r IsTypedReply → IsToldIn Two r
 told-in (Some r) typed = reply-in r typed
 told-in None typed = tt
 
--- a result that an ask may have come to tells of no want of memory
-result-in : (permits : Type 0) (origin : Origin) (history : List Entry) (id : CallId) (ask : Ask) (became : LogResult)
-    → IsResult permits origin history id ask became → IsTypedResult became → IsResultIn Two (told Two became)
-result-in permits origin history id ask (Replied r) is typed = reply-in r typed
-result-in permits origin history id ask Pending is typed = tt
-result-in permits origin history id ask (Polled r) is typed = told-in r typed
-result-in permits origin history id ask (Refused refusal.UnknownCentre) is typed = tt
-result-in permits origin history id ask (Refused refusal.Waiting) is typed = tt
-result-in permits origin history id ask (Refused refusal.Denied) is typed = tt
-result-in permits origin history id ask (Refused refusal.TooBig) is typed = tt
-result-in permits origin history id ask (Refused refusal.NotGround) is typed = tt
-result-in permits origin history id ask (Refused (refusal.BadSpec bad)) is typed = typed
-result-in permits origin history id ask (Refused refusal.TurnsSpent) is typed = tt
-result-in permits origin history id ask (Refused (refusal.Full weight pending)) is typed = typed
-result-in permits origin history id ask (Refused refusal.NoMemory) is typed = absurd is.1
+-- a result that is no want of memory has a line
+result-in : (became : LogResult) → (became ≡ Refused refusal.NoMemory → ⊥) → IsTypedResult became → IsResultIn Two (told Two became)
+result-in (Replied r) wants typed = reply-in r typed
+result-in Pending wants typed = tt
+result-in (Polled r) wants typed = told-in r typed
+result-in (Refused refusal.UnknownCentre) wants typed = tt
+result-in (Refused refusal.Waiting) wants typed = tt
+result-in (Refused refusal.Denied) wants typed = tt
+result-in (Refused refusal.TooBig) wants typed = tt
+result-in (Refused refusal.NotGround) wants typed = tt
+result-in (Refused (refusal.BadSpec bad)) wants typed = typed
+result-in (Refused refusal.TurnsSpent) wants typed = tt
+result-in (Refused (refusal.Full weight pending)) wants typed = typed
+result-in (Refused refusal.NoMemory) wants typed = absurd (wants refl)
+
+-- what an ask may have come to is none
+no-want : (permits : Type 0) (origin : Origin) (history : List Entry) (id : CallId) (ask : Ask) (became : LogResult)
+    → IsResult permits origin history id ask became → became ≡ Refused refusal.NoMemory → ⊥
+no-want permits origin history id ask became is wants = (subst (IsResult permits origin history id ask) wants is).1
 
 -- what is told of it in the second version is what it is
 typed-told : (became : LogResult) → IsTypedResult became → IsTypedResult (told Two became)
@@ -159,34 +163,44 @@ module _ (agents : List (List ℕ)) where
       (All-append Stands (map line.Row l) (logs_lines ns ls) (All-map Stands line.Row l (All-head (All (HasRowLine Two)) l ls has))
       (logs-stand ns ls (All-tail AreBytes n ns named) (All-tail (All (HasRowLine Two)) l ls has)))
 
-module _ (c : Configuration) (hs : List (List Entry)) (logs : List (List LogRow)) (typed : All (All IsTypedRow) logs) where
-  -- a row of a run has a line
-  row-stands : (agent : ℕ) (a : AgentConf) (log : List LogRow) (k : ℕ) (row : LogRow) → IsRow c hs agent a log k row → IsTypedRow row
-      → HasRowLine Two (told_row Two row)
-  row-stands agent a log k row is row_typed = record {
-    number = row_typed.number;
-    centre = row_typed.centre;
-    result = typed-told row.result row_typed.result;
-    written = result-in _ _ is.history (call_of agent (k + 1)) is.asked row.result is.result row_typed.result;
-  }
+-- no row tells of want of memory
+abbrev pub NoneWants : List (List LogRow) → Type 0
+NoneWants logs =
+    (agent k : ℕ) (log : List LogRow) (row : LogRow) → slice_get logs agent ≡ Some log → slice_get log k ≡ Some row
+    → row.result ≡ Refused refusal.NoMemory → ⊥
 
-  rows-stand : AllFollow c hs logs → All (All (HasRowLine Two)) (map (map (told_row Two)) logs)
-  rows-stand follow =
-      All-map (All (HasRowLine Two)) (map (told_row Two)) logs
-      (All-from_slice_get (λ (log : List LogRow). All (HasRowLine Two) (map (told_row Two) log)) logs
-      (λ agent log at.
-      let a = slice_get_inside c.agents agent (omega (arith, slice_get_within logs agent log at, follow.whole)) in
-      let follows = follow.each agent a.0 log a.1 at in
-      let rows = All-slice_get (All IsTypedRow) logs agent log typed at in
-      All-map (HasRowLine Two) (told_row Two) log
-      (All-from_slice_get (λ (row : LogRow). HasRowLine Two (told_row Two row)) log
-      (λ k row there. row-stands agent a.0 log k row (follows.rows k row there) (All-slice_get IsTypedRow log k row rows there)))))
+-- none of a run does
+pub run-wants : (c : Configuration) (hs : List (List Entry)) (logs : List (List LogRow)) → AllFollow c hs logs → NoneWants logs
+run-wants c hs logs follow agent k log row at there =
+    let a = slice_get_inside c.agents agent (omega (arith, slice_get_within logs agent log at, follow.whole)) in
+    let is = (follow.each agent a.0 log a.1 at).rows k row there in
+    no-want _ _ is.history (call_of agent (k + 1)) is.asked row.result is.result
 
--- each line of what histories and logs of a run say may stand in a text
+row-stands : (row : LogRow) → IsTypedRow row → (row.result ≡ Refused refusal.NoMemory → ⊥) → HasRowLine Two (told_row Two row)
+row-stands row typed wants = record {
+  number = typed.number;
+  centre = typed.centre;
+  result = typed-told row.result typed.result;
+  written = result-in row.result wants typed.result;
+}
+
+rows-stand : (logs : List (List LogRow)) → NoneWants logs → All (All IsTypedRow) logs
+    → All (All (HasRowLine Two)) (map (map (told_row Two)) logs)
+rows-stand logs wants typed =
+    All-map (All (HasRowLine Two)) (map (told_row Two)) logs
+    (All-from_slice_get (λ (log : List LogRow). All (HasRowLine Two) (map (told_row Two) log)) logs
+    (λ agent log at.
+    All-map (HasRowLine Two) (told_row Two) log
+    (All-from_slice_get (λ (row : LogRow). HasRowLine Two (told_row Two row)) log
+    (λ k row there.
+    row-stands row (All-slice_get IsTypedRow log k row (All-slice_get (All IsTypedRow) logs agent log typed at) there)
+    (wants agent k log row at there)))))
+
+-- each line of what histories and logs say may stand in a text
 pub lines-stand : (c : Configuration) (hs : List (List Entry)) (logs : List (List LogRow)) → IsConfig c
-    → HaveLines (centre_names c) (agent_names c) hs → AllFollow c hs logs → All (All IsTypedRow) logs
+    → HaveLines (centre_names c) (agent_names c) hs → NoneWants logs → All (All IsTypedRow) logs
     → All (HasLine Two (agent_names c)) (lines_of (centre_names c) (agent_names c) (text_telling Two hs logs))
-lines-stand c hs logs config have follow typed =
+lines-stand c hs logs config have wants typed =
     let P = HasLine Two (agent_names c) in
     let t = text_telling Two hs logs in
     let centres : All AreBytes (centre_names c) =
@@ -194,7 +208,7 @@ lines-stand c hs logs config have follow typed =
     let agents : All AreBytes (agent_names c) =
     All-map AreBytes (λ (a : AgentConf). a.name) c.agents (All-weaker (IsAgent c) (λ (a : AgentConf). AreBytes a.name) (λ a is. is.name.bytes) c.agents config.agents) in
     let histories = histories-stand (agent_names c) (centre_names c) hs centres have.lines in
-    let rows = logs-stand (agent_names c) (agent_names c) t.logs agents (rows-stand c hs logs typed follow) in
+    let rows = logs-stand (agent_names c) (agent_names c) t.logs agents (rows-stand logs wants typed) in
     let end = All-cons P (line.End t.blocked) [] tt (All-nil P) in
     All-cons P (line.First Two) _ tt
     (All-append P (histories_lines (centre_names c) hs) _ histories

@@ -12,7 +12,7 @@ use Rattle.tc_verify.proofs.RunTexts.{yes-from_run}
 use Rattle.tucson.specs.Answer.{IsTextOf}
 use Rattle.tucson.specs.Texts.{whole_text}
 use Rattle.tucson.proofs.OneReading.{run-lines}
-use Rattle.tucson.proofs.RunLines.{lines-stand}
+use Rattle.tucson.proofs.RunLines.{lines-stand, run-wants}
 
 -- it is the text of a run
 text-of_run : (c : Configuration) (waits : Bool) (text : List ℕ) → IsConfig c → IsTextOf (IsGood TheFirst c) (whole_text c) waits text
@@ -22,7 +22,9 @@ text-of_run c waits text config a = record {
   histories = a.histories;
   logs = a.logs;
   good = good-first c a.histories a.logs a.are;
-  lines = lines-stand c a.histories a.logs config (run-lines c waits text a) a.are.going.follow a.typed_logs;
+  lines =
+      lines-stand c a.histories a.logs config (run-lines c waits text a) (run-wants c a.histories a.logs a.are.going.follow)
+      a.typed_logs;
   is = a.is;
 }
 

@@ -3,7 +3,7 @@ ghost use Rattle.std.specs.Prelude.{◌≡◌, ◌-◌, ◌^◌, ℕ, Bool, List
 ghost use Rattle.tc_config.specs.Configurations.{Configuration, IsConfig};
 ghost use Rattle.tc_config.specs.Good.{IsGood};
 ghost use Rattle.tc_model.specs.Choices.{TheFirst};
-ghost use Rattle.tc_verify.specs.Verdicts.{IsVerdict};
+ghost use Rattle.tc_verify.specs.Verdicts.{IsAudit, IsVerdict};
 ghost use Rattle.tc_verify.specs.declared.verdicts.Verdict.{Verdict};
 ghost use Rattle.tc_visits.specs.Service.{DoorState, IsServiceBy};
 ghost use Rattle.tucson.specs.Answer.{IsTextOf};
@@ -39,4 +39,12 @@ pub fn a_text_tells_its_histories()
 pub fn what_run_writes_is_verified_yes()
     ensures { (c : Configuration) (waits : Bool) (text : List ℕ) → IsConfig c
         → IsTextOf (IsGood TheFirst c) (whole_text c) waits text → IsVerdict c text Verdict.Yes }
+{}
+
+/// What `serve` writes is audited yes.
+pub fn what_serve_writes_is_audited_yes()
+    ensures { (door after : DoorState) (all enough : Bool) (c : Configuration) (waits : Bool)
+        (text : List ℕ) → IsConfig c
+        → IsTextOf (IsServiceBy door after all enough c) (whole_text c) waits text
+        → IsAudit c text Verdict.Yes }
 {}

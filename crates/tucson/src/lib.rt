@@ -30,7 +30,10 @@ mod verifying;
 mod writing;
 
 pub use command::{Command, command_of};
-pub use laws::{a_text_tells_its_histories, limits_are_these, what_run_writes_is_verified_yes};
+pub use laws::{
+    a_text_tells_its_histories, limits_are_these, what_run_writes_is_verified_yes,
+    what_serve_writes_is_audited_yes,
+};
 pub use limits::{MOST_AGENTS, MOST_INPUT, MOST_PORT, MOST_START, MOST_WORKERS, USUAL_WORKERS};
 pub use loading::load_main;
 pub use running::run_main;
