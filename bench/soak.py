@@ -3,7 +3,8 @@
 
     soak.py MINUTES AGENTS [PROGRAM] [--seed N] [--picture FILE] [--judge PROGRAM]
 
-The first agent supplies tuples, so that who waits gets one, and is the last to go. A third of the others are there from
+The first agent takes and puts tuples at one centre after another, so that who waits for one, or until none is left, is
+served, and is the last to go. A third of the others are there from
 the beginning, the rest come while time passes; a third stay to the end. Once a second the program's resident memory,
 descriptors and threads are looked at, and drawn beside the replies so far: FILE, or soak.svg.
 
@@ -257,12 +258,10 @@ async def serve_all_at(host, centre, name):
 
 
 async def supply(host, until, server):
-    """Puts tuples and takes others until this time, and then serves who waits until no other session is left."""
+    """Serves who waits, at one centre after another, until this time, and then until no other session is left."""
     while time.monotonic() < until:
-        centre, template = host.draw.choice(CENTRES), f'{host.draw.choice("pq")}({host.draw.choice(KEYS)})'
-        await host.sends([f'{centre} ? {host.draw.choice(("out", "out", "inp"))}({template})'])
-        await host.reads()
-        await asyncio.sleep(0.02)
+        await serve_all_at(host, host.draw.choice(CENTRES), host.draw.choice('pq'))
+        await asyncio.sleep(0.2)
     while server.seen()[1] > server.descriptors + 1:
         await serve_all_at(host, host.draw.choice(CENTRES), host.draw.choice('pq'))
         await asyncio.sleep(0.001)
