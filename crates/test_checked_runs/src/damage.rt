@@ -25,7 +25,7 @@ pub struct Told {
 }
 
 /// What is told of the texts that come of this one where it is damaged so.
-pub fn told(
+pub fn told_of(
     alloc: Global,
     configuration: &[u8],
     text: &[u8],

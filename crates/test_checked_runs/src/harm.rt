@@ -1,6 +1,6 @@
 //! What is damaged, and a line on whether the check and `verify` tell it.
 use crate::both::said_of;
-use crate::damage::{Damage, Told, replaced, told};
+use crate::damage::{Damage, Told, replaced, told_of};
 use crate::lines::{append_said, append_verdict};
 use crate::running::run;
 use std::alloc::Global;
@@ -167,7 +167,7 @@ fn report_all_damage<R: Threads + Wait + Sync>(
         (b"a letter is another", Damage::Letter),
     ];
     for (name, damage) in rows {
-        let told = told(alloc, &configuration, &ran.text, ran.status, damage)?;
+        let told = told_of(alloc, &configuration, &ran.text, ran.status, damage)?;
         append_all(&[what, b" wherever ", name, b": "], into)?;
         append_told(told, into)?;
     }
