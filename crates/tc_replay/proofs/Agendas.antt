@@ -1,25 +1,23 @@
--- Places of an agenda, in its batches.
-use Rattle.std.proofs.Common.{◌≡◌, ℕ, zero, suc, ◌+◌, ◌-◌, ◌≤◌, ◌<◌, List, [], ◌∷◌, ◌++◌, length, take, drop, set, get_or, Bool, IsTrue, Option, Some, None, IfSome, IfNone, is_some, ◌↔◌, refl, sym, ap, ap₂, subst, ◌∙◌, arith, append_assoc, append-nil, length-append}
-use Rattle.std.specs.List.{slice_get}
+-- Places of an agenda, in its parts.
+use Rattle.std.proofs.Common.{◌≡◌, ℕ, zero, suc, ◌+◌, ◌-◌, ◌≤◌, ◌<◌, List, [], ◌∷◌, ◌++◌, length, take, drop, set, get_or, Bool, IsTrue, Option, Some, None, IfSome, IfNone, is_some, ◌↔◌, refl, sym, ap, ap₂, subst, ◌∙◌, arith, append_assoc, append-nil, length-append, length-take, length-drop}
+use Rattle.std.specs.List.{slice_get, flat_map}
 use Rattle.std.proofs.Math.Seq.{drop-append_seam}
-use Rattle.std.proofs.lemmas.List.{map-append, set_split, get_or_append_left, get_or-append-add, take-append-le, drop-append-le, drop-drop, take_all, length-map, get_or-map, take-map, drop-map, get_or_default, nil_from_length}
-use Rattle.std.proofs.lemmas.Option.{slice_get_within, slice_get_read, get_or_from_slice_get, none-some}
+use Rattle.std.proofs.lemmas.List.{map-append, set_split, take-append-le, drop-append-le, drop-drop, drop_all, length-map, get_or-map, take-map, drop-map, nil_from_length}
+use Rattle.std.proofs.lemmas.Option.{slice_get_within, slice_get_read, get_or_from_slice_get}
 use Rattle.std.proofs.lemmas.Bool.{true≢false}
-use Rattle.std.proofs.lemmas.Grind.{flat_map-append}
+use Rattle.std.proofs.lemmas.List.Concat.{flat_map-append, get_or-flat_map}
+use Rattle.std.proofs.lemmas.List.Folds.{length-flat_map-take}
 use mathlib.Core.Bool.{not}
-use Rattle.tc_lists.proofs.Parts.{split_read, take_read}
+use Rattle.tc_lists.proofs.Parts.{split_read}
 use Rattle.tc_model.specs.Events.{Occurrence}
 use Rattle.tc_model.specs.Triggers.{Member, members}
 use Rattle.tc_model.specs.Cascades.{without}
-use Rattle.tc_replay.specs.declared.agenda.Batch.{Batch}
+use Rattle.tc_replay.specs.declared.group.Batch.{Batch}
 use Rattle.tc_replay.proofs.Told.{not_false, not_true}
-use Rattle.tc_replay.specs.Agendas.{LiesAt, members_of, members_in}
+use Rattle.tc_replay.specs.Agendas.{LiesAt, members_of}
 
--- the middle one of three lists, read and shortened at a place
+-- the middle one of three lists, shortened at a place
 module _ {X : Type 0} where
-  get_or-middle : (fs bs cs : List X) (k : ℕ) (d : X) → k < length bs → get_or (fs ++ (bs ++ cs)) (length fs + k) d ≡ get_or bs k d
-  get_or-middle fs bs cs k d inside = get_or-append-add fs (bs ++ cs) k d ∙ get_or_append_left bs cs d k inside
-
   take_behind : (fs bs : List X) (k n : ℕ) → n ≡ length fs + k → take n (fs ++ bs) ≡ fs ++ take k bs
   take_behind [] bs k n is = ap (λ m. take m bs) (let e : n ≡ k = omega (arith, is) in e)
   take_behind (f ∷ fs) bs k zero is = absurd (omega (arith, is))
@@ -39,23 +37,21 @@ module _ {X : Type 0} where
       ∙ (append_assoc fs (take k bs) (drop (k + 1) bs ++ cs)
       ∙ ap (λ xs. fs ++ xs) (sym (append_assoc (take k bs) (drop (k + 1) bs) cs)))
 
--- the members of the batches round one
-around : (bs : List Batch) (at : ℕ) (b : Batch) → at < length bs → b ≡ get_or bs at b
-    → members_in bs ≡ members_in (take at bs) ++ (members_of b ++ members_in (drop (at + 1) bs))
-around bs at b inside is =
-    ap members_in (split_read bs at b inside is) ∙ flat_map-append members_of (take at bs) (b ∷ drop (at + 1) bs)
+-- a list has one element less without one of them
+without-length : {X : Type 0} (xs : List X) (k : ℕ) → k < length xs → length (without k xs) + 1 ≡ length xs
+without-length xs k inside =
+    omega (arith, inside, length-append (take k xs) (drop (k + 1) xs), length-take k xs, length-drop (k + 1) xs)
 
-around_set : (bs : List Batch) (at : ℕ) (c : Batch) → at < length bs
-    → members_in (set bs at c) ≡ members_in (take at bs) ++ (members_of c ++ members_in (drop (at + 1) bs))
-around_set bs at c inside =
-    let next : suc at ≡ at + 1 = omega arith in
-    ap members_in (set_split bs at c inside ∙ ap (λ n. take at bs ++ c ∷ drop n bs) next)
-    ∙ flat_map-append members_of (take at bs) (c ∷ drop (at + 1) bs)
+-- the member of a batch at a place, and the members without one
+pub batch-member : (b : Batch) (k n : ℕ) → k < length b.numbers.items → n ≡ get_or b.numbers.items k n
+    → slice_get (members_of b) k ≡ Some (record { clause = n; event = b.event })
+batch-member b k n inside read =
+    let m : Member = record { clause = n; event = b.event } in
+    let as_member : ℕ → Member = λ number. record { clause = number; event = b.event } in
+    slice_get_read (members_of b) (length (members_of b)) k m refl
+    (omega (arith, inside, length-map b.numbers.items as_member))
+    (ap as_member read ∙ sym (get_or-map as_member b.numbers.items k n m inside))
 
-members-length : (b : Batch) → length (members_of b) ≡ length b.numbers.items
-members-length b = length-map b.numbers.items (λ (n : ℕ). record { clause = n; event = b.event })
-
--- the members without one
 members-without : (e : Occurrence) (numbers : List ℕ) (k : ℕ) → members e (without k numbers) ≡ without k (members e numbers)
 members-without e numbers k =
     map-append (λ (n : ℕ). record { clause = n; event = e }) (take k numbers) (drop (k + 1) numbers)
@@ -63,76 +59,95 @@ members-without e numbers k =
     (sym (take-map (λ (n : ℕ). record { clause = n; event = e }) k numbers))
     (sym (drop-map (λ (n : ℕ). record { clause = n; event = e }) (k + 1) numbers))
 
-module _ (bs : List Batch) (place at offset : ℕ) (lies : LiesAt bs place at offset) where
-  pub lies-within : at < length bs
-  lies-within = slice_get_within bs at lies.batch lies.stands
+module _ {X : Type 0} (f : X → List Member) where
+  -- the members of the parts round one
+  around : (xs : List X) (at : ℕ) (x : X) → at < length xs → x ≡ get_or xs at x
+      → flat_map f xs ≡ flat_map f (take at xs) ++ (f x ++ flat_map f (drop (at + 1) xs))
+  around xs at x inside is =
+      ap (flat_map f) (split_read xs at x inside is) ∙ flat_map-append f (take at xs) (x ∷ drop (at + 1) xs)
 
-  lies-is : (b : Batch) → b ≡ get_or bs at b → b ≡ lies.batch
-  lies-is b is = is ∙ get_or_from_slice_get bs at lies.batch b lies.stands
+  around_set : (xs : List X) (at : ℕ) (y : X) → at < length xs
+      → flat_map f (set xs at y) ≡ flat_map f (take at xs) ++ (f y ++ flat_map f (drop (at + 1) xs))
+  around_set xs at y inside =
+      let next : suc at ≡ at + 1 = omega arith in
+      ap (flat_map f) (set_split xs at y inside ∙ ap (λ n. take at xs ++ y ∷ drop n xs) next)
+      ∙ flat_map-append f (take at xs) (y ∷ drop (at + 1) xs)
 
-  pub lies-inside : (b : Batch) → b ≡ get_or bs at b → offset < length b.numbers.items
-  lies-inside b is = subst (λ (c : Batch). offset < length c.numbers.items) (sym (lies-is b is)) lies.inside
+  -- the last part, with more members at its end
+  pub set_last-more : (xs : List X) (at : ℕ) (x y : X) (more : List Member) → at + 1 ≡ length xs → x ≡ get_or xs at x
+      → f y ≡ f x ++ more → flat_map f (set xs at y) ≡ flat_map f xs ++ more
+  set_last-more xs at x y more last is grown =
+      let inside : at < length xs = omega (arith, last) in
+      let none : flat_map f (drop (at + 1) xs) ≡ [] = ap (flat_map f) (drop_all (at + 1) xs (omega (arith, last))) in
+      around_set xs at y inside
+      ∙ (ap₂ (λ ys zs. flat_map f (take at xs) ++ (ys ++ zs)) grown none
+      ∙ (ap (λ ys. flat_map f (take at xs) ++ ys) (append-nil (f x ++ more))
+      ∙ (sym (append_assoc (flat_map f (take at xs)) (f x) more)
+      ∙ ap (λ ys. ys ++ more) (sym (around xs at x inside is ∙ ap (λ ys. flat_map f (take at xs) ++ ys) (ap (λ zs. f x ++ zs) none ∙ append-nil (f x)))))))
 
-  -- the member at the place
-  pub lies-member : (b : Batch) (n : ℕ) → b ≡ get_or bs at b → n ≡ get_or b.numbers.items offset n
-      → slice_get (members_in bs) place ≡ Some (record { clause = n; event = b.event })
-  lies-member b n is read =
-      let inside = lies-inside b is in
-      let long = members-length b in
-      let m : Member = record { clause = n; event = b.event } in
-      let split = around bs at b lies-within is in
-      let here : m ≡ get_or (members_in bs) place m =
-      ap (λ k. record { clause = k; event = b.event }) read
-      ∙ (sym (get_or-map (λ (k : ℕ). record { clause = k; event = b.event }) b.numbers.items offset n m inside)
-      ∙ (sym (get_or-middle (members_in (take at bs)) (members_of b) (members_in (drop (at + 1) bs)) offset m (omega (arith, inside, long)))
-      ∙ ap₂ (λ xs k. get_or xs k m) (sym split) (sym lies.counted))) in
-      let all : length (members_in bs) ≡ length (members_in (take at bs)) + (length (members_of b) + length (members_in (drop (at + 1) bs))) =
-      ap length split ∙ (length-append (members_in (take at bs)) (members_of b ++ members_in (drop (at + 1) bs))
-      ∙ ap (λ k. length (members_in (take at bs)) + k) (length-append (members_of b) (members_in (drop (at + 1) bs)))) in
-      slice_get_read (members_in bs) (length (members_in bs)) place m refl (omega (arith, all, inside, long, lies.counted)) here
+  module _ (xs : List X) (place at offset : ℕ) (lies : LiesAt f xs place at offset) where
+    lies-within : at < length xs
+    lies-within = slice_get_within xs at lies.part lies.stands
 
-  -- all members but the one at the place
-  pub lies-without : (b c : Batch) (new : List Batch) → b ≡ get_or bs at b → c.event ≡ b.event
-      → c.numbers.items ≡ without offset b.numbers.items → new ≡ set bs at c → members_in new ≡ without place (members_in bs)
-  lies-without b c new is event numbers written =
-      let inside = lies-inside b is in
-      let long = members-length b in
-      let shorter : members_of c ≡ without offset (members_of b) =
-      ap₂ members event numbers ∙ members-without b.event b.numbers.items offset in
-      ap members_in written
-      ∙ (around_set bs at c lies-within
-      ∙ (ap (λ ms. members_in (take at bs) ++ (ms ++ members_in (drop (at + 1) bs))) shorter
-      ∙ (sym (without-middle (members_in (take at bs)) (members_of b) (members_in (drop (at + 1) bs)) offset (omega (arith, inside, long)))
-      ∙ ap₂ without (sym lies.counted) (sym (around bs at b lies-within is)))))
+    lies-is : (x : X) → x ≡ get_or xs at x → x ≡ lies.part
+    lies-is x is = is ∙ get_or_from_slice_get xs at lies.part x lies.stands
 
--- no place lies in a batch where there is no member
-pub none-lies : (bs : List Batch) (found : Option (ℕ × ℕ)) (b : Bool) → IfSome found (λ p. LiesAt bs 0 p.0 p.1)
-    → IfNone found (length (members_in bs) ≤ 0) → is_some found ≡ not b → (IsTrue b ↔ (members_in bs ≡ []))
-none-lies bs None b some none is =
-    (λ _. nil_from_length (members_in bs) (omega (arith, none)), λ _. not_false b (sym is))
-none-lies bs (Some p) b some none is =
-    let first = get_or some.batch.numbers.items p.1 0 in
-    let there = lies-member bs 0 p.0 p.1 some some.batch first
-    (sym (get_or_from_slice_get bs p.0 some.batch some.batch some.stands))
-    (get_or_default some.batch.numbers.items p.1 0 first some.inside) in (
-      λ yes. absurd (true≢false (sym yes ∙ not_true b (sym is))),
-      λ nil. absurd (none-some (record { clause = first; event = some.batch.event })
-          (sym (ap (λ (ms : List Member). slice_get ms 0) nil) ∙ there)),
-    )
+    pub lies-inside : (x : X) → x ≡ get_or xs at x → offset < length (f x)
+    lies-inside x is = subst (λ (y : X). offset < length (f y)) (sym (lies-is x is)) lies.inside
 
--- the members of one batch more
-pub members_in-more : (bs : List Batch) (at left count : ℕ) (b : Batch) (place : ℕ) → at < length bs → b ≡ get_or bs at b
-    → count ≡ length b.numbers.items → count ≤ left → place ≡ length (members_in (take at bs)) + left
-    → place ≡ length (members_in (take (at + 1) bs)) + (left - count)
-members_in-more bs at left count b place inside is long few counted =
-    let more : length (members_in (take (at + 1) bs)) ≡ length (members_in (take at bs)) + length (members_of b) =
-    ap (λ cs. length (members_in cs)) (take_read bs at b inside is)
-    ∙ (ap length (flat_map-append members_of (take at bs) (b ∷ []) ∙ ap (λ ms. members_in (take at bs) ++ ms) (append-nil (members_of b)))
-    ∙ length-append (members_in (take at bs)) (members_of b)) in
-    omega (arith, more, members-length b, long, few, counted)
+    -- a place that lies in a part is one of the members
+    pub lies-below : place < length (flat_map f xs)
+    lies-below =
+        let part : get_or xs at lies.part ≡ lies.part = get_or_from_slice_get xs at lies.part lies.part lies.stands in
+        let most = length-flat_map-take f xs at lies.part lies-within in
+        omega (arith, most, ap (λ y. length (f y)) part, lies.inside, lies.counted)
 
-pub members_in-past : (bs : List Batch) (at left place : ℕ) → length bs ≤ at → place ≡ length (members_in (take at bs)) + left
-    → length (members_in bs) ≤ place
-members_in-past bs at left place past counted =
-    let all : length (members_in (take at bs)) ≡ length (members_in bs) = ap (λ cs. length (members_in cs)) (take_all at bs past) in
-    omega (arith, all, counted)
+    -- the member at the place
+    pub lies-member : (x : X) (m : Member) → x ≡ get_or xs at x → slice_get (f x) offset ≡ Some m → slice_get (flat_map f xs) place ≡ Some m
+    lies-member x m is read =
+        let here : m ≡ get_or (flat_map f xs) place m =
+        sym (ap (λ k. get_or (flat_map f xs) k m) lies.counted
+        ∙ (get_or-flat_map f xs at offset x m lies-within (subst (λ (y : X). offset < length (f y)) is (lies-inside x is))
+        ∙ (ap (λ y. get_or (f y) offset m) (sym is) ∙ get_or_from_slice_get (f x) offset m m read))) in
+        slice_get_read (flat_map f xs) (length (flat_map f xs)) place m refl lies-below here
+
+    -- all members but the one at the place
+    pub lies-without : (x y : X) (new : List X) → x ≡ get_or xs at x → f y ≡ without offset (f x) → new ≡ set xs at y
+        → flat_map f new ≡ without place (flat_map f xs)
+    lies-without x y new is shorter written =
+        ap (flat_map f) written
+        ∙ (around_set xs at y lies-within
+        ∙ (ap (λ ms. flat_map f (take at xs) ++ (ms ++ flat_map f (drop (at + 1) xs))) shorter
+        ∙ (sym (without-middle (flat_map f (take at xs)) (f x) (flat_map f (drop (at + 1) xs)) offset (lies-inside x is))
+        ∙ ap₂ without (sym lies.counted) (sym (around xs at x lies-within is)))))
+
+    -- one member less, once the one at the place is gone
+    pub lies-fewer : (new : List X) (count : ℕ) → count ≡ length (flat_map f xs) → flat_map f new ≡ without place (flat_map f xs)
+        → count - 1 ≡ length (flat_map f new)
+    lies-fewer new count counts removed =
+        omega (arith, counts, ap length removed, without-length (flat_map f xs) place lies-below)
+
+  -- no place lies in a part where there is no member
+  pub none-lies : (xs : List X) (found : Option (ℕ × ℕ)) (b : Bool) → IfSome found (λ p. LiesAt f xs 0 p.0 p.1)
+      → IfNone found (length (flat_map f xs) ≤ 0) → is_some found ≡ not b → (IsTrue b ↔ (flat_map f xs ≡ []))
+  none-lies xs None b some none is =
+      (λ _. nil_from_length (flat_map f xs) (omega (arith, none)), λ _. not_false b (sym is))
+  none-lies xs (Some p) b some none is = (
+    λ yes. absurd (true≢false (sym yes ∙ not_true b (sym is))),
+    λ nil. absurd (omega (arith, lies-below xs 0 p.0 p.1 some, ap length nil)),
+  )
+
+-- the number of a batch that a place lies at
+pub lies-number : (bs : List Batch) (place at offset : ℕ) → LiesAt members_of bs place at offset → (b : Batch)
+    → b ≡ get_or bs at b → offset < length b.numbers.items
+lies-number bs place at offset lies b is =
+    let as_member : ℕ → Member = λ number. record { clause = number; event = b.event } in
+    omega (arith, lies-inside members_of bs place at offset lies b is, length-map b.numbers.items as_member)
+
+-- all members but the one at the place, once its number is gone from its batch
+pub lies-without-number : (bs : List Batch) (place at offset : ℕ) (lies : LiesAt members_of bs place at offset) (b c : Batch) (new : List Batch)
+    → b ≡ get_or bs at b → c.event ≡ b.event → c.numbers.items ≡ without offset b.numbers.items → new ≡ set bs at c
+    → flat_map members_of new ≡ without place (flat_map members_of bs)
+lies-without-number bs place at offset lies b c new is event numbers written =
+    lies-without members_of bs place at offset lies b c new is
+    (ap₂ members event numbers ∙ members-without b.event b.numbers.items offset) written

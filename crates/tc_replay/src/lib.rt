@@ -28,6 +28,8 @@
 //! | cascade | whether a cascade has these items and ends so |
 //! | trying | one item: the triggered reaction that it tells, tried; and what an event triggers |
 //! | agenda | the triggered reactions that are left |
+//! | group | batches of these, which share their event, and how many are left of them |
+//! | parts | which of some batches, or groups, a place lies in |
 //! | body | whether a body may have fired with these effects, or failed at this goal |
 //! | leading | goals, one after another |
 //! | goal | one goal, by the effect that is recorded next; and whether a goal can do nothing |
@@ -41,9 +43,11 @@ mod body;
 mod cascade;
 mod demands;
 mod goal;
+mod group;
 mod laws;
 mod leading;
 mod meeting;
+mod parts;
 mod serving;
 mod trying;
 

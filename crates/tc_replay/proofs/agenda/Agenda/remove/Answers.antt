@@ -1,4 +1,5 @@
 use Rattle.std.proofs.Common.{◌≡◌, List, set, refl, subst, ◌∙◌}
+use Rattle.std.specs.List.{flat_map}
 use Rattle.tc_model.specs.Triggers.{Member}
 use Rattle.tc_model.specs.Cascades.{without}
 use Rattle.tc_replay.proofs.Agendas.{lies-without}
@@ -6,10 +7,10 @@ use Rattle.tc_replay.proofs.agenda.Agenda.remove.Goals as goal
 
 pub returns : goal.returns
 returns c =
-    let b = c.index_mut.result.now in
-    let after = record b { numbers = c.remove-number.new.self } in
-    let bs = c.self.inside.batches.items in
-    subst (λ (ms : List Member). c.drop_spent.new.self ≡ without c.args.place ms) c.self.view_is
+    let same : List Member → List Member = λ ms. ms in
+    let groups = c.self.inside.groups.items in
+    let after = c.remove.new.self in
+    subst (λ (ms : List Member). flat_map same c.drop_spent.new.parts.items ≡ without c.args.place ms) c.self.view_is
     (c.drop_spent.ensures
-    ∙ lies-without bs c.args.place c.in-Some.at c.in-Some.offset c.in-Some.ensures.some b after (set bs c.in-Some.at after)
-    c.index_mut.ensures.value refl c.remove-number.ensures.by_index.2 refl)
+    ∙ lies-without same groups c.args.place c.in-Some.at c.in-Some.offset c.in-Some.ensures.some c.index_mut.result.now after
+    (set groups c.in-Some.at after) c.index_mut.ensures.value c.remove.ensures refl)
