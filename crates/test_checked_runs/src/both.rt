@@ -10,10 +10,7 @@ pub enum Said {
     Right,
     /// By both, that it is wrong; and by the check, why.
     Wrong(&'static str),
-    /// By the check, that it is wrong, and by `verify`, that it is right: the check allows the first
-    /// choices alone, and `verify` any.
-    OfOtherChoices,
-    /// By the check, that it is right, and by `verify`, that it is wrong.
+    /// By one of them, that it is right, and by the other, that it is wrong.
     Apart,
 }
 
@@ -28,8 +25,7 @@ pub fn said_of(
     match (check(alloc, configuration, text, status), is_verified) {
         (Ok(()), true) => Ok(Said::Right),
         (Err(Fault::Wrong(why)), false) => Ok(Said::Wrong(why)),
-        (Err(Fault::Wrong(_)), true) => Ok(Said::OfOtherChoices),
-        (Ok(()), false) => Ok(Said::Apart),
+        (Ok(()), false) | (Err(Fault::Wrong(_)), true) => Ok(Said::Apart),
         (Err(fault), _) => Err(fault),
     }
 }

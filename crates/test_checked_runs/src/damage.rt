@@ -2,7 +2,7 @@
 use crate::both::{Said, said_of};
 use std::alloc::Global;
 use tc_lists::NoMemory;
-use test_run_check::Fault;
+use test_run_check::{Fault, check};
 
 /// How a text is damaged.
 #[derive(Clone, Copy, PartialEq, Eq, Debug)]
@@ -15,44 +15,45 @@ pub enum Damage {
     Letter,
 }
 
-/// How many texts come of one that are damaged in one way, how many of them the check tells as
-/// wrong, and how many it alone.
-#[derive(Clone, Copy, PartialEq, Eq, Debug)]
-pub struct Told {
-    pub made: u64,
-    pub wrong: u64,
-    pub by_check_alone: u64,
-}
-
-/// What is told of the texts that come of this one where it is damaged so.
-pub fn told_of(
+/// How many texts come of this one that are damaged so, and how many of them are told as wrong: by
+/// the check and by `verify`, where a line is left out or stands twice. Other letters, which are
+/// thousands, are left to the check, which allows the first choices alone, and not any as `verify`.
+pub fn told(
     alloc: Global,
     configuration: &[u8],
     text: &[u8],
     status: u8,
     damage: Damage,
-) -> Result<Told, Fault> {
-    let mut told = Told {
-        made: 0,
-        wrong: 0,
-        by_check_alone: 0,
-    };
+) -> Result<(u64, u64), Fault> {
+    let mut made: u64 = 0;
+    let mut wrong: u64 = 0;
     for place in 0..text.len() {
         if let Some(damaged) = damaged(alloc, text, place, damage)? {
-            count(said_of(alloc, configuration, &damaged, status)?, &mut told);
+            made = made.saturating_add(1);
+            if is_told(alloc, configuration, &damaged, status, damage)? {
+                wrong = wrong.saturating_add(1);
+            }
         }
     }
-    Ok(told)
+    Ok((made, wrong))
 }
 
-// Counts what is said of one more text.
-fn count(said: Said, told: &mut Told) {
-    told.made = told.made.saturating_add(1);
-    if matches!(said, Said::Wrong(_) | Said::OfOtherChoices) {
-        told.wrong = told.wrong.saturating_add(1);
+// Whether a text that is damaged so is told as wrong.
+fn is_told(
+    alloc: Global,
+    configuration: &[u8],
+    damaged: &[u8],
+    status: u8,
+    damage: Damage,
+) -> Result<bool, Fault> {
+    if damage != Damage::Letter {
+        let said = said_of(alloc, configuration, damaged, status)?;
+        return Ok(matches!(said, Said::Wrong(_)));
     }
-    if said == Said::OfOtherChoices {
-        told.by_check_alone = told.by_check_alone.saturating_add(1);
+    match check(alloc, configuration, damaged, status) {
+        Ok(()) => Ok(false),
+        Err(Fault::Wrong(_)) => Ok(true),
+        Err(fault) => Err(fault),
     }
 }
 

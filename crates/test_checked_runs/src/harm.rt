@@ -1,13 +1,13 @@
 //! What is damaged, and a line on whether the check and `verify` tell it.
 use crate::both::said_of;
-use crate::damage::{Damage, Told, replaced, told_of};
+use crate::damage::{Damage, replaced, told};
 use crate::lines::{append_said, append_verdict};
 use crate::running::run;
 use std::alloc::Global;
 use std::sync::Wait;
 use std::thread::Threads;
 use tc_desk::NoGate;
-use tc_lists::{NoMemory, append_number};
+use tc_lists::append_number;
 use test_run_check::{Draws, Fault, append_all, next_drawn};
 
 // A configuration whose texts are damaged by hand.
@@ -167,23 +167,12 @@ fn report_all_damage<R: Threads + Wait + Sync>(
         (b"a letter is another", Damage::Letter),
     ];
     for (name, damage) in rows {
-        let told = told_of(alloc, &configuration, &ran.text, ran.status, damage)?;
+        let (made, wrong) = told(alloc, &configuration, &ran.text, ran.status, damage)?;
         append_all(&[what, b" wherever ", name, b": "], into)?;
-        append_told(told, into)?;
+        append_number(wrong, into)?;
+        into.extend_from_slice(b" of ")?;
+        append_number(made, into)?;
+        into.extend_from_slice(b" told\n")?;
     }
     Ok(())
-}
-
-// Appends how many texts were told of how many, and of which only the check has told.
-fn append_told(told: Told, into: &mut Vec<u8>) -> Result<(), NoMemory> {
-    append_number(told.wrong, into)?;
-    into.extend_from_slice(b" of ")?;
-    append_number(told.made, into)?;
-    into.extend_from_slice(b" told")?;
-    if told.by_check_alone > 0 {
-        into.extend_from_slice(b", ")?;
-        append_number(told.by_check_alone, into)?;
-        into.extend_from_slice(b" by the check alone")?;
-    }
-    into.extend_from_slice(b"\n")
 }

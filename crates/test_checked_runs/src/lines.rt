@@ -48,7 +48,6 @@ pub fn append_said(said: Said, into: &mut Vec<u8>) -> Result<(), NoMemory> {
     match said {
         Said::Right => into.extend_from_slice(b"checked"),
         Said::Wrong(why) => append_all(&[b"wrong: ", why.as_bytes()], into),
-        Said::OfOtherChoices => into.extend_from_slice(b"wrong by the check alone"),
-        Said::Apart => into.extend_from_slice(b"wrong by verify alone"),
+        Said::Apart => into.extend_from_slice(b"verify says otherwise than the check"),
     }
 }
