@@ -5,7 +5,9 @@ use crate::rows::Rows;
 use crate::slots::Mark;
 use std::alloc::Global;
 use std::marker::Model;
+use std::sync::ledger::Ledger;
 use tc_lists::NoMemory;
+use tc_steps::Steps;
 use tc_term::{Ground, Term};
 
 /// Why a tuple was not put. It is given back.
@@ -72,7 +74,12 @@ impl Bag {
     /// The oldest tuple that agrees with the key and whose age is at least `from`, with its age.
     ///
     /// No memory is taken.
-    pub fn candidate(&self, key: &Key, from: u64) -> Option<(u64, &Ground)>
+    pub fn candidate<L: Ledger>(
+        &self,
+        key: &Key,
+        from: u64,
+        steps: &mut Steps<L>,
+    ) -> Option<(u64, &Ground)>
         ensures found { IfSome result
             (λ r. IsFirst (IsCandidate key.now from) self.now.now (row r.0 r.1.now)) }
         ensures none { IfNone result (NoneOf (IsCandidate key.now from) self.now.now) }
@@ -82,18 +89,19 @@ impl Bag {
         ensures limit { self.now.next < 2 ^ 64 }
         ensures tuples { All (λ r. IsTuple r.tuple) self.now.now }
     {
-        self.candidate_like(key, None, from)
+        self.candidate_like(key, None, from, steps)
     }
 
     /// The oldest tuple that agrees with the key, has this first argument where one is given, and
     /// whose age is at least `from`, with its age.
     ///
     /// No memory is taken.
-    pub fn candidate_like(
+    pub fn candidate_like<L: Ledger>(
         &self,
         key: &Key,
         first: Option<&Term>,
         from: u64,
+        steps: &mut Steps<L>,
     ) -> Option<(u64, &Ground)>
         ensures found { IfSome result (λ r. IsFirst
             (IsCandidateLike key.now (lent_tree first.entry) from)
@@ -111,11 +119,12 @@ impl Bag {
     }
 
     /// As `candidate_like` with the template's key, which isn't copied.
-    pub fn candidate_for(
+    pub fn candidate_for<L: Ledger>(
         &self,
         template: &Term,
         first: Option<&Term>,
         from: u64,
+        steps: &mut Steps<L>,
     ) -> Option<(u64, &Ground)>
         requires { Fits (tree_of template.now) }
         ensures found { IfSome result (λ r. IsFirst (IsCandidateLike

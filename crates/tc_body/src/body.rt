@@ -12,9 +12,11 @@ ghost use Rattle.tc_body.specs.Left.{IsLeft};
 use crate::events::events_of;
 use crate::goal::step;
 use std::alloc::Global;
+use std::sync::ledger::Ledger;
 use tc_bag::Bag;
 use tc_lists::{NoMemory, Seq};
 use tc_model::{Context, Effect, Event, Item, Reaction};
+use tc_steps::Steps;
 use tc_unify::Store;
 
 /// Runs the body of a reaction over the tuples of the bag: each goal takes the oldest tuple that
@@ -22,7 +24,7 @@ use tc_unify::Store;
 ///
 /// The item names the reaction by `pick` and `clause`; the events are those of its effects. The
 /// store is made anew in the memory that it has, and what it holds before does not count.
-pub fn execute(
+pub fn execute<L: Ledger>(
     alloc: Global,
     store: &mut Store,
     r: &Reaction,
@@ -31,6 +33,7 @@ pub fn execute(
     e: &Event,
     context: &Context,
     bag: &mut Bag,
+    steps: &mut Steps<L>,
 ) -> Result<(Item, Vec<Event>), NoMemory>
     requires { bag.old.next + MOST_GOALS ≤ u64.MAX }
     ensures body { IfOk result
@@ -44,7 +47,7 @@ pub fn execute(
     ensures next { bag.new.next ≤ bag.old.next + MOST_GOALS }
 {
     bag.mark()?;
-    match run_goals(alloc, store, r, e, context, bag) {
+    match run_goals(alloc, store, r, e, context, bag, steps) {
         Ok((None, effects)) => match events_of(alloc, &effects) {
             Ok(events) => {
                 bag.keep();
@@ -88,13 +91,14 @@ pub fn execute(
 ///
 /// The store is made anew, as in `execute`. Where head and event can't be made equal, the first
 /// goal has failed. After a failed goal and after want of memory the caller goes back to a mark.
-pub fn run_goals(
+pub fn run_goals<L: Ledger>(
     alloc: Global,
     store: &mut Store,
     r: &Reaction,
     e: &Event,
     context: &Context,
     bag: &mut Bag,
+    steps: &mut Steps<L>,
 ) -> Result<(Option<u32>, Vec<Effect>), NoMemory>
     requires { bag.old.next + MOST_GOALS ≤ u64.MAX }
     ensures fired { IfOk result (λ x. IfNone x.0
@@ -109,7 +113,7 @@ pub fn run_goals(
 {
     let mut effects = Vec::new(alloc);
     let goals = r.goals();
-    if !store.meet(r.head(), r.vars(), e.term())? {
+    if !store.meet(r.head(), r.vars(), e.term(), steps)? {
         return Ok((Some(1), effects));
     }
     for (i, goal) in goals.iter().enumerate() {
@@ -124,6 +128,7 @@ pub fn run_goals(
             store,
             bag,
             &mut effects,
+            steps,
         )? {
             return Ok((Some(i as u32 + 1), effects));
         }

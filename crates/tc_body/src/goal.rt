@@ -12,11 +12,13 @@ ghost use Rattle.tc_body.specs.Moments.{moment_of, IsDone};
 ghost use Rattle.tc_body.specs.Moments.{HasPut, HasNoValue, HasTaken, HasRead, HasNoMatch};
 
 use std::alloc::Global;
+use std::sync::ledger::Ledger;
 use tc_bag::{Bag, Key};
 use tc_goals::succeeds;
 use tc_lists::NoMemory;
 use tc_model::{Context, Effect, Event, Goal};
 use tc_search::oldest_match;
+use tc_steps::Steps;
 use tc_term::Term;
 use tc_unify::{Part, Store};
 
@@ -27,7 +29,7 @@ use tc_unify::{Part, Store};
 /// before, and the equations and the tuples may have changed: the body has failed.
 ///
 /// With the first effect, room is made for all that the goals from this one on may have.
-pub fn step(
+pub fn step<L: Ledger>(
     alloc: Global,
     goal: &Goal,
     on: &[Goal],
@@ -37,6 +39,7 @@ pub fn step(
     store: &mut Store,
     bag: &mut Bag,
     effects: &mut Vec<Effect>,
+    steps: &mut Steps<L>,
 ) -> Result<bool, NoMemory>
     requires width { store.old.vars ≡ vars + var_bound e.now.term }
     requires goal { All (HasVarsBelow vars) (terms_of goal.now) }
@@ -60,10 +63,10 @@ pub fn step(
 {
     match goal {
         Goal::OutR(t) => put(alloc, t, on, store, bag, effects),
-        Goal::InR(t) => take_oldest(alloc, t, on, store, bag, effects),
-        Goal::RdR(t) => read_oldest(alloc, t, on, store, bag, effects),
-        Goal::NoR(t) => is_absent(alloc, t, store, bag),
-        _ => succeeds(alloc, goal, vars, e, context, store),
+        Goal::InR(t) => take_oldest(alloc, t, on, store, bag, effects, steps),
+        Goal::RdR(t) => read_oldest(alloc, t, on, store, bag, effects, steps),
+        Goal::NoR(t) => is_absent(alloc, t, store, bag, steps),
+        _ => succeeds(alloc, goal, vars, e, context, store, steps),
     }
 }
 
@@ -96,13 +99,14 @@ fn put(
 }
 
 // Takes the oldest tuple that matches.
-fn take_oldest(
+fn take_oldest<L: Ledger>(
     alloc: Global,
     t: &Term,
     on: &[Goal],
     store: &mut Store,
     bag: &mut Bag,
     effects: &mut Vec<Effect>,
+    steps: &mut Steps<L>,
 ) -> Result<bool, NoMemory>
     requires within { HasVarsBelow store.old.vars (tree_of t.now) }
     requires solvable { Solvable store.old.vars store.old.pairs }
@@ -119,7 +123,7 @@ fn take_oldest(
     ensures next { bag.new.next ≡ bag.old.next }
 {
     let key = Key::of(alloc, t)?;
-    let Some((age, tuple)) = oldest_match(store, t, &key, bag)? else {
+    let Some((age, tuple)) = oldest_match(store, t, &key, bag, steps)? else {
         return Ok(false);
     };
     record(effects, Effect::Took(tuple.copy(alloc)?), on)?;
@@ -128,13 +132,14 @@ fn take_oldest(
 }
 
 // Reads the oldest tuple that matches.
-fn read_oldest(
+fn read_oldest<L: Ledger>(
     alloc: Global,
     t: &Term,
     on: &[Goal],
     store: &mut Store,
     bag: &Bag,
     effects: &mut Vec<Effect>,
+    steps: &mut Steps<L>,
 ) -> Result<bool, NoMemory>
     requires within { HasVarsBelow store.old.vars (tree_of t.now) }
     requires solvable { Solvable store.old.vars store.old.pairs }
@@ -147,7 +152,7 @@ fn read_oldest(
     ensures solvable { Solvable store.new.vars store.new.pairs }
 {
     let key = Key::of(alloc, t)?;
-    let Some((_, tuple)) = oldest_match(store, t, &key, bag)? else {
+    let Some((_, tuple)) = oldest_match(store, t, &key, bag, steps)? else {
         return Ok(false);
     };
     record(effects, Effect::Read(tuple.copy(alloc)?), on)?;
@@ -179,7 +184,13 @@ fn most_effects(goals: &[Goal]) -> usize
 }
 
 // Whether no tuple matches.
-fn is_absent(alloc: Global, t: &Term, store: &mut Store, bag: &Bag) -> Result<bool, NoMemory>
+fn is_absent<L: Ledger>(
+    alloc: Global,
+    t: &Term,
+    store: &mut Store,
+    bag: &Bag,
+    steps: &mut Steps<L>,
+) -> Result<bool, NoMemory>
     requires within { HasVarsBelow store.old.vars (tree_of t.now) }
     requires solvable { Solvable store.old.vars store.old.pairs }
     ensures none { IfOk result (λ y. IsTrue y → HasNoMatch store.old (tree_of t.now) bag.now) }
@@ -190,7 +201,7 @@ fn is_absent(alloc: Global, t: &Term, store: &mut Store, bag: &Bag) -> Result<bo
     ensures solvable { Solvable store.new.vars store.new.pairs }
 {
     let key = Key::of(alloc, t)?;
-    match oldest_match(store, t, &key, bag)? {
+    match oldest_match(store, t, &key, bag, steps)? {
         Some(_) => Ok(false),
         None => Ok(true),
     }

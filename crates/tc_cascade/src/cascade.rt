@@ -9,11 +9,13 @@ ghost use Rattle.tc_cascade.specs.Adding.{Adds, Stands};
 
 use crate::queue::Queue;
 use std::alloc::Global;
+use std::sync::ledger::Ledger;
 use tc_bag::Bag;
 use tc_body::execute;
 use tc_lists::{NoMemory, Seq};
 use tc_model::{Clauses, Context, Event, Item, Reaction};
 use tc_spec::Spec;
+use tc_steps::Steps;
 use tc_unify::Store;
 
 /// The items of a cascade, in the order in which they were tried. Reactions that failed count.
@@ -31,7 +33,7 @@ pub enum Cascade {
 /// After `Whole` the tuples are those that the items leave. After `Over` and after want of memory
 /// they may be any: going back is the caller's, by a mark that was set before (`keep_or_undo`). The
 /// store is made anew in the memory that it has, and what it holds before does not count.
-pub fn run(
+pub fn run<L: Ledger>(
     alloc: Global,
     store: &mut Store,
     spec: &Spec,
@@ -39,6 +41,7 @@ pub fn run(
     context: &Context,
     budget: u32,
     bag: &mut Bag,
+    steps: &mut Steps<L>,
 ) -> Result<Cascade, NoMemory>
     requires few { budget ≤ MOST_BUDGET }
     requires next { bag.old.next + most_ages ≤ u64.MAX }
@@ -59,6 +62,7 @@ pub fn run(
         e.copy(alloc)?,
         budget as usize + 1,
         &mut triggered,
+        steps,
     )?;
     let mut items = Vec::new(alloc);
     for k in 0..budget {
@@ -66,7 +70,9 @@ pub fn run(
             return Ok(Cascade::Whole(Seq::new(items)));
         };
         let reaction = clause_at(spec.clauses(), clause);
-        let (item, events) = execute(alloc, store, reaction, 1, clause, event, context, bag)?;
+        let (item, events) = execute(
+            alloc, store, reaction, 1, clause, event, context, bag, steps,
+        )?;
         triggered.pass();
         append(&mut items, item)?;
         add_all(
@@ -76,6 +82,7 @@ pub fn run(
             events,
             (budget - k) as usize,
             &mut triggered,
+            steps,
         )?;
     }
     if triggered.is_empty() {
@@ -118,34 +125,36 @@ fn clause_at(clauses: &Clauses, number: u32) -> &Reaction
 }
 
 // Adds what the event triggers, as far as there is room.
-fn add(
+fn add<L: Ledger>(
     alloc: Global,
     store: &mut Store,
     spec: &Spec,
     event: Event,
     room: usize,
     triggered: &mut Queue,
+    steps: &mut Steps<L>,
 ) -> Result<(), NoMemory>
     ensures { OnOk result (Adds spec.now (event ∷ []) room triggered.old triggered.new) }
 {
-    let numbers = spec.triggered(alloc, store, &event)?;
+    let numbers = spec.triggered(alloc, store, &event, steps)?;
     triggered.add(event, numbers, room)?;
     Ok(())
 }
 
 // Adds what each of the events triggers.
-fn add_all(
+fn add_all<L: Ledger>(
     alloc: Global,
     store: &mut Store,
     spec: &Spec,
     events: Vec<Event>,
     room: usize,
     triggered: &mut Queue,
+    steps: &mut Steps<L>,
 ) -> Result<(), NoMemory>
     ensures { OnOk result (Adds spec.now events.items room triggered.old triggered.new) }
 {
     for event in events {
-        add(alloc, store, spec, event, room, triggered)?;
+        add(alloc, store, spec, event, room, triggered, steps)?;
     }
     Ok(())
 }

@@ -9,12 +9,14 @@ ghost use Rattle.tc_centre.specs.Operations.{op_of, outcome_of, IsRegimeOf, Perf
 use crate::founding::Founding;
 use crate::holdings::Holdings;
 use std::alloc::Global;
+use std::sync::ledger::Ledger;
 use tc_cascade::Cascade;
 use tc_lists::{NoMemory, Seq};
 use tc_model::{CallId, Item, Op, Outcome, Phase, Request, Wants};
 use tc_pending::Pending;
 use tc_phases::Regime;
 use tc_spec::Spec;
+use tc_steps::Steps;
 use tc_term::{Ground, Pattern};
 
 /// An operation on tuples, by the phase that serves it.
@@ -48,11 +50,12 @@ impl TupleOp {
 /// reactions did; where they went over the budget, the tuple is gone again.
 ///
 /// Here and below only the marks are as before after a fault.
-pub fn put(
+pub fn put<L: Ledger>(
     alloc: Global,
     held: &mut Holdings,
     id: CallId,
     tuple: &Ground,
+    steps: &mut Steps<L>,
 ) -> Result<(Outcome, Seq<Item>), NoMemory>
     requires run { HoldsRun held.old }
     requires agent { id.agent < length held.old.founding.agents.items }
@@ -61,19 +64,20 @@ pub fn put(
     ensures keeps { KeepsAround held.old held.new }
 {
     let regime = regime(&held.founding, &held.spec, id);
-    match tc_phases::put(alloc, &mut held.store, &regime, tuple, &mut held.bag)? {
+    match tc_phases::put(alloc, &mut held.store, &regime, tuple, &mut held.bag, steps)? {
         Cascade::Whole(items) => Ok((Outcome::Done, items)),
         Cascade::Over(items) => Ok((Outcome::Over(Phase::Post, None), items)),
     }
 }
 
 /// Runs the reactions to a request, and appends it, unless they went over the budget.
-pub fn request(
+pub fn request<L: Ledger>(
     alloc: Global,
     held: &mut Holdings,
     id: CallId,
     wants: Wants,
     template: &Pattern,
+    steps: &mut Steps<L>,
 ) -> Result<(Outcome, Seq<Item>), NoMemory>
     requires run { HoldsRun held.old }
     requires agent { id.agent < length held.old.founding.agents.items }
@@ -89,6 +93,7 @@ pub fn request(
         wants,
         template,
         &mut held.bag,
+        steps,
     )? {
         Cascade::Whole(items) => {
             append(alloc, id, wants, template, &mut held.pending)?;
@@ -100,12 +105,13 @@ pub fn request(
 
 /// Looks for the oldest tuple that matches, which is taken or stays, with the reactions to what was
 /// found. A tuple that was taken is back where they went over the budget.
-pub fn search(
+pub fn search<L: Ledger>(
     alloc: Global,
     held: &mut Holdings,
     id: CallId,
     wants: Wants,
     template: &Pattern,
+    steps: &mut Steps<L>,
 ) -> Result<(Outcome, Seq<Item>), NoMemory>
     requires run { HoldsRun held.old }
     requires agent { id.agent < length held.old.founding.agents.items }
@@ -121,6 +127,7 @@ pub fn search(
         wants,
         template,
         &mut held.bag,
+        steps,
     )?;
     match cascade {
         Cascade::Whole(items) => Ok((outcome_of(wants, found), items)),
@@ -131,11 +138,12 @@ pub fn search(
 /// Gives the tuple of an age to the request at a place, or with no age tells it that none matches,
 /// with the reactions to that. Tells whose request it is, the outcome, and what the reactions did;
 /// where they went over the budget, the tuples are as before. The request is left where it is.
-pub fn answer(
+pub fn answer<L: Ledger>(
     alloc: Global,
     held: &mut Holdings,
     place: usize,
     age: Option<u64>,
+    steps: &mut Steps<L>,
 ) -> Result<(CallId, Outcome, Seq<Item>), NoMemory>
     requires run { HoldsRun held.old }
     requires next { IsNextAnswer held.old.bag.now held.old.pending.now place age }
@@ -144,17 +152,18 @@ pub fn answer(
     ensures requests { held.new.pending ≡ held.old.pending }
 {
     match age {
-        Some(age) => give_tuple(alloc, held, place, age),
-        None => tell_absence(alloc, held, place),
+        Some(age) => give_tuple(alloc, held, place, age, steps),
+        None => tell_absence(alloc, held, place, steps),
     }
 }
 
 // Gives the tuple of an age to the request at a place.
-fn give_tuple(
+fn give_tuple<L: Ledger>(
     alloc: Global,
     held: &mut Holdings,
     place: usize,
     age: u64,
+    steps: &mut Steps<L>,
 ) -> Result<(CallId, Outcome, Seq<Item>), NoMemory>
     requires run { HoldsRun held.old }
     requires next { IsNextAnswer held.old.bag.now held.old.pending.now place (Some age) }
@@ -173,6 +182,7 @@ fn give_tuple(
         wants,
         age,
         &mut held.bag,
+        steps,
     )?;
     match cascade {
         Cascade::Whole(items) => Ok((id, Outcome::Took(tuple), items)),
@@ -181,10 +191,11 @@ fn give_tuple(
 }
 
 // Tells the request at a place that no tuple matches.
-fn tell_absence(
+fn tell_absence<L: Ledger>(
     alloc: Global,
     held: &mut Holdings,
     place: usize,
+    steps: &mut Steps<L>,
 ) -> Result<(CallId, Outcome, Seq<Item>), NoMemory>
     requires run { HoldsRun held.old }
     requires next { IsNextAnswer held.old.bag.now held.old.pending.now place None }
@@ -201,6 +212,7 @@ fn tell_absence(
         &regime,
         &request.template,
         &mut held.bag,
+        steps,
     )?;
     match cascade {
         Cascade::Whole(items) => Ok((id, Outcome::Absent, items)),

@@ -17,11 +17,14 @@ use crate::answers::Answer;
 use crate::holdings::Holdings;
 use crate::operations::{TupleOp, answer, put, request, search};
 use std::alloc::Global;
+use std::marker::Brand;
+use std::sync::ledger::{Blank, Ledger};
 use tc_calls::reply_to;
 use tc_lists::{NoMemory, Seq};
 use tc_model::{CallId, Clauses, Entry, Item, Op, Outcome, Reply, Wants};
 use tc_pending::Known;
 use tc_spec::{Spec, print_spec};
+use tc_steps::Steps;
 use tc_term::Pattern;
 
 /// Serves a call, and answers the requests that can be answered, until none is left.
@@ -98,7 +101,7 @@ fn on_tuples(
         return Err(NoMemory);
     }
     let length = held.history.len();
-    match serve_call(alloc, held, id, op) {
+    match serve_call::<Brand>(alloc, held, id, op, Blank::new(1)) {
         Ok(answer) => {
             held.bag.keep();
             held.pending.keep();
@@ -114,12 +117,16 @@ fn on_tuples(
 }
 
 // Serves a call and answers what can be answered. After a fault only the marks are as before.
-fn serve_call(
+fn serve_call<L: Ledger>(
     alloc: Global,
     held: &mut Holdings,
     id: CallId,
     op: TupleOp,
+    blank: Blank,
 ) -> Result<Answer, NoMemory>
+    requires name { blank.name ≡ L.name }
+    requires parts { blank.parts ≡ L.parts }
+    requires some { 0 < blank.parts }
     requires may { MayServe id held.old }
     requires marked { IsJustMarked held.old.bag }
     ensures rest { OnOk result (IsAtRest held.new) }
@@ -135,8 +142,9 @@ fn serve_call(
         requests: held.pending.list().len(),
         age: held.bag.next_age(),
     };
-    call(alloc, held, id, op)?;
-    answer_all(alloc, held, known)?;
+    let mut steps = Steps::<L>::none(blank);
+    call(alloc, held, id, op, &mut steps)?;
+    answer_all(alloc, held, known, &mut steps)?;
     match reply_to(alloc, &held.history[before..], id)? {
         Some(reply) => Ok(Answer::Replied(reply)),
         None => Ok(Answer::Pending),
@@ -144,7 +152,13 @@ fn serve_call(
 }
 
 // Serves a call and appends its entry.
-fn call(alloc: Global, held: &mut Holdings, id: CallId, op: TupleOp) -> Result<(), NoMemory>
+fn call<L: Ledger>(
+    alloc: Global,
+    held: &mut Holdings,
+    id: CallId,
+    op: TupleOp,
+    steps: &mut Steps<L>,
+) -> Result<(), NoMemory>
     requires may { MayServe id held.old }
     requires marked { IsJustMarked held.old.bag }
     ensures run { OnOk result (HoldsRun held.new) }
@@ -155,7 +169,7 @@ fn call(alloc: Global, held: &mut Holdings, id: CallId, op: TupleOp) -> Result<(
     ensures spec { held.new.spec ≡ held.old.spec }
     ensures typed { OnOk result (KeepsTyped held.old held.new) }
 {
-    let (outcome, items) = perform(alloc, held, id, &op)?;
+    let (outcome, items) = perform(alloc, held, id, &op, steps)?;
     let op = op.into_op();
     typed_id(id);
     op.typed();
@@ -170,11 +184,12 @@ fn call(alloc: Global, held: &mut Holdings, id: CallId, op: TupleOp) -> Result<(
 }
 
 // Does a call's operation with its reactions, and tells its outcome and what the reactions did.
-fn perform(
+fn perform<L: Ledger>(
     alloc: Global,
     held: &mut Holdings,
     id: CallId,
     op: &TupleOp,
+    steps: &mut Steps<L>,
 ) -> Result<(Outcome, Seq<Item>), NoMemory>
     requires run { HoldsRun held.old }
     requires agent { id.agent < length held.old.founding.agents.items }
@@ -182,15 +197,20 @@ fn perform(
     ensures keeps { KeepsAround held.old held.new }
 {
     match op {
-        TupleOp::Put(tuple) => put(alloc, held, id, tuple),
-        TupleOp::Request(wants, template) => request(alloc, held, id, *wants, template),
-        TupleOp::Search(wants, template) => search(alloc, held, id, *wants, template),
+        TupleOp::Put(tuple) => put(alloc, held, id, tuple, steps),
+        TupleOp::Request(wants, template) => request(alloc, held, id, *wants, template, steps),
+        TupleOp::Search(wants, template) => search(alloc, held, id, *wants, template, steps),
     }
 }
 
 // Answers the requests that can be answered, the oldest first, until none is left. Of requests and
 // tuples that are known, only those requests are looked at that want the absence of one that went.
-fn answer_all(alloc: Global, held: &mut Holdings, mut known: Known) -> Result<(), NoMemory>
+fn answer_all<L: Ledger>(
+    alloc: Global,
+    held: &mut Holdings,
+    mut known: Known,
+    steps: &mut Steps<L>,
+) -> Result<(), NoMemory>
     requires run { HoldsRun held.old }
     requires marked { held.old.bag.saved ≢ [] }
     requires known { Knows known held.old }
@@ -200,8 +220,8 @@ fn answer_all(alloc: Global, held: &mut Holdings, mut known: Known) -> Result<()
     ensures spec { held.new.spec ≡ held.old.spec }
     ensures typed { OnOk result (KeepsTyped held.old held.new) }
 {
-    while let Some((place, age)) = held.pending.next_answerable(&held.bag, known) {
-        answer_one(alloc, held, place, age)?;
+    while let Some((place, age)) = held.pending.next_answerable(&held.bag, known, steps) {
+        answer_one(alloc, held, place, age, steps)?;
         known = known.without(place);
     }
     Ok(())
@@ -209,11 +229,12 @@ fn answer_all(alloc: Global, held: &mut Holdings, mut known: Known) -> Result<()
 
 // Answers the request at a place, with the tuple of an age or with absence, removes it, and
 // appends the entry of that.
-fn answer_one(
+fn answer_one<L: Ledger>(
     alloc: Global,
     held: &mut Holdings,
     place: usize,
     age: Option<u64>,
+    steps: &mut Steps<L>,
 ) -> Result<(), NoMemory>
     requires run { HoldsRun held.old }
     requires next { IsNextAnswer held.old.bag.now held.old.pending.now place age }
@@ -226,7 +247,7 @@ fn answer_one(
     ensures spec { held.new.spec ≡ held.old.spec }
     ensures typed { OnOk result (KeepsTyped held.old held.new) }
 {
-    let (id, outcome, items) = answer(alloc, held, place, age)?;
+    let (id, outcome, items) = answer(alloc, held, place, age, steps)?;
     held.pending.remove(place);
     held.history.push(Entry::Gave { id, outcome, items })?;
     Ok(())

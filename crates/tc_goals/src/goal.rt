@@ -15,9 +15,11 @@ ghost use Rattle.tc_goals.specs.Moments.{EvaluatesIn, IsNumberOf};
 ghost use Rattle.tc_goals.specs.TupleFree.{IsTupleFree};
 
 use std::alloc::Global;
+use std::sync::ledger::Ledger;
 use tc_arith::{compare, eval};
 use tc_lists::NoMemory;
 use tc_model::{Context, Event, EventOp, Goal, Phase, Sign};
+use tc_steps::Steps;
 use tc_term::{Cmp, Name, Pattern, Term};
 use tc_unify::{Part, Store};
 
@@ -27,13 +29,14 @@ use tc_unify::{Part, Store};
 /// Where it could, the equations are those after its step. Where it could not, it has no step, and
 /// the equations may have changed: the body has failed. Tuples and effects stay as they are, and
 /// there is nothing to choose.
-pub fn succeeds(
+pub fn succeeds<L: Ledger>(
     alloc: Global,
     goal: &Goal,
     vars: u32,
     e: &Event,
     context: &Context,
     store: &mut Store,
+    steps: &mut Steps<L>,
 ) -> Result<bool, NoMemory>
     requires free { IsTupleFree goal.now }
     requires width { store.old.vars ≡ vars + var_bound e.now.term }
@@ -57,13 +60,13 @@ pub fn succeeds(
         Goal::Success => Ok(e.sign() == Sign::Success),
         Goal::Failure => Ok(e.sign() == Sign::Failure),
         Goal::True => Ok(true),
-        Goal::Agent(t) => equate_name(alloc, store, t, context.agent()),
-        Goal::Centre(t) => equate_name(alloc, store, t, context.centre()),
-        Goal::Operation(t) => equate_op(alloc, store, t, e.op()),
-        Goal::Tuple(t) => equate_event(store, t, e.term(), vars),
-        Goal::Equal(s, t) => store.equate(s, t),
-        Goal::Differ(s, t) => Ok(!store.equate(s, t)?),
-        Goal::Is(s, t) => assign(store, s, t),
+        Goal::Agent(t) => equate_name(alloc, store, t, context.agent(), steps),
+        Goal::Centre(t) => equate_name(alloc, store, t, context.centre(), steps),
+        Goal::Operation(t) => equate_op(alloc, store, t, e.op(), steps),
+        Goal::Tuple(t) => equate_event(store, t, e.term(), vars, steps),
+        Goal::Equal(s, t) => store.equate(s, t, steps),
+        Goal::Differ(s, t) => Ok(!store.equate(s, t, steps)?),
+        Goal::Is(s, t) => assign(store, s, t, steps),
         Goal::Compare(op, s, t) => do_compare(store, *op, s, t),
 
         // There is no such goal here.
@@ -72,7 +75,13 @@ pub fn succeeds(
 }
 
 // Adds the equation of a term and a name.
-fn equate_name(alloc: Global, store: &mut Store, t: &Term, name: &Name) -> Result<bool, NoMemory>
+fn equate_name<L: Ledger>(
+    alloc: Global,
+    store: &mut Store,
+    t: &Term,
+    name: &Name,
+    steps: &mut Steps<L>,
+) -> Result<bool, NoMemory>
     requires left { var_bound (tree_of t.now) ≤ store.old.vars }
     requires solvable { Solvable store.old.vars store.old.pairs }
     ensures added { IfOk result (λ y. IsTrue y
@@ -83,12 +92,18 @@ fn equate_name(alloc: Global, store: &mut Store, t: &Term, name: &Name) -> Resul
     ensures solvable { Solvable store.new.vars store.new.pairs }
 {
     let atom = Term::Atom(name.copy(alloc)?);
-    let added = store.equate(t, &atom)?;
+    let added = store.equate(t, &atom, steps)?;
     Ok(added)
 }
 
 // Adds the equation of a term and the name of an operation.
-fn equate_op(alloc: Global, store: &mut Store, t: &Term, op: EventOp) -> Result<bool, NoMemory>
+fn equate_op<L: Ledger>(
+    alloc: Global,
+    store: &mut Store,
+    t: &Term,
+    op: EventOp,
+    steps: &mut Steps<L>,
+) -> Result<bool, NoMemory>
     requires left { var_bound (tree_of t.now) ≤ store.old.vars }
     requires solvable { Solvable store.old.vars store.old.pairs }
     ensures added { IfOk result (λ y. IsTrue y
@@ -99,12 +114,18 @@ fn equate_op(alloc: Global, store: &mut Store, t: &Term, op: EventOp) -> Result<
     ensures solvable { Solvable store.new.vars store.new.pairs }
 {
     let name = Name::new(alloc, op.name())?;
-    let added = equate_name(alloc, store, t, &name)?;
+    let added = equate_name(alloc, store, t, &name, steps)?;
     Ok(added)
 }
 
 // Adds the equation of a term and the event's.
-fn equate_event(store: &mut Store, t: &Term, e: &Pattern, vars: u32) -> Result<bool, NoMemory>
+fn equate_event<L: Ledger>(
+    store: &mut Store,
+    t: &Term,
+    e: &Pattern,
+    vars: u32,
+    steps: &mut Steps<L>,
+) -> Result<bool, NoMemory>
     requires left { var_bound (tree_of t.now) ≤ vars }
     requires width { store.old.vars ≡ vars + var_bound e.now }
     ensures added { IfOk result (λ y. IsTrue y
@@ -119,7 +140,7 @@ fn equate_event(store: &mut Store, t: &Term, e: &Pattern, vars: u32) -> Result<b
         term: e.term(),
         shift: vars,
     };
-    let added = store.add(left, right)?;
+    let added = store.add(left, right, steps)?;
     Ok(added)
 }
 
@@ -136,7 +157,12 @@ fn number(store: &Store, t: &Term) -> Result<Option<i64>, NoMemory>
 }
 
 // Adds the equation of a term and a number.
-fn equate_number(store: &mut Store, s: &Term, i: i64) -> Result<bool, NoMemory>
+fn equate_number<L: Ledger>(
+    store: &mut Store,
+    s: &Term,
+    i: i64,
+    steps: &mut Steps<L>,
+) -> Result<bool, NoMemory>
     requires { var_bound (tree_of s.now) ≤ store.old.vars }
     ensures added { IfOk result (λ y. IsTrue y
         → store.new ≡ with_pair store.old (tree_of s.now) (Number i)) }
@@ -146,12 +172,17 @@ fn equate_number(store: &mut Store, s: &Term, i: i64) -> Result<bool, NoMemory>
     ensures solvable { Solvable store.new.vars store.new.pairs }
 {
     let number = Term::Int(i);
-    let added = store.equate(s, &number)?;
+    let added = store.equate(s, &number, steps)?;
     Ok(added)
 }
 
 // Adds the equation of a term and the number to which another evaluates.
-fn assign(store: &mut Store, s: &Term, t: &Term) -> Result<bool, NoMemory>
+fn assign<L: Ledger>(
+    store: &mut Store,
+    s: &Term,
+    t: &Term,
+    steps: &mut Steps<L>,
+) -> Result<bool, NoMemory>
     requires left { var_bound (tree_of s.now) ≤ store.old.vars }
     requires right { var_bound (tree_of t.now) ≤ store.old.vars }
     requires solvable { Solvable store.old.vars store.old.pairs }
@@ -167,7 +198,7 @@ fn assign(store: &mut Store, s: &Term, t: &Term) -> Result<bool, NoMemory>
     let Some(i) = number(store, t)? else {
         return Ok(false);
     };
-    let added = equate_number(store, s, i)?;
+    let added = equate_number(store, s, i, steps)?;
     Ok(added)
 }
 

@@ -9,9 +9,11 @@ ghost use Rattle.tc_pending.specs.Filed.{AreLent, IsSuch};
 
 use crate::asking::{is_free, oldest_asking, wants_tuple};
 use crate::waiters::Waiters;
+use std::sync::ledger::Ledger;
 use tc_bag::{Bag, Key};
 use tc_model::Request;
 use tc_search::oldest_match_of;
+use tc_steps::Steps;
 
 /// What is known of the first `requests` requests: none that wants a tuple can be answered by one
 /// of an age below `age`, and none that wants absence could be answered at the bag's first mark, or
@@ -56,10 +58,11 @@ impl Known {
 /// of a tuple, which is new to it, or nothing, where it wants absence and what matched has gone.
 ///
 /// No memory is taken.
-pub(crate) fn newly_answerable(
+pub(crate) fn newly_answerable<L: Ledger>(
     waiters: &Waiters,
     bag: &Bag,
     known: Known,
+    steps: &mut Steps<L>,
 ) -> Option<(usize, Option<u64>)>
     requires lent { AreLent waiters.now }
     requires known { IsKnown known (begun bag.now) bag.now.now waiters.now.requests.now }
@@ -69,12 +72,12 @@ pub(crate) fn newly_answerable(
     ensures none { IfNone result (NoneOf (IsAnswerable (tuples_of bag.now.now))
         (take known.requests waiters.now.requests.now)) }
 {
-    match newly_met(waiters, bag, known) {
-        Some((place, age)) => match newly_free(waiters, bag, place) {
+    match newly_met(waiters, bag, known, steps) {
+        Some((place, age)) => match newly_free(waiters, bag, place, steps) {
             Some(other) => Some((other, None)),
             None => Some((place, Some(age))),
         },
-        None => match newly_free(waiters, bag, known.requests) {
+        None => match newly_free(waiters, bag, known.requests, steps) {
             Some(place) => Some((place, None)),
             None => None,
         },
@@ -83,7 +86,12 @@ pub(crate) fn newly_answerable(
 
 // The place of the oldest of the known requests that wants a tuple and can be answered, and the age
 // of the oldest tuple that answers it.
-fn newly_met(waiters: &Waiters, bag: &Bag, known: Known) -> Option<(usize, u64)>
+fn newly_met<L: Ledger>(
+    waiters: &Waiters,
+    bag: &Bag,
+    known: Known,
+    steps: &mut Steps<L>,
+) -> Option<(usize, u64)>
     requires lent { AreLent waiters.now }
     requires known { NoneOlder known.age bag.now.now
         (take known.requests waiters.now.requests.now) }
@@ -100,11 +108,11 @@ fn newly_met(waiters: &Waiters, bag: &Bag, known: Known) -> Option<(usize, u64)>
     let mut next = None;
     let mut count = known.requests;
     let mut from = known.age;
-    while let Some((age, tuple)) = bag.candidate(&Key::Any, from) {
+    while let Some((age, tuple)) = bag.candidate(&Key::Any, from, steps) {
         if count == 0 {
             return next;
         }
-        if let Some(place) = oldest_asking(waiters, count, tuple, None) {
+        if let Some(place) = oldest_asking(waiters, count, tuple, None, steps) {
             next = Some((place, age));
             count = place;
         }
@@ -118,7 +126,12 @@ fn newly_met(waiters: &Waiters, bag: &Bag, known: Known) -> Option<(usize, u64)>
 //
 // Only where a request ever wanted absence more is done than to ask whether one did.
 #[inline(always)]
-fn newly_free(waiters: &Waiters, bag: &Bag, count: usize) -> Option<usize>
+fn newly_free<L: Ledger>(
+    waiters: &Waiters,
+    bag: &Bag,
+    count: usize,
+    steps: &mut Steps<L>,
+) -> Option<usize>
     requires lent { AreLent waiters.now }
     requires inside { count ≤ length waiters.now.requests.now }
     requires had { NoneOf (IsFree (tuples_of (begun bag.now)))
@@ -130,14 +143,19 @@ fn newly_free(waiters: &Waiters, bag: &Bag, count: usize) -> Option<usize>
         (take count waiters.now.requests.now)) }
 {
     if waiters.absences {
-        oldest_free(waiters, bag, count)
+        oldest_free(waiters, bag, count, steps)
     } else {
         None
     }
 }
 
 // The same, by what has gone since that mark.
-fn oldest_free(waiters: &Waiters, bag: &Bag, count: usize) -> Option<usize>
+fn oldest_free<L: Ledger>(
+    waiters: &Waiters,
+    bag: &Bag,
+    count: usize,
+    steps: &mut Steps<L>,
+) -> Option<usize>
     requires lent { AreLent waiters.now }
     requires inside { count ≤ length waiters.now.requests.now }
     requires had { NoneOf (IsFree (tuples_of (begun bag.now)))
@@ -150,17 +168,22 @@ fn oldest_free(waiters: &Waiters, bag: &Bag, count: usize) -> Option<usize>
 {
     let gone = bag.taken();
     if count <= gone.len() {
-        return first_free(waiters.requests, bag, count);
+        return first_free(waiters.requests, bag, count, steps);
     }
     let mut least = count;
     for i in 0..gone.len() {
-        least = freed_by(waiters, bag, least, gone[i]);
+        least = freed_by(waiters, bag, least, gone[i], steps);
     }
     if least < count { Some(least) } else { None }
 }
 
 // The same, where each of these requests is looked at.
-fn first_free(requests: &[Request], bag: &Bag, count: usize) -> Option<usize>
+fn first_free<L: Ledger>(
+    requests: &[Request],
+    bag: &Bag,
+    count: usize,
+    steps: &mut Steps<L>,
+) -> Option<usize>
     requires inside { count ≤ length requests.now }
     ensures found { IfSome result (IsOldestSuch (IsFree (tuples_of bag.now.now)) requests.now) }
     ensures inside { IfSome result (λ place. place < count) }
@@ -168,7 +191,7 @@ fn first_free(requests: &[Request], bag: &Bag, count: usize) -> Option<usize>
         (take count requests.now)) }
 {
     for place in 0..count {
-        if is_free(&requests[place], bag) {
+        if is_free(&requests[place], bag, steps) {
             return Some(place);
         }
     }
@@ -177,7 +200,13 @@ fn first_free(requests: &[Request], bag: &Bag, count: usize) -> Option<usize>
 
 // The place of the oldest of the first `count` requests that wants absence, that the tuple of this
 // age matched, and that can be answered; `count` where there is none.
-fn freed_by(waiters: &Waiters, bag: &Bag, count: usize, age: u64) -> usize
+fn freed_by<L: Ledger>(
+    waiters: &Waiters,
+    bag: &Bag,
+    count: usize,
+    age: u64,
+    steps: &mut Steps<L>,
+) -> usize
     requires lent { AreLent waiters.now }
     requires inside { count ≤ length waiters.now.requests.now }
     ensures inside { result ≤ count }
@@ -188,7 +217,7 @@ fn freed_by(waiters: &Waiters, bag: &Bag, count: usize, age: u64) -> usize
         (take result waiters.now.requests.now) }
 {
     match bag.get_begun(age) {
-        Some(tuple) => match oldest_asking(waiters, count, tuple, Some(bag)) {
+        Some(tuple) => match oldest_asking(waiters, count, tuple, Some(bag), steps) {
             Some(place) => place,
             None => count,
         },
@@ -200,10 +229,11 @@ fn freed_by(waiters: &Waiters, bag: &Bag, count: usize, age: u64) -> usize
 /// `place` can be answered.
 ///
 /// No memory is taken.
-pub fn answerable_from(
+pub fn answerable_from<L: Ledger>(
     requests: &[Request],
     bag: &Bag,
     place: usize,
+    steps: &mut Steps<L>,
 ) -> Option<(usize, Option<u64>)>
     requires none { NoneOf (IsAnswerable (tuples_of bag.now.now)) (take place requests.now) }
     requires inside { place ≤ length requests.now }
@@ -211,7 +241,7 @@ pub fn answerable_from(
     ensures none { IfNone result (NoneOf (IsAnswerable (tuples_of bag.now.now)) requests.now) }
 {
     for at in place..requests.len() {
-        if let Some(age) = answer_to(&requests[at], bag) {
+        if let Some(age) = answer_to(&requests[at], bag, steps) {
             return Some((at, age));
         }
     }
@@ -220,13 +250,13 @@ pub fn answerable_from(
 
 // What answers a request: the age of the oldest tuple that matches, or nothing, where it wants
 // absence and none matches.
-fn answer_to(request: &Request, bag: &Bag) -> Option<Option<u64>>
+fn answer_to<L: Ledger>(request: &Request, bag: &Bag, steps: &mut Steps<L>) -> Option<Option<u64>>
     ensures found { IfSome result
         (IsAnsweredBy bag.now.now request.now.wants request.now.template) }
     ensures none { IfNone result (IsAnswerable (tuples_of bag.now.now) request.now → ⊥) }
 {
     let is_tuple = wants_tuple(request.wants);
-    match oldest_match_of(&request.template, bag) {
+    match oldest_match_of(&request.template, bag, steps) {
         Some((age, _)) => { if is_tuple { Some(Some(age)) } else { None } }
         None => { if is_tuple { None } else { Some(None) } }
     }

@@ -14,9 +14,11 @@ use crate::codes::{code_for, code_of};
 use crate::index::Index;
 use crate::numbers::{count_below, place_of};
 use crate::waiters::Waiters;
+use std::sync::ledger::Ledger;
 use tc_bag::{Bag, top_code};
 use tc_model::{Request, Wants};
 use tc_search::{does_match, oldest_match_of};
+use tc_steps::Steps;
 use tc_term::Ground;
 
 /// A tuple that requests may ask for; where it has gone, the bag in which others are left; and the
@@ -33,11 +35,12 @@ pub(crate) struct Wanted<'a> {
 /// The place of the oldest of the first `count` requests that asks for a tuple: for one that has
 /// come, or where a bag is given that others are left in, for one that has gone.
 #[inline(always)]
-pub(crate) fn oldest_asking(
+pub(crate) fn oldest_asking<L: Ledger>(
     waiters: &Waiters,
     count: usize,
     tuple: &Ground,
     left: Option<&Bag>,
+    steps: &mut Steps<L>,
 ) -> Option<usize>
     requires lent { AreLent waiters.now }
     requires inside { count ≤ length waiters.now.requests.now }
@@ -56,11 +59,11 @@ pub(crate) fn oldest_asking(
         whole: code_for(wants, code_of(tuple.term())),
     };
     let start = count_below(waiters.serials, waiters.filed).min(count);
-    let place = looked_up(waiters, start, &wanted);
+    let place = looked_up(waiters, start, &wanted, steps);
     if place < start {
         return Some(place);
     }
-    gone_through(waiters, start, count, &wanted)
+    gone_through(waiters, start, count, &wanted, steps)
 }
 
 // What the requests want that may ask for a tuple: one, where it has come; absence, where it has
@@ -76,7 +79,12 @@ fn sought(left: Option<&Bag>) -> Wants
 
 // The place of the oldest of the first `count` requests that asks for a tuple, where the index has
 // them; `count` where there is none.
-fn looked_up(waiters: &Waiters, count: usize, wanted: &Wanted) -> usize
+fn looked_up<L: Ledger>(
+    waiters: &Waiters,
+    count: usize,
+    wanted: &Wanted,
+    steps: &mut Steps<L>,
+) -> usize
     requires indexed { AreIndexed waiters.now count }
     requires wanted { IsWanted wanted.now }
     ensures inside { result ≤ count }
@@ -86,14 +94,20 @@ fn looked_up(waiters: &Waiters, count: usize, wanted: &Wanted) -> usize
     if count == 0 {
         return 0;
     }
-    let any = asking_by(waiters, wanted.any, count, wanted);
-    let same = asking_by(waiters, wanted.top, any, wanted);
-    asking_by(waiters, wanted.whole, same, wanted)
+    let any = asking_by(waiters, wanted.any, count, wanted, steps);
+    let same = asking_by(waiters, wanted.top, any, wanted, steps);
+    asking_by(waiters, wanted.whole, same, wanted, steps)
 }
 
 // The place of the oldest of the first `count` requests that asks for a tuple, by their codes,
 // where none before `start` does.
-fn gone_through(waiters: &Waiters, start: usize, count: usize, wanted: &Wanted) -> Option<usize>
+fn gone_through<L: Ledger>(
+    waiters: &Waiters,
+    start: usize,
+    count: usize,
+    wanted: &Wanted,
+    steps: &mut Steps<L>,
+) -> Option<usize>
     requires codes { waiters.now.codes.now ≡ codes_of waiters.now.requests.now }
     requires inside { count ≤ length waiters.now.requests.now }
     requires start { start ≤ count }
@@ -107,7 +121,7 @@ fn gone_through(waiters: &Waiters, start: usize, count: usize, wanted: &Wanted) 
     let requests = waiters.requests;
     let codes = waiters.codes;
     for place in start..count {
-        if asks(&requests[place], codes[place], wanted) {
+        if asks(&requests[place], codes[place], wanted, steps) {
             return Some(place);
         }
     }
@@ -115,7 +129,7 @@ fn gone_through(waiters: &Waiters, start: usize, count: usize, wanted: &Wanted) 
 }
 
 // Whether a request of this code asks for a tuple.
-fn asks(request: &Request, code: u64, wanted: &Wanted) -> bool
+fn asks<L: Ledger>(request: &Request, code: u64, wanted: &Wanted, steps: &mut Steps<L>) -> bool
     requires code { code ≡ request_code request.now }
     requires wanted { IsWanted wanted.now }
     ensures { IsTrue result ↔ Asks wanted.now request.now }
@@ -123,11 +137,11 @@ fn asks(request: &Request, code: u64, wanted: &Wanted) -> bool
     if code != wanted.any && code != wanted.top && code != wanted.whole {
         return false;
     }
-    is_asking(request, wanted)
+    is_asking(request, wanted, steps)
 }
 
 // Whether a request asks for a tuple.
-fn is_asking(request: &Request, wanted: &Wanted) -> bool
+fn is_asking<L: Ledger>(request: &Request, wanted: &Wanted, steps: &mut Steps<L>) -> bool
     ensures { IsTrue result ↔ Asks wanted.now request.now }
 {
     if !does_match(&request.template, wanted.tuple) {
@@ -135,18 +149,18 @@ fn is_asking(request: &Request, wanted: &Wanted) -> bool
     }
     match wanted.left {
         None => wants_tuple(request.wants),
-        Some(bag) => is_free(request, bag),
+        Some(bag) => is_free(request, bag, steps),
     }
 }
 
 /// Whether a request wants absence, and no tuple matches.
-pub(crate) fn is_free(request: &Request, bag: &Bag) -> bool
+pub(crate) fn is_free<L: Ledger>(request: &Request, bag: &Bag, steps: &mut Steps<L>) -> bool
     ensures { IsTrue result ↔ IsFree (tuples_of bag.now.now) request.now }
 {
     if wants_tuple(request.wants) {
         return false;
     }
-    match oldest_match_of(&request.template, bag) {
+    match oldest_match_of(&request.template, bag, steps) {
         Some(_) => false,
         None => true,
     }
@@ -174,7 +188,13 @@ pub(crate) fn with_absence(absences: bool, request: &Request) -> bool
 
 // The place of the oldest of the first `count` requests that has this code and asks for a tuple,
 // where the index has them; `count` where there is none.
-fn asking_by(waiters: &Waiters, code: u64, count: usize, wanted: &Wanted) -> usize
+fn asking_by<L: Ledger>(
+    waiters: &Waiters,
+    code: u64,
+    count: usize,
+    wanted: &Wanted,
+    steps: &mut Steps<L>,
+) -> usize
     requires indexed { AreIndexed waiters.now count }
     ensures inside { result ≤ count }
     ensures asks { result < count → IsSuch (Asks wanted.now) waiters.now.requests.now result }
@@ -190,7 +210,7 @@ fn asking_by(waiters: &Waiters, code: u64, count: usize, wanted: &Wanted) -> usi
         at,
         count,
     ) {
-        if is_asking(&requests[place], wanted) {
+        if is_asking(&requests[place], wanted, steps) {
             return place;
         }
         at = place + 1;

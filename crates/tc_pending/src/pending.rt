@@ -8,9 +8,11 @@ use crate::numbers::{append, number_behind};
 use crate::waiters::Waiters;
 use std::alloc::Global;
 use std::marker::Model;
+use std::sync::ledger::Ledger;
 use tc_bag::Bag;
 use tc_lists::NoMemory;
 use tc_model::Request;
+use tc_steps::Steps;
 
 /// Requests that wait, oldest first; and marks to which the list goes back.
 ///
@@ -92,14 +94,18 @@ impl Pending {
     ///
     /// `None` says that no request can be answered. Takes no memory, and so never fails, and
     /// O(requests × tuples) time.
-    pub fn oldest_answerable(&self, bag: &Bag) -> Result<Option<(usize, Option<u64>)>, NoMemory>
+    pub fn oldest_answerable<L: Ledger>(
+        &self,
+        bag: &Bag,
+        steps: &mut Steps<L>,
+    ) -> Result<Option<(usize, Option<u64>)>, NoMemory>
         ensures found { IfOk result (λ found. IfSome found
             (λ r. IsNextAnswer bag.now.now self.now.now r.0 r.1)) }
         ensures none { IfOk result (λ found. IfNone found
             (NoneOf (IsAnswerable (tuples_of bag.now.now)) self.now.now)) }
         ensures never_fails { OnErr result ⊥ }
     {
-        Ok(answerable_from(&self.requests, bag, 0))
+        Ok(answerable_from(&self.requests, bag, 0, steps))
     }
 
     /// The same as `oldest_answerable`, where it is known what no longer has to be looked at.
@@ -117,7 +123,12 @@ impl Pending {
     /// searched once.
     ///
     /// No memory is taken.
-    pub fn next_answerable(&self, bag: &Bag, known: Known) -> Option<(usize, Option<u64>)>
+    pub fn next_answerable<L: Ledger>(
+        &self,
+        bag: &Bag,
+        known: Known,
+        steps: &mut Steps<L>,
+    ) -> Option<(usize, Option<u64>)>
         requires known { IsKnown known (begun bag.now) bag.now.now self.now.now }
         requires inside { known.requests ≤ length self.now.now }
         ensures found { IfSome result (λ r. IsNextAnswer bag.now.now self.now.now r.0 r.1) }
@@ -132,10 +143,10 @@ impl Pending {
             filed: self.filed,
             absences: self.absences,
         };
-        if let Some(next) = newly_answerable(&waiters, bag, known) {
+        if let Some(next) = newly_answerable(&waiters, bag, known, steps) {
             return Some(next);
         }
-        answerable_from(&self.requests, bag, known.requests)
+        answerable_from(&self.requests, bag, known.requests, steps)
     }
 
     /// Appends a request. Memory is taken for its removal, too, and for its return.

@@ -18,11 +18,13 @@ ghost use Rattle.tc_phases.specs.Running.{IsAllowed, event_in};
 use crate::regime::Regime;
 use crate::running::{Change, Trigger, run_phase, taking};
 use std::alloc::Global;
+use std::sync::ledger::Ledger;
 use tc_bag::Bag;
 use tc_cascade::Cascade;
 use tc_lists::NoMemory;
 use tc_model::{EventOp, Wants};
 use tc_search::oldest_match_of;
+use tc_steps::Steps;
 use tc_term::{Ground, Pattern};
 use tc_unify::Store;
 
@@ -31,12 +33,13 @@ use tc_unify::Store;
 /// The store is scratch, here and in the other phases: it may hold anything before, and nothing is
 /// said of it afterwards. Where no clause is of the operation, a phase takes neither time nor
 /// memory for clauses, whatever their number.
-pub fn put(
+pub fn put<L: Ledger>(
     alloc: Global,
     store: &mut Store,
     regime: &Regime,
     tuple: &Ground,
     bag: &mut Bag,
+    steps: &mut Steps<L>,
 ) -> Result<Cascade, NoMemory>
     requires regime { IsRegime regime.now }
     requires next { bag.old.next + most_ages + 1 ≤ u64.MAX }
@@ -52,18 +55,19 @@ pub fn put(
 {
     let trigger = Trigger::Success(EventOp::Out, tuple);
     let change = Change::Put(tuple);
-    let end = run_phase(alloc, store, regime, &trigger, &change, bag)?;
+    let end = run_phase(alloc, store, regime, &trigger, &change, bag, steps)?;
     Ok(end)
 }
 
 /// Runs the reactions to a request that is about to wait for what it wants.
-pub fn request(
+pub fn request<L: Ledger>(
     alloc: Global,
     store: &mut Store,
     regime: &Regime,
     wants: Wants,
     template: &Pattern,
     bag: &mut Bag,
+    steps: &mut Steps<L>,
 ) -> Result<Cascade, NoMemory>
     requires regime { IsRegime regime.now }
     requires next { bag.old.next + most_ages + 1 ≤ u64.MAX }
@@ -78,7 +82,7 @@ pub fn request(
     ensures adds { AddsYounger bag.old bag.new }
 {
     let trigger = Trigger::Request(asking_op(wants), template);
-    let end = run_phase(alloc, store, regime, &trigger, &Change::Nothing, bag)?;
+    let end = run_phase(alloc, store, regime, &trigger, &Change::Nothing, bag, steps)?;
     Ok(end)
 }
 
@@ -88,13 +92,14 @@ pub fn request(
 ///
 /// The tuple that was found is told also where the reactions go over the budget, and it is back
 /// then.
-pub fn search(
+pub fn search<L: Ledger>(
     alloc: Global,
     store: &mut Store,
     regime: &Regime,
     wants: Wants,
     template: &Pattern,
     bag: &mut Bag,
+    steps: &mut Steps<L>,
 ) -> Result<(Option<Ground>, Cascade), NoMemory>
     requires regime { IsRegime regime.now }
     requires next { bag.old.next + most_ages + 1 ≤ u64.MAX }
@@ -108,26 +113,35 @@ pub fn search(
     ensures saved { bag.new.saved ≡ bag.old.saved }
     ensures adds { AddsYounger bag.old bag.new }
 {
-    let Some((age, tuple)) = oldest_match_of(template, bag) else {
+    let Some((age, tuple)) = oldest_match_of(template, bag, steps) else {
         let trigger = missing(wants, template);
-        let end = run_phase(alloc, store, regime, &trigger, &Change::Nothing, bag)?;
+        let end = run_phase(alloc, store, regime, &trigger, &Change::Nothing, bag, steps)?;
         return Ok((None, end));
     };
     let tuple = tuple.copy(alloc)?;
     let trigger = found(wants, template, &tuple);
-    let end = run_phase(alloc, store, regime, &trigger, &taking(wants, age), bag)?;
+    let end = run_phase(
+        alloc,
+        store,
+        regime,
+        &trigger,
+        &taking(wants, age),
+        bag,
+        steps,
+    )?;
     Ok((Some(tuple), end))
 }
 
 /// Answers a request for a tuple with that of an age, which is taken or stays, and runs the
 /// reactions to that. The tuple is told.
-pub fn answer(
+pub fn answer<L: Ledger>(
     alloc: Global,
     store: &mut Store,
     regime: &Regime,
     wants: Wants,
     age: u64,
     bag: &mut Bag,
+    steps: &mut Steps<L>,
 ) -> Result<(Ground, Cascade), NoMemory>
     requires regime { IsRegime regime.now }
     requires next { bag.old.next + most_ages + 1 ≤ u64.MAX }
@@ -149,19 +163,28 @@ pub fn answer(
     };
     let tuple = tuple.copy(alloc)?;
     let trigger = Trigger::Success(asking_op(wants), &tuple);
-    let end = run_phase(alloc, store, regime, &trigger, &taking(wants, age), bag)?;
+    let end = run_phase(
+        alloc,
+        store,
+        regime,
+        &trigger,
+        &taking(wants, age),
+        bag,
+        steps,
+    )?;
     Ok((tuple, end))
 }
 
 /// Tells a request for absence that no tuple matches the template, and runs the reactions to that.
 ///
 /// Whether none matches is the caller's to know.
-pub fn tell_absence(
+pub fn tell_absence<L: Ledger>(
     alloc: Global,
     store: &mut Store,
     regime: &Regime,
     template: &Pattern,
     bag: &mut Bag,
+    steps: &mut Steps<L>,
 ) -> Result<Cascade, NoMemory>
     requires regime { IsRegime regime.now }
     requires next { bag.old.next + most_ages + 1 ≤ u64.MAX }
@@ -176,7 +199,7 @@ pub fn tell_absence(
     ensures adds { AddsYounger bag.old bag.new }
 {
     let trigger = Trigger::Absence(EventOp::No, template);
-    let end = run_phase(alloc, store, regime, &trigger, &Change::Nothing, bag)?;
+    let end = run_phase(alloc, store, regime, &trigger, &Change::Nothing, bag, steps)?;
     Ok(end)
 }
 

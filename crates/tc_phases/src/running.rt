@@ -12,10 +12,12 @@ ghost use Rattle.tc_phases.specs.Running.{changed, event_in, taking, IsAllowed};
 
 use crate::regime::Regime;
 use std::alloc::Global;
+use std::sync::ledger::Ledger;
 use tc_bag::Bag;
 use tc_cascade::{Cascade, keep_or_undo, run};
 use tc_lists::{NoMemory, Seq};
 use tc_model::{Context, Event, EventOp, Phase, Sign, Wants};
+use tc_steps::Steps;
 use tc_term::{Ground, Pattern};
 use tc_unify::Store;
 
@@ -52,13 +54,14 @@ pub fn taking<'a>(wants: Wants, age: u64) -> Change<'a>
 
 /// Makes the change, and then runs the reactions to the event. Where they go over the budget, and
 /// where memory ends, the bag is as before.
-pub fn run_phase(
+pub fn run_phase<L: Ledger>(
     alloc: Global,
     store: &mut Store,
     regime: &Regime,
     trigger: &Trigger,
     change: &Change,
     bag: &mut Bag,
+    steps: &mut Steps<L>,
 ) -> Result<Cascade, NoMemory>
     requires regime { IsRegime regime.now }
     requires trigger { IsAllowed trigger.now }
@@ -76,20 +79,21 @@ pub fn run_phase(
         return Ok(Cascade::Whole(Seq::empty(alloc)));
     }
     bag.mark()?;
-    let end = make_and_run(alloc, store, regime, trigger, change, bag);
+    let end = make_and_run(alloc, store, regime, trigger, change, bag, steps);
     keep_or_undo(&end, bag);
     end
 }
 
 // The change and the reactions. After `Over` and after want of memory going back is the caller's,
 // by a mark that was set before.
-fn make_and_run(
+fn make_and_run<L: Ledger>(
     alloc: Global,
     store: &mut Store,
     regime: &Regime,
     trigger: &Trigger,
     change: &Change,
     bag: &mut Bag,
+    steps: &mut Steps<L>,
 ) -> Result<Cascade, NoMemory>
     requires regime { IsRegime regime.now }
     requires trigger { IsAllowed trigger.now }
@@ -112,6 +116,7 @@ fn make_and_run(
         &context,
         regime.budget,
         bag,
+        steps,
     )?;
     Ok(end)
 }

@@ -10,8 +10,10 @@ ghost use Rattle.tc_search.specs.Found.{IsFound};
 
 use crate::firsts::{first_of, value_after};
 use crate::matching::does_match;
+use std::sync::ledger::Ledger;
 use tc_bag::{Bag, Key, known_first};
 use tc_lists::NoMemory;
+use tc_steps::Steps;
 use tc_term::{Ground, Pattern, Term};
 use tc_unify::Store;
 
@@ -21,11 +23,12 @@ use tc_unify::Store;
 /// memory ends, the store is as before. The key is the template's. Only tuples are tried that agree
 /// with it; and once a few were tried in vain, only those that have the first argument which the
 /// equations give to the template, if they give one.
-pub fn oldest_match<'a>(
+pub fn oldest_match<'a, L: Ledger>(
     store: &mut Store,
     template: &Term,
     key: &Key,
     bag: &'a Bag,
+    steps: &mut Steps<L>,
 ) -> Result<Option<(u64, &'a Ground)>, NoMemory>
     requires bound { var_bound (tree_of template.now) ≤ store.old.vars }
     requires key { key.now ≡ key_of (tree_of template.now) }
@@ -48,8 +51,8 @@ pub fn oldest_match<'a>(
     let mut value = None;
     let mut tried: u32 = 0;
     let mut from = 0;
-    while let Some((age, tuple)) = bag.candidate_like(key, first_of(&value, known), from) {
-        if is_added(store, template, tuple)? {
+    while let Some((age, tuple)) = bag.candidate_like(key, first_of(&value, known), from, steps) {
+        if is_added(store, template, tuple, steps)? {
             return Ok(Some((age, tuple)));
         }
         from = age + 1;
@@ -63,7 +66,11 @@ pub fn oldest_match<'a>(
 ///
 /// It takes no memory, however many tuples are tried.
 #[inline(always)]
-pub fn oldest_match_of<'a>(template: &Pattern, bag: &'a Bag) -> Option<(u64, &'a Ground)>
+pub fn oldest_match_of<'a, L: Ledger>(
+    template: &Pattern,
+    bag: &'a Bag,
+    steps: &mut Steps<L>,
+) -> Option<(u64, &'a Ground)>
     ensures found { IfSome result
         (λ m. IsFound (var_bound template.now) [] template.now bag.now.now m.0 m.1.now) }
     ensures none { IfNone result
@@ -72,7 +79,7 @@ pub fn oldest_match_of<'a>(template: &Pattern, bag: &'a Bag) -> Option<(u64, &'a
     let term = template.term();
     let first = known_first(term);
     let mut start = 0;
-    while let Some((age, tuple)) = bag.candidate_for(term, first, start) {
+    while let Some((age, tuple)) = bag.candidate_for(term, first, start, steps) {
         if does_match(template, tuple) {
             return Some((age, tuple));
         }
@@ -82,7 +89,12 @@ pub fn oldest_match_of<'a>(template: &Pattern, bag: &'a Bag) -> Option<(u64, &'a
 }
 
 // Whether the template matches a tuple, whose equation then is added.
-fn is_added(store: &mut Store, template: &Term, tuple: &Ground) -> Result<bool, NoMemory>
+fn is_added<L: Ledger>(
+    store: &mut Store,
+    template: &Term,
+    tuple: &Ground,
+    steps: &mut Steps<L>,
+) -> Result<bool, NoMemory>
     requires { var_bound (tree_of template.now) ≤ store.old.vars }
     ensures yes { IfOk result (λ m. IsTrue m
         → Matches store.old.vars store.old.pairs (tree_of template.now) tuple.now) }
@@ -93,6 +105,6 @@ fn is_added(store: &mut Store, template: &Term, tuple: &Ground) -> Result<bool, 
     ensures same_no { IfOk result (λ m. m ≡ false → store.new ≡ store.old) }
     ensures same { OnErr result (store.new ≡ store.old) }
 {
-    let added = store.equate(template, tuple.term())?;
+    let added = store.equate(template, tuple.term(), steps)?;
     Ok(added)
 }

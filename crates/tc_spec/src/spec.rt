@@ -7,8 +7,10 @@ use crate::parts::{Part, part_for, parts_of};
 use crate::triggers::{numbers_of, triggered_of};
 use std::alloc::Global;
 use std::marker::Model;
+use std::sync::ledger::Ledger;
 use tc_lists::NoMemory;
 use tc_model::{Clauses, Event, EventOp};
+use tc_steps::Steps;
 use tc_unify::Store;
 
 // The numbers of the clauses of each operation, and of the clauses in parts by their codes; rising.
@@ -100,17 +102,18 @@ impl Spec {
     /// of arguments of the event, or a variable, are tried, each in the time of its head and the
     /// event's term; few others are looked at. A clause whose guard doesn't hold is looked at only
     /// where the event's term is a variable.
-    pub fn triggered(
+    pub fn triggered<L: Ledger>(
         &self,
         alloc: Global,
         store: &mut Store,
         e: &Event,
+        steps: &mut Steps<L>,
     ) -> Result<Vec<u32>, NoMemory>
         ensures { IfOk result (λ numbers. AreTriggered self.now e.now numbers.items) }
     {
         let numbers = numbers_for(&self.index, e);
         let items = self.clauses.items();
-        let found = triggered_of(alloc, store, items, numbers, e)?;
+        let found = triggered_of(alloc, store, items, numbers, e, steps)?;
         Ok(found)
     }
 }

@@ -13,8 +13,10 @@ ghost use Rattle.tc_spec.specs.Indexed.{AreEnough, AreOf};
 
 use crate::guards::allows;
 use std::alloc::Global;
+use std::sync::ledger::Ledger;
 use tc_lists::NoMemory;
 use tc_model::{Event, EventOp, Phase, Reaction, Sign};
+use tc_steps::Steps;
 use tc_term::Term;
 use tc_unify::Store;
 
@@ -32,12 +34,13 @@ pub fn numbers_of(alloc: Global, clauses: &[Reaction], o: EventOp) -> Result<Vec
 }
 
 /// Those of the numbers whose clauses the event triggers; there are none besides.
-pub fn triggered_of(
+pub fn triggered_of<L: Ledger>(
     alloc: Global,
     store: &mut Store,
     clauses: &[Reaction],
     numbers: &[u32],
     e: &Event,
+    steps: &mut Steps<L>,
 ) -> Result<Vec<u32>, NoMemory>
     requires { AreEnough clauses.now e.now numbers.now }
     ensures { IfOk result (λ found. AreTriggered clauses.now e.now found.items) }
@@ -45,7 +48,7 @@ pub fn triggered_of(
     let mut found = Vec::new(alloc);
     for i in 0..numbers.len() {
         let number = numbers[i];
-        let triggers = is_triggered(store, &clauses[number as usize - 1], e)?;
+        let triggers = is_triggered(store, &clauses[number as usize - 1], e, steps)?;
         keep_if(&mut found, triggers, number)?;
     }
     Ok(found)
@@ -79,7 +82,12 @@ pub fn keep_if(numbers: &mut Vec<u32>, keep: bool, number: u32) -> Result<(), No
 }
 
 // Whether an event triggers a reaction.
-fn is_triggered(store: &mut Store, r: &Reaction, e: &Event) -> Result<bool, NoMemory>
+fn is_triggered<L: Ledger>(
+    store: &mut Store,
+    r: &Reaction,
+    e: &Event,
+    steps: &mut Steps<L>,
+) -> Result<bool, NoMemory>
     ensures yes { IfOk result (λ y. IsTrue y → IsTriggered r.now e.now) }
     ensures no { IfOk result (λ y. y ≡ false → IsTriggered r.now e.now → ⊥) }
 {
@@ -94,7 +102,7 @@ fn is_triggered(store: &mut Store, r: &Reaction, e: &Event) -> Result<bool, NoMe
     if !has_guard_for(r, e.phase(), e.sign()) {
         return Ok(false);
     }
-    let met = store.meet(head, r.vars(), term)?;
+    let met = store.meet(head, r.vars(), term, steps)?;
     Ok(met)
 }
 
