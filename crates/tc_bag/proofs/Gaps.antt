@@ -1,7 +1,7 @@
 -- Rows in places, and the slots that they give.
 use Rattle.std.proofs.Common.{◌≡◌, ◌≢◌, ◌<◌, ◌≤◌, ◌-◌, ◌+◌, length, slice_get, length-append, nat_lt, is_some, inl, inr, not, ℕ, zero, suc, Bool, true, false, cond, IsTrue, Option, Some, None, List, [], ◌∷◌, ◌++◌, get_or, set, take, drop, map, filter, All, refl, ap, sym, subst, ◌∙◌, arith}
 use Rattle.std.proofs.lemmas.Bool.{eq-eqb, true≢false, cases_lt, ltb-true, lt-ltb, ltb-false}
-use Rattle.std.proofs.lemmas.List.{map-append, take-append-drop, append_assoc, get_or-take, get_or-drop, length-take-le, length-drop, take_all, length-map}
+use Rattle.std.proofs.lemmas.List.{map-append, take-append-drop, append_assoc, get_or-take, get_or-drop, length-take-le, length-drop, take_all}
 use Rattle.std.proofs.lemmas.List.Elements.{All-head, All-tail, All-weaker, All-cons, All-nil, All-append, All-filter, filter-append, filter_map-append}
 use Rattle.std.specs.List.Sorted.{IsPartitionPoint, IsPartitionedBy}
 use Rattle.std.specs.List.{cons_option, HoldsAt}

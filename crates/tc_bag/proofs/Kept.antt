@@ -1,16 +1,16 @@
 -- Places and the tuples at their rows.
-use Rattle.std.proofs.Common.{◌≡◌, ◌≢◌, ◌<◌, ◌+◌, ◌-◌, ◌==◌, length, length-append, is_some, inl, inr, ℕ, Bool, true, false, cond, IsTrue, IsSome, IfSome, Option, Some, None, List, [], ◌∷◌, ◌++◌, get_or, set, take, drop, map, filter, All, Contains, refl, ap, sym, subst, ◌∙◌, arith}
-use Rattle.std.proofs.lemmas.Bool.{true≢false, eq-eqb, ne_eqb, cases_eq}
+use Rattle.std.proofs.Common.{◌≡◌, ◌≢◌, ◌<◌, ◌+◌, ◌-◌, ◌==◌, length, length-append, is_some, ℕ, cond, IsSome, Option, Some, None, List, [], ◌∷◌, ◌++◌, get_or, set, take, drop, filter, All, Contains, refl, ap, sym, subst, ◌∙◌, arith}
+use Rattle.std.proofs.lemmas.Bool.{true≢false, eq-eqb, ne_eqb}
 use Rattle.std.proofs.lemmas.List.{length-map, get_or_default}
-use Rattle.std.proofs.lemmas.List.Elements.{All-head, All-tail, All-weaker, All-cons, All-nil, All-append, All-contains, Contains-get_or}
+use Rattle.std.proofs.lemmas.List.Elements.{All-head, All-tail, All-weaker, All-cons, All-nil, All-append, All-contains}
 use Rattle.std.specs.List.{cons_option}
 use Rattle.std.specs.Option.{option_map}
 use Rattle.tc_term.specs.Tree.{Tree}
 use Rattle.tc_bag.specs.declared.slots.Place.{Place}
 use Rattle.tc_bag.specs.Places.{slot_taken, slot_in, slots_of, row_in, tuple_of, tuple_by, AgesRise, EndsFilled, HasTuple, IsOwn, AreRowPlaces, gap_of, IsCleared}
 use Rattle.tc_bag.specs.Rows.{tuple_in, no_row, Updates}
-use Rattle.tc_bag.specs.Slots.{Slot, is_not_of, with_taken}
-use Rattle.tc_bag.proofs.Gaps.{IsPlaceOf, slots-append, slots-cleared, slots-push, slots-set_taken, fewer, rise-again, rise-push, ends-again, ends-push, places_below, placed, same_age, others_before, others_behind}
+use Rattle.tc_bag.specs.Slots.{is_not_of, with_taken}
+use Rattle.tc_bag.proofs.Gaps.{IsPlaceOf, slots-cleared, slots-push, slots-set_taken, fewer, rise-again, rise-push, ends-again, ends-push, places_below, placed, same_age, others_before, others_behind}
 use Rattle.tc_lists.proofs.Elements.{All-append_left, All-append_right}
 use Rattle.tc_lists.proofs.Sets.{set_parts}
 

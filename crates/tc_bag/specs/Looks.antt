@@ -1,7 +1,7 @@
 -- How many rows a search may look at.
 use Rattle.std.specs.Prelude.{ℕ, ◌==◌, ◌&&◌, not, nat_lt, Bool, true, false, List, length, filter}
 use Rattle.std.specs.Str.{bytes_eq}
-use Rattle.tc_term.specs.Tree.{Tree, Variable, Atomic, Number, Compound}
+use Rattle.tc_term.specs.Tree.{Tree, Atomic, Number, Compound}
 use Rattle.tc_bag.specs.declared.key.Key.{Key}
 use Rattle.tc_bag.specs.declared.key.Key.TheVariants.{Any, Int, Atom, Comp}
 use Rattle.tc_bag.specs.Keys.{arity}

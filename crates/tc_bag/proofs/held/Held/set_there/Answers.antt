@@ -1,4 +1,4 @@
-use Rattle.std.proofs.Common.{◌≡◌, ◌≤◌, ℕ, All, map, min, ap, sym, subst, ◌∙◌, arith}
+use Rattle.std.proofs.Common.{◌≡◌, ◌≤◌, ℕ, All, map, min, sym, subst, ◌∙◌, arith}
 use Rattle.tc_bag.specs.Slots.{InOrder, with_taken}
 use Rattle.tc_bag.specs.Places.{IsFindable}
 use Rattle.tc_bag.specs.declared.held.Held.TheInside.{Inside}
