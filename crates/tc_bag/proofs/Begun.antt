@@ -1,14 +1,13 @@
 -- The rows at the first mark, and those of them that went since.
-use Rattle.std.proofs.Common.{◌≡◌, ◌≢◌, ◌<◌, ◌-◌, ◌==◌, ◌||◌, ◌&&◌, ◌⊎◌, Option, nat_lt, IsTrue, ℕ, Bool, true, false, cond, inl, inr, Some, None, List, [], ◌∷◌, length, get_or, slice_get, map, filter, All, Contains, refl, ap, sym, subst, ◌∙◌, arith}
+use Rattle.std.proofs.Common.{◌≡◌, ◌≢◌, ◌<◌, ◌-◌, ◌==◌, ◌||◌, ◌&&◌, ◌⊎◌, Option, nat_lt, ℕ, Bool, true, false, cond, inl, inr, Some, None, List, [], ◌∷◌, get_or, slice_get, map, filter, All, Contains, refl, ap, sym, ◌∙◌, arith}
 use Rattle.std.proofs.lemmas.Bool.{cases_Bool, cases_eq, eqb-true, eq-eqb}
 use Rattle.std.proofs.lemmas.Bool.Decides.{nat_tests}
-use Rattle.std.proofs.lemmas.List.Elements.{All-nil, All-head, All-tail, All-cons, All-map, All-filter, All-contains, Contains-get_or}
+use Rattle.std.proofs.lemmas.List.Elements.{All-head, All-tail, All-map, All-filter, All-contains}
 use Rattle.std.specs.Option.{option_map}
 use Rattle.std.proofs.lemmas.List.{get_or-map, length-map}
 use Rattle.std.proofs.lemmas.Option.{same_Some}
 use Rattle.tc_lists.proofs.Filters.{All-filter_each, map-filter_alike}
 use Rattle.tc_lists.proofs.Places.{Contains-slice_get}
-use Rattle.tc_term.specs.Tree.{Tree}
 use Rattle.tc_bag.specs.declared.slots.Mark.{Mark}
 use Rattle.tc_bag.specs.Places.{slot_at, tuple_older}
 use Rattle.tc_bag.specs.Stock.{Row, AgesRiseBelow, tuple_at, begun, HasGone}

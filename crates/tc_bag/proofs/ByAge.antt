@@ -7,8 +7,9 @@ use Rattle.tc_term.specs.Tree.{Tree}
 use Rattle.tc_bag.specs.Places.{slot_at, IsFindable}
 use Rattle.std.specs.Option.{IfSome, option_map}
 use Rattle.tc_bag.specs.declared.index.Index.{Index}
-use Rattle.tc_bag.specs.Ages.{Has, HasRow}
-use Rattle.tc_bag.specs.Codes.{first_code}
+use Rattle.tc_bag.specs.declared.codes.Codes.{Codes}
+use Rattle.tc_bag.specs.Ages.{Has, HasCodes, HasRow}
+use Rattle.tc_bag.specs.Codes.{first_code, codes_of}
 use Rattle.tc_bag.specs.Slots.{Slot, InOrder, IsYoungest, is_there, is_older, is_not_of, stays, taken_at, revived_at, with_taken, tuple_there}
 use Rattle.tc_lists.proofs.Filters.{filter_all}
 use Rattle.tc_lists.proofs.Elements.{All-append_left, All-append_right}
@@ -66,28 +67,29 @@ slot_at-all age (s ∷ ss) found order is =
           (slot_at-all age ss found order.1 rest)
     ]
 
--- by the tuple that is found
-pub slot_at-tuple : (age : ℕ) (ss : List Slot) (t : Tree) → InOrder ss → option_map (λ s. s.tuple) (slot_at age ss) ≡ Some t
-    → All (λ s. s.age ≡ age → s.tuple ≡ t) ss
-slot_at-tuple age ss t order = go (slot_at age ss) refl
+-- by the codes of what is found
+pub slot_at-codes : (age : ℕ) (ss : List Slot) (codes : Codes) → InOrder ss → option_map (λ s. codes_of s.tuple) (slot_at age ss) ≡ Some codes
+    → All (λ s. s.age ≡ age → codes_of s.tuple ≡ codes) ss
+slot_at-codes age ss codes order = go (slot_at age ss) refl
   where
-    go : (o : Option Slot) → slot_at age ss ≡ o → option_map (λ s. s.tuple) o ≡ Some t → All (λ s. s.age ≡ age → s.tuple ≡ t) ss
+    go : (o : Option Slot) → slot_at age ss ≡ o → option_map (λ s. codes_of s.tuple) o ≡ Some codes
+        → All (λ s. s.age ≡ age → codes_of s.tuple ≡ codes) ss
     go None at is =
-        let nothing : None ≡ Some t = is in
+        let nothing : None ≡ Some codes = is in
         absurd (cc)
     go (Some found) at is =
-        let known : Some found.tuple ≡ Some t = is in
-        let same : found.tuple ≡ t = cc in
-        All-weaker (λ s. s.age ≡ age → s ≡ found) (λ s. s.age ≡ age → s.tuple ≡ t)
-        (λ s equal of_age. ap (λ (r : Slot). r.tuple) (equal of_age) ∙ same) ss (slot_at-all age ss found order at)
+        let known : Some (codes_of found.tuple) ≡ Some codes = is in
+        let same : codes_of found.tuple ≡ codes = cc in
+        All-weaker (λ s. s.age ≡ age → s ≡ found) (λ s. s.age ≡ age → codes_of s.tuple ≡ codes)
+        (λ s equal of_age. ap (λ (r : Slot). codes_of r.tuple) (equal of_age) ∙ same) ss (slot_at-all age ss found order at)
 
-pub slot_at-no_tuple : (age : ℕ) (ss : List Slot) → option_map (λ s. s.tuple) (slot_at age ss) ≡ None → All (λ s. s.age ≢ age) ss
-slot_at-no_tuple age ss = go (slot_at age ss) refl
+pub slot_at-no_codes : (age : ℕ) (ss : List Slot) → option_map (λ s. codes_of s.tuple) (slot_at age ss) ≡ None → All (λ s. s.age ≢ age) ss
+slot_at-no_codes age ss = go (slot_at age ss) refl
   where
-    go : (o : Option Slot) → slot_at age ss ≡ o → option_map (λ s. s.tuple) o ≡ None → All (λ s. s.age ≢ age) ss
+    go : (o : Option Slot) → slot_at age ss ≡ o → option_map (λ s. codes_of s.tuple) o ≡ None → All (λ s. s.age ≢ age) ss
     go None at is = slot_at-none age ss at
     go (Some found) at is =
-        let nothing : Some found.tuple ≡ None = is in
+        let nothing : Some (codes_of found.tuple) ≡ None = is in
         absurd (cc)
 
 -- slots of other ages are passed over
@@ -170,19 +172,19 @@ module _ (start : ℕ) (whole : Bool) (old new : Index) where
       ]) ss found)
 
   -- or with one that is there again, from its age on and in an index that got it, or isn't whole
-  pub findable_again : (less age : ℕ) (still : Bool) (t : Tree) (ss : List Slot) → less ≤ start → less ≤ age
-      → ((c a : ℕ) → Has old c a → Has new c a) → (IsTrue still → IsTrue whole × HasRow new age t)
-      → All (λ s. s.age ≡ age → s.tuple ≡ t) ss
+  pub findable_again : (less age : ℕ) (still : Bool) (codes : Codes) (ss : List Slot) → less ≤ start → less ≤ age
+      → ((c a : ℕ) → Has old c a → Has new c a) → (IsTrue still → IsTrue whole × HasCodes new age codes)
+      → All (λ s. s.age ≡ age → codes_of s.tuple ≡ codes) ss
       → All (IsFindable start whole old) ss → All (IsFindable less still new) (map (with_taken age 0) ss)
-  findable_again less age still t ss early before kept got tuple found =
+  findable_again less age still codes ss early before kept got same_codes found =
       All-map (IsFindable less still new) (with_taken age 0) ss (λ k d inside.
       let s = get_or ss k d in
       elim (cases_Bool (s.age == age)) [
         | inl same ↦ λ there.
             let equal = eqb-true s.age age same in (
               omega (arith, before, equal),
-              λ is_still. subst (HasRow new s.age) (sym (tuple k d inside equal))
-                  (subst (λ a. HasRow new a t) (sym equal) (got is_still).1),
+              λ is_still. subst (HasCodes new s.age) (sym (same_codes k d inside equal))
+                  (subst (λ a. HasCodes new a codes) (sym equal) (got is_still).1),
             )
         | inr other ↦ λ there.
             let was = found k d inside (sym (ap (λ b. cond b 0 s.taken == 0) other) ∙ there) in (

@@ -1,7 +1,7 @@
 -- Rows in places, and the slots that they give.
 use Rattle.std.proofs.Common.{◌≡◌, ◌≢◌, ◌<◌, ◌≤◌, ◌-◌, ◌+◌, length, slice_get, length-append, nat_lt, is_some, inl, inr, not, ℕ, zero, suc, Bool, true, false, cond, IsTrue, Option, Some, None, List, [], ◌∷◌, ◌++◌, get_or, set, take, drop, map, filter, All, refl, ap, sym, subst, ◌∙◌, arith}
 use Rattle.std.proofs.lemmas.Bool.{eq-eqb, true≢false, cases_lt, ltb-true, lt-ltb, ltb-false}
-use Rattle.std.proofs.lemmas.List.{map-append, take-append-drop, append_assoc, get_or-take, get_or-drop, length-take-le, length-drop, take_all, length-map, set-get_or}
+use Rattle.std.proofs.lemmas.List.{map-append, take-append-drop, append_assoc, get_or-take, get_or-drop, length-take-le, length-drop, take_all}
 use Rattle.std.proofs.lemmas.List.Elements.{All-head, All-tail, All-weaker, All-cons, All-nil, All-append, All-filter, filter-append, filter_map-append}
 use Rattle.std.specs.List.Sorted.{IsPartitionPoint, IsPartitionedBy}
 use Rattle.std.specs.List.{cons_option, HoldsAt}
@@ -9,7 +9,7 @@ use Rattle.std.specs.Option.{option_map}
 use Rattle.std.proofs.Math.Seq.{take-append_seam}
 use Rattle.tc_term.specs.Tree.{Tree}
 use Rattle.tc_bag.specs.declared.slots.Place.{Place}
-use Rattle.tc_bag.specs.Places.{slot_taken, slot_in, slots_of, slot_at, AgesRise, EndsFilled, AreRowPlaces}
+use Rattle.tc_bag.specs.Places.{slot_taken, slot_in, slots_of, slot_at, row_in, tuple_of, tuple_by, HasTuple, AgesRise, EndsFilled}
 use Rattle.tc_bag.specs.Slots.{Slot, InOrder, IsYoungest, is_not_of, with_taken}
 use Rattle.tc_bag.proofs.ByAge.{filter-others, map-others, with_taken-other, slot_at-pass, slot_at-others, slot_at-none, slot_at-all}
 use Rattle.tc_lists.proofs.Elements.{All-append_left, All-append_right}
@@ -21,38 +21,38 @@ not_nil : {X : Type 0} (xs ys : List X) (x : X) → xs ++ x ∷ ys ≡ [] → �
 not_nil xs ys x none = absurd (omega (arith, ap length none, length-append xs (x ∷ ys)))
 
 -- slots have the ages of their places
-pub slots-All : (P : ℕ → Type 0) (ps : List Place) → All (λ p. P p.age) ps → All (λ s. P s.age) (slots_of ps)
-slots-All P [] has = All-nil (λ s. P s.age)
-slots-All P (p ∷ ps) has = go p.tuple (All-head (λ q. P q.age) p ps has) (slots-All P ps (All-tail (λ q. P q.age) p ps has))
+pub slots-All : (rows : List (Option Tree)) (P : ℕ → Type 0) (ps : List Place) → All (λ p. P p.age) ps → All (λ s. P s.age) (slots_of rows ps)
+slots-All rows P [] has = All-nil (λ s. P s.age)
+slots-All rows P (p ∷ ps) has = go (tuple_of rows p) (All-head (λ q. P q.age) p ps has) (slots-All rows P ps (All-tail (λ q. P q.age) p ps has))
   where
-    go : (o : Option Tree) → P p.age → All (λ s. P s.age) (slots_of ps)
-        → All (λ s. P s.age) (cons_option (option_map (slot_taken p.age p.taken) o) (slots_of ps))
+    go : (o : Option Tree) → P p.age → All (λ s. P s.age) (slots_of rows ps)
+        → All (λ s. P s.age) (cons_option (option_map (slot_taken p.age p.taken) o) (slots_of rows ps))
     go None here rest = rest
-    go (Some t) here rest = All-cons (λ s. P s.age) (slot_taken p.age p.taken t) (slots_of ps) here rest
+    go (Some t) here rest = All-cons (λ s. P s.age) (slot_taken p.age p.taken t) (slots_of rows ps) here rest
 
-pub slots-append : (ps qs : List Place) → slots_of (ps ++ qs) ≡ slots_of ps ++ slots_of qs
-slots-append ps qs = filter_map-append slot_in ps qs
+pub slots-append : (rows : List (Option Tree)) (ps qs : List Place) → slots_of rows (ps ++ qs) ≡ slots_of rows ps ++ slots_of rows qs
+slots-append rows ps qs = filter_map-append (slot_in rows) ps qs
 
-pub slots-others : (age : ℕ) (ps : List Place) → All (λ p. p.age ≢ age) ps → All (λ s. s.age ≢ age) (slots_of ps)
-slots-others age ps others = slots-All (λ a. a ≢ age) ps others
+pub slots-others : (rows : List (Option Tree)) (age : ℕ) (ps : List Place) → All (λ p. p.age ≢ age) ps → All (λ s. s.age ≢ age) (slots_of rows ps)
+slots-others rows age ps others = slots-All rows (λ a. a ≢ age) ps others
 
 -- there are no more rows than places
-pub slots_most : (ps : List Place) → length (slots_of ps) ≤ length ps
-slots_most [] = omega arith
-slots_most (p ∷ ps) = go p.tuple (slots_most ps)
+pub slots_most : (rows : List (Option Tree)) (ps : List Place) → length (slots_of rows ps) ≤ length ps
+slots_most rows [] = omega arith
+slots_most rows (p ∷ ps) = go (tuple_of rows p) (slots_most rows ps)
   where
-    go : (o : Option Tree) → length (slots_of ps) ≤ length ps
-        → length (cons_option (option_map (slot_taken p.age p.taken) o) (slots_of ps)) ≤ length (p ∷ ps)
+    go : (o : Option Tree) → length (slots_of rows ps) ≤ length ps
+        → length (cons_option (option_map (slot_taken p.age p.taken) o) (slots_of rows ps)) ≤ length (p ∷ ps)
     go None most = omega (arith, most)
     go (Some t) most = omega (arith, most)
 
 -- slots are in the order of places
-pub rise-order : (ps : List Place) → AgesRise ps → InOrder (slots_of ps)
-rise-order [] rise = tt
-rise-order (p ∷ ps) rise = go p.tuple (slots-All (λ age. p.age < age) ps rise.0) (rise-order ps rise.1)
+pub rise-order : (rows : List (Option Tree)) (ps : List Place) → AgesRise ps → InOrder (slots_of rows ps)
+rise-order rows [] rise = tt
+rise-order rows (p ∷ ps) rise = go (tuple_of rows p) (slots-All rows (λ age. p.age < age) ps rise.0) (rise-order rows ps rise.1)
   where
-    go : (o : Option Tree) → All (λ s. p.age < s.age) (slots_of ps) → InOrder (slots_of ps)
-        → InOrder (cons_option (option_map (slot_taken p.age p.taken) o) (slots_of ps))
+    go : (o : Option Tree) → All (λ s. p.age < s.age) (slots_of rows ps) → InOrder (slots_of rows ps)
+        → InOrder (cons_option (option_map (slot_taken p.age p.taken) o) (slots_of rows ps))
     go None above order = order
     go (Some t) above order = (above, order)
 
@@ -92,7 +92,7 @@ rise-push (r ∷ ps) p rise below = (
   rise-push ps p rise.1 (All-tail (λ q. q.age < p.age) r ps below),
 )
 
-module _ (ps : List Place) (p : Place) (qs : List Place) (rise : AgesRise (ps ++ p ∷ qs)) where
+module _ (rows : List (Option Tree)) (ps : List Place) (p : Place) (qs : List Place) (rise : AgesRise (ps ++ p ∷ qs)) where
   -- the places about one have other ages
   pub others_before : All (λ q. q.age ≢ p.age) ps
   others_before = All-weaker (λ q. q.age < p.age) (λ q. q.age ≢ p.age) (λ q older same. absurd (omega (arith, older, same))) ps
@@ -102,103 +102,100 @@ module _ (ps : List Place) (p : Place) (qs : List Place) (rise : AgesRise (ps ++
   others_behind = All-weaker (λ q. p.age < q.age) (λ q. q.age ≢ p.age) (λ q younger same. absurd (omega (arith, younger, same))) qs
       (rise-back ps (p ∷ qs) rise).0
 
-  before : All (λ s. s.age ≢ p.age) (slots_of ps)
-  before = slots-others p.age ps others_before
+  before : All (λ s. s.age ≢ p.age) (slots_of rows ps)
+  before = slots-others rows p.age ps others_before
 
-  behind : All (λ s. s.age ≢ p.age) (slots_of qs)
-  behind = slots-others p.age qs others_behind
+  behind : All (λ s. s.age ≢ p.age) (slots_of rows qs)
+  behind = slots-others rows p.age qs others_behind
 
   -- the slot of an age is that in its place
-  pub slot_placed : slot_at p.age (slots_of (ps ++ p ∷ qs)) ≡ slot_in p
+  pub slot_placed : slot_at p.age (slots_of rows (ps ++ p ∷ qs)) ≡ slot_in rows p
   slot_placed =
-      ap (slot_at p.age) (slots-append ps (p ∷ qs))
-      ∙ slot_at-pass p.age (slots_of ps) (slots_of (p ∷ qs)) before
-      ∙ go p.tuple
+      ap (slot_at p.age) (slots-append rows ps (p ∷ qs))
+      ∙ slot_at-pass p.age (slots_of rows ps) (slots_of rows (p ∷ qs)) before
+      ∙ go (tuple_of rows p)
     where
-      go : (o : Option Tree) → slot_at p.age (cons_option (option_map (slot_taken p.age p.taken) o) (slots_of qs))
+      go : (o : Option Tree) → slot_at p.age (cons_option (option_map (slot_taken p.age p.taken) o) (slots_of rows qs))
           ≡ option_map (slot_taken p.age p.taken) o
-      go None = slot_at-others p.age (slots_of qs) behind
+      go None = slot_at-others p.age (slots_of rows qs) behind
       go (Some t) =
-          ap (λ b. cond b (Some (slot_taken p.age p.taken t)) (slot_at p.age (slots_of qs))) (eq-eqb p.age p.age refl)
+          ap (λ b. cond b (Some (slot_taken p.age p.taken t)) (slot_at p.age (slots_of rows qs))) (eq-eqb p.age p.age refl)
 
   -- a place whose row goes
-  pub slots-cleared : (q : Place) → q.tuple ≡ None → slots_of (ps ++ q ∷ qs) ≡ filter (is_not_of p.age) (slots_of (ps ++ p ∷ qs))
+  pub slots-cleared : (q : Place) → (tuple_of rows q) ≡ None → slots_of rows (ps ++ q ∷ qs) ≡ filter (is_not_of p.age) (slots_of rows (ps ++ p ∷ qs))
   slots-cleared q gone =
-      slots-append ps (q ∷ qs)
-      ∙ ap (λ o. slots_of ps ++ cons_option (option_map (slot_taken q.age q.taken) o) (slots_of qs)) gone
-      ∙ sym (ap (filter (is_not_of p.age)) (slots-append ps (p ∷ qs))
-      ∙ filter-append (is_not_of p.age) (slots_of ps) (slots_of (p ∷ qs))
-      ∙ ap (λ ss. ss ++ filter (is_not_of p.age) (slots_of (p ∷ qs))) (filter-others p.age (slots_of ps) before)
-      ∙ ap (λ ss. slots_of ps ++ ss) (go p.tuple))
+      slots-append rows ps (q ∷ qs)
+      ∙ ap (λ o. slots_of rows ps ++ cons_option (option_map (slot_taken q.age q.taken) o) (slots_of rows qs)) gone
+      ∙ sym (ap (filter (is_not_of p.age)) (slots-append rows ps (p ∷ qs))
+      ∙ filter-append (is_not_of p.age) (slots_of rows ps) (slots_of rows (p ∷ qs))
+      ∙ ap (λ ss. ss ++ filter (is_not_of p.age) (slots_of rows (p ∷ qs))) (filter-others p.age (slots_of rows ps) before)
+      ∙ ap (λ ss. slots_of rows ps ++ ss) (go (tuple_of rows p)))
     where
-      go : (o : Option Tree) → filter (is_not_of p.age) (cons_option (option_map (slot_taken p.age p.taken) o) (slots_of qs)) ≡ slots_of qs
-      go None = filter-others p.age (slots_of qs) behind
+      go : (o : Option Tree) → filter (is_not_of p.age) (cons_option (option_map (slot_taken p.age p.taken) o) (slots_of rows qs)) ≡ slots_of rows qs
+      go None = filter-others p.age (slots_of rows qs) behind
       go (Some t) =
-          ap (λ b. cond (not b) (slot_taken p.age p.taken t ∷ filter (is_not_of p.age) (slots_of qs)) (filter (is_not_of p.age) (slots_of qs)))
+          ap (λ b. cond (not b) (slot_taken p.age p.taken t ∷ filter (is_not_of p.age) (slots_of rows qs)) (filter (is_not_of p.age) (slots_of rows qs)))
           (eq-eqb p.age p.age refl)
-          ∙ filter-others p.age (slots_of qs) behind
+          ∙ filter-others p.age (slots_of rows qs) behind
 
   -- a place whose row is taken, or there again
-  pub slots-noted : (q : Place) (n : ℕ) → q.age ≡ p.age → q.taken ≡ n → q.tuple ≡ p.tuple
-      → slots_of (ps ++ q ∷ qs) ≡ map (with_taken p.age n) (slots_of (ps ++ p ∷ qs))
+  pub slots-noted : (q : Place) (n : ℕ) → q.age ≡ p.age → q.taken ≡ n → (tuple_of rows q) ≡ (tuple_of rows p)
+      → slots_of rows (ps ++ q ∷ qs) ≡ map (with_taken p.age n) (slots_of rows (ps ++ p ∷ qs))
   slots-noted q n same_age is same_tuple =
-      slots-append ps (q ∷ qs)
-      ∙ ap (λ o. slots_of ps ++ cons_option o (slots_of qs)) noted
-      ∙ sym (ap (map (with_taken p.age n)) (slots-append ps (p ∷ qs))
-      ∙ map-append (with_taken p.age n) (slots_of ps) (slots_of (p ∷ qs))
-      ∙ ap (λ ss. ss ++ map (with_taken p.age n) (slots_of (p ∷ qs)))
-      (map-others (with_taken p.age n) p.age (slots_of ps) (with_taken-other p.age n) before)
-      ∙ ap (λ ss. slots_of ps ++ ss) (go p.tuple))
+      slots-append rows ps (q ∷ qs)
+      ∙ ap (λ o. slots_of rows ps ++ cons_option o (slots_of rows qs)) noted
+      ∙ sym (ap (map (with_taken p.age n)) (slots-append rows ps (p ∷ qs))
+      ∙ map-append (with_taken p.age n) (slots_of rows ps) (slots_of rows (p ∷ qs))
+      ∙ ap (λ ss. ss ++ map (with_taken p.age n) (slots_of rows (p ∷ qs)))
+      (map-others (with_taken p.age n) p.age (slots_of rows ps) (with_taken-other p.age n) before)
+      ∙ ap (λ ss. slots_of rows ps ++ ss) (go (tuple_of rows p)))
     where
-      noted : slot_in q ≡ option_map (slot_taken p.age n) p.tuple
-      noted = ap (λ a. option_map (slot_taken a q.taken) q.tuple) same_age
-          ∙ ap (λ k. option_map (slot_taken p.age k) q.tuple) is
+      noted : slot_in rows q ≡ option_map (slot_taken p.age n) (tuple_of rows p)
+      noted = ap (λ a. option_map (slot_taken a q.taken) (tuple_of rows q)) same_age
+          ∙ ap (λ k. option_map (slot_taken p.age k) (tuple_of rows q)) is
           ∙ ap (option_map (slot_taken p.age n)) same_tuple
 
-      go : (o : Option Tree) → map (with_taken p.age n) (cons_option (option_map (slot_taken p.age p.taken) o) (slots_of qs))
-          ≡ cons_option (option_map (slot_taken p.age n) o) (slots_of qs)
-      go None = map-others (with_taken p.age n) p.age (slots_of qs) (with_taken-other p.age n) behind
+      go : (o : Option Tree) → map (with_taken p.age n) (cons_option (option_map (slot_taken p.age p.taken) o) (slots_of rows qs))
+          ≡ cons_option (option_map (slot_taken p.age n) o) (slots_of rows qs)
+      go None = map-others (with_taken p.age n) p.age (slots_of rows qs) (with_taken-other p.age n) behind
       go (Some t) =
-          ap (λ b. slot_taken p.age (cond b n p.taken) t ∷ map (with_taken p.age n) (slots_of qs)) (eq-eqb p.age p.age refl)
+          ap (λ b. slot_taken p.age (cond b n p.taken) t ∷ map (with_taken p.age n) (slots_of rows qs)) (eq-eqb p.age p.age refl)
           ∙ ap (λ ss. slot_taken p.age n t ∷ ss)
-          (map-others (with_taken p.age n) p.age (slots_of qs) (with_taken-other p.age n) behind)
+          (map-others (with_taken p.age n) p.age (slots_of rows qs) (with_taken-other p.age n) behind)
 
 -- a gap in place of a row is one row less
-pub fewer : (ps : List Place) (p q : Place) (qs : List Place) (t : Tree) → p.tuple ≡ Some t → q.tuple ≡ None
-    → length (slots_of (ps ++ p ∷ qs)) ≡ length (slots_of (ps ++ q ∷ qs)) + 1
-fewer ps p q qs t some gone =
-    let with_row : length (slots_of (p ∷ qs)) ≡ suc (length (slots_of qs)) = ap (λ o. length (cons_option (option_map (slot_taken p.age p.taken) o) (slots_of qs))) some in
-    let without : length (slots_of (q ∷ qs)) ≡ length (slots_of qs) = ap (λ o. length (cons_option (option_map (slot_taken q.age q.taken) o) (slots_of qs))) gone in
-    let old = ap length (slots-append ps (p ∷ qs)) ∙ length-append (slots_of ps) (slots_of (p ∷ qs)) in
-    let new = ap length (slots-append ps (q ∷ qs)) ∙ length-append (slots_of ps) (slots_of (q ∷ qs)) in
+pub fewer : (rows : List (Option Tree)) (ps : List Place) (p q : Place) (qs : List Place) (t : Tree) → (tuple_of rows p) ≡ Some t → (tuple_of rows q) ≡ None
+    → length (slots_of rows (ps ++ p ∷ qs)) ≡ length (slots_of rows (ps ++ q ∷ qs)) + 1
+fewer rows ps p q qs t some gone =
+    let with_row : length (slots_of rows (p ∷ qs)) ≡ suc (length (slots_of rows qs)) = ap (λ o. length (cons_option (option_map (slot_taken p.age p.taken) o) (slots_of rows qs))) some in
+    let without : length (slots_of rows (q ∷ qs)) ≡ length (slots_of rows qs) = ap (λ o. length (cons_option (option_map (slot_taken q.age q.taken) o) (slots_of rows qs))) gone in
+    let old = ap length (slots-append rows ps (p ∷ qs)) ∙ length-append (slots_of rows ps) (slots_of rows (p ∷ qs)) in
+    let new = ap length (slots-append rows ps (q ∷ qs)) ∙ length-append (slots_of rows ps) (slots_of rows (q ∷ qs)) in
     omega (arith, with_row, without, old, new)
 
-abbrev with_tuple : Place → Option Tree → Place
-with_tuple p o = record { age = p.age; taken = p.taken; tuple = o }
-
 -- gaps give no slots
-pub slots-gap : (ps : List Place) (p : Place) → p.tuple ≡ None → slots_of (ps ++ p ∷ []) ≡ slots_of ps
-slots-gap [] p gone = ap (λ o. cons_option (option_map (slot_taken p.age p.taken) o) []) gone
-slots-gap (q ∷ ps) p gone = ap (cons_option (slot_in q)) (slots-gap ps p gone)
+pub slots-gap : (rows : List (Option Tree)) (ps : List Place) (p : Place) → row_in p ≡ None → slots_of rows (ps ++ p ∷ []) ≡ slots_of rows ps
+slots-gap rows [] p gone = ap (λ o. cons_option (option_map (slot_taken p.age p.taken) (tuple_by rows o)) []) gone
+slots-gap rows (q ∷ ps) p gone = ap (cons_option (slot_in rows q)) (slots-gap rows ps p gone)
 
 abbrev pub is_filled : Place → Bool
-is_filled p = is_some p.tuple
+is_filled p = is_some (row_in p)
 
-pub slots-together : (ps : List Place) → slots_of (filter is_filled ps) ≡ slots_of ps
-slots-together [] = refl
-slots-together (p ∷ ps) = go p.tuple refl (slots-together ps)
+pub slots-together : (rows : List (Option Tree)) (ps : List Place) → slots_of rows (filter is_filled ps) ≡ slots_of rows ps
+slots-together rows [] = refl
+slots-together rows (p ∷ ps) = go (row_in p) refl (slots-together rows ps)
   where
-    go : (o : Option Tree) → p.tuple ≡ o → slots_of (filter is_filled ps) ≡ slots_of ps
-        → slots_of (cond (is_some o) (p ∷ filter is_filled ps) (filter is_filled ps))
-        ≡ cons_option (option_map (slot_taken p.age p.taken) o) (slots_of ps)
+    go : (o : Option ℕ) → row_in p ≡ o → slots_of rows (filter is_filled ps) ≡ slots_of rows ps
+        → slots_of rows (cond (is_some o) (p ∷ filter is_filled ps) (filter is_filled ps))
+        ≡ cons_option (option_map (slot_taken p.age p.taken) (tuple_by rows o)) (slots_of rows ps)
     go None is rest = rest
-    go (Some t) is rest =
-        ap (λ o. cons_option (option_map (slot_taken p.age p.taken) o) (slots_of (filter is_filled ps))) is
-        ∙ ap (λ ss. slot_taken p.age p.taken t ∷ ss) rest
+    go (Some row) is rest =
+        ap (λ o. cons_option (option_map (slot_taken p.age p.taken) (tuple_by rows o)) (slots_of rows (filter is_filled ps))) is
+        ∙ ap (cons_option (option_map (slot_taken p.age p.taken) (tuple_by rows (Some row)))) rest
 
 -- what a place tells of the slots of its age
-pub placed_taken : (age : ℕ) (ss : List Slot) (p : Place) → InOrder ss → slot_at age ss ≡ slot_in p → All (λ s. s.age ≡ age → s.taken ≡ p.taken) ss
-placed_taken age ss p order = go p.tuple
+pub placed_taken : (rows : List (Option Tree)) (age : ℕ) (ss : List Slot) (p : Place) → InOrder ss → slot_at age ss ≡ slot_in rows p → All (λ s. s.age ≡ age → s.taken ≡ p.taken) ss
+placed_taken rows age ss p order = go (tuple_of rows p)
   where
     go : (o : Option Tree) → slot_at age ss ≡ option_map (slot_taken p.age p.taken) o → All (λ s. s.age ≡ age → s.taken ≡ p.taken) ss
     go None found = All-weaker (λ s. s.age ≢ age) (λ s. s.age ≡ age → s.taken ≡ p.taken) (λ s other same. absurd (other same)) ss
@@ -279,15 +276,15 @@ point_of_test age ps i point = (
 )
 
 -- the last place of a list that ends with a row
-pub ends-last : (ps : List Place) (p : Place) → EndsFilled (ps ++ p ∷ []) → IsTrue (is_some p.tuple)
+pub ends-last : (ps : List Place) (p : Place) → EndsFilled (ps ++ p ∷ []) → IsTrue (is_some (row_in p))
 ends-last [] p ends = ends.0 refl
 ends-last (q ∷ ps) p ends = ends-last ps p ends.1
 
-pub ends-push : (ps : List Place) (p : Place) → IsTrue (is_some p.tuple) → EndsFilled (ps ++ p ∷ [])
+pub ends-push : (ps : List Place) (p : Place) → IsTrue (is_some (row_in p)) → EndsFilled (ps ++ p ∷ [])
 ends-push [] p filled = (λ none. filled, tt)
 ends-push (q ∷ ps) p filled = (λ none. absurd (not_nil ps [] p none), ends-push ps p filled)
 
-pub ends-again : (ps : List Place) (p q : Place) (qs : List Place) → q.tuple ≡ p.tuple → EndsFilled (ps ++ p ∷ qs) → EndsFilled (ps ++ q ∷ qs)
+pub ends-again : (ps : List Place) (p q : Place) (qs : List Place) → row_in q ≡ row_in p → EndsFilled (ps ++ p ∷ qs) → EndsFilled (ps ++ q ∷ qs)
 ends-again [] p q qs same ends = (λ none. ap is_some same ∙ ends.0 none, ends.1)
 ends-again (o ∷ ps) p q qs same ends = (λ none. absurd (not_nil ps qs q none), ends-again ps p q qs same ends.1)
 
@@ -298,76 +295,46 @@ ends-all (p ∷ ps) filled = (
   ends-all ps (All-tail (λ q. is_filled q ≡ true) p ps filled),
 )
 
+-- a place that is no gap has a tuple
+pub has_tuple : (rows : List (Option Tree)) (p : Place) → HasTuple rows p → IsTrue (is_some (row_in p)) → IsTrue (is_some (tuple_of rows p))
+has_tuple rows p full = go (row_in p) refl
+  where
+    go : (o : Option ℕ) → row_in p ≡ o → IsTrue (is_some o) → IsTrue (is_some (tuple_by rows o))
+    go None is filled = absurd (true≢false (sym filled))
+    go (Some row) is filled = full row is
+
 -- an age's place
 abbrev pub IsPlaceOf : ℕ → List Place → ℕ → Type 0
 IsPlaceOf age ps i = (i < length ps) × HoldsAt (λ p. p.age ≡ age) ps i
 
-module _ (age i : ℕ) (ps : List Place) (p : Place) (rise : AgesRise ps) (at : IsPlaceOf age ps i) (read : p ≡ get_or ps i p) where
-  placed : ps ≡ take i ps ++ p ∷ drop (i + 1) ps
+module _ (rows : List (Option Tree)) (age i : ℕ) (ps : List Place) (p : Place) (rise : AgesRise ps) (at : IsPlaceOf age ps i) (read : p ≡ get_or ps i p) where
+  pub placed : ps ≡ take i ps ++ p ∷ drop (i + 1) ps
   placed = split_read ps i p at.0 read
 
   rise_placed : AgesRise (take i ps ++ p ∷ drop (i + 1) ps)
   rise_placed = subst AgesRise placed rise
 
-  same_age : p.age ≡ age
+  pub same_age : p.age ≡ age
   same_age = ap (λ (q : Place). q.age) read ∙ at.1 p
 
   -- the slot of an age is that of its place
-  pub slot_found : slot_in p ≡ slot_at age (slots_of ps)
+  pub slot_found : slot_in rows p ≡ slot_at age (slots_of rows ps)
   slot_found =
-      sym (slot_placed (take i ps) p (drop (i + 1) ps) rise_placed)
-      ∙ ap (λ qs. slot_at p.age (slots_of qs)) (sym placed)
-      ∙ ap (λ a. slot_at a (slots_of ps)) same_age
+      sym (slot_placed rows (take i ps) p (drop (i + 1) ps) rise_placed)
+      ∙ ap (λ qs. slot_at p.age (slots_of rows qs)) (sym placed)
+      ∙ ap (λ a. slot_at a (slots_of rows ps)) same_age
 
   -- its row is taken, or there again
-  pub slots-set_taken : (n : ℕ) → slots_of (set ps i (record { age = p.age; taken = n; tuple = p.tuple })) ≡ map (with_taken age n) (slots_of ps)
+  pub slots-set_taken : (n : ℕ) → slots_of rows (set ps i (record { age = p.age; taken = n; row = p.row })) ≡ map (with_taken age n) (slots_of rows ps)
   slots-set_taken n =
-      let q : Place = record { age = p.age; taken = n; tuple = p.tuple } in
-      ap slots_of (set_parts ps i q at.0)
-      ∙ slots-noted (take i ps) p (drop (i + 1) ps) rise_placed q n refl refl refl
-      ∙ ap (λ qs. map (with_taken p.age n) (slots_of qs)) (sym placed)
-      ∙ ap (λ a. map (with_taken a n) (slots_of ps)) same_age
-
-  pub kept-set_taken : (n filled : ℕ) → AreRowPlaces ps filled → AreRowPlaces (set ps i (record { age = p.age; taken = n; tuple = p.tuple })) filled
-  kept-set_taken n filled kept =
-      let q : Place = record { age = p.age; taken = n; tuple = p.tuple } in
-      let is : set ps i q ≡ take i ps ++ q ∷ drop (i + 1) ps = set_parts ps i q at.0 in
-      record {
-        rise = subst AgesRise (sym is) (rise-again (take i ps) p q (drop (i + 1) ps) refl rise_placed);
-        ends = subst EndsFilled (sym is) (ends-again (take i ps) p q (drop (i + 1) ps) refl (subst EndsFilled placed kept.ends));
-        count = kept.count ∙ sym (ap length (slots-set_taken n) ∙ length-map (slots_of ps) (with_taken age n));
-      }
-
-  -- its row goes
-  pub rise-cleared : AgesRise (set ps i (record { age = p.age; taken = p.taken; tuple = None }))
-  rise-cleared =
-      let q : Place = record { age = p.age; taken = p.taken; tuple = None } in
-      subst AgesRise (sym (set_parts ps i q at.0)) (rise-again (take i ps) p q (drop (i + 1) ps) refl rise_placed)
-
-  pub slots-set_gone : slots_of (set ps i (record { age = p.age; taken = p.taken; tuple = None })) ≡ filter (is_not_of age) (slots_of ps)
-  slots-set_gone =
-      let q : Place = record { age = p.age; taken = p.taken; tuple = None } in
-      ap slots_of (set_parts ps i q at.0)
-      ∙ slots-cleared (take i ps) p (drop (i + 1) ps) rise_placed q refl
-      ∙ ap (λ qs. filter (is_not_of p.age) (slots_of qs)) (sym placed)
-      ∙ ap (λ a. filter (is_not_of a) (slots_of ps)) same_age
-
-  pub fewer_gone : (t : Tree) → p.tuple ≡ Some t
-      → length (slots_of ps) ≡ length (slots_of (set ps i (record { age = p.age; taken = p.taken; tuple = None }))) + 1
-  fewer_gone t some =
-      let q : Place = record { age = p.age; taken = p.taken; tuple = None } in
-      ap (λ qs. length (slots_of qs)) placed
-      ∙ fewer (take i ps) p q (drop (i + 1) ps) t some refl
-      ∙ ap (λ qs. length (slots_of qs) + 1) (sym (set_parts ps i q at.0))
-
-  pub same_gone : p.tuple ≡ None → set ps i (record { age = p.age; taken = p.taken; tuple = None }) ≡ ps
-  same_gone none =
-      ap (λ o. set ps i (with_tuple p o)) (sym none)
-      ∙ ap (λ q. set ps i q) read
-      ∙ set-get_or ps i p
+      let q : Place = record { age = p.age; taken = n; row = p.row } in
+      ap (slots_of rows) (set_parts ps i q at.0)
+      ∙ slots-noted rows (take i ps) p (drop (i + 1) ps) rise_placed q n refl refl refl
+      ∙ ap (λ qs. map (with_taken p.age n) (slots_of rows qs)) (sym placed)
+      ∙ ap (λ a. map (with_taken a n) (slots_of rows ps)) same_age
 
 -- the first row from an age on
-module _ (from i : ℕ) (ps : List Place) (rise : AgesRise ps) (inside : i ≤ length ps) (point : IsPointOf from ps i) where
+module _ (rows : List (Option Tree)) (from i : ℕ) (ps : List Place) (rise : AgesRise ps) (inside : i ≤ length ps) (point : IsPointOf from ps i) where
   older : All (λ p. p.age < from) (take i ps)
   older k d within =
       let below : k < i = omega (arith, within, length-take-le i ps inside) in
@@ -378,70 +345,74 @@ module _ (from i : ℕ) (ps : List Place) (rise : AgesRise ps) (inside : i ≤ l
       let below : i + k < length ps = omega (arith, within, length-drop i ps) in
       subst (λ q. from ≤ q.age) (sym (get_or-drop i ps k d)) (point.1 (i + k) d (omega arith) below)
 
-  parts : slots_of ps ≡ slots_of (take i ps) ++ slots_of (drop i ps)
-  parts = ap slots_of (sym (take-append-drop i ps)) ∙ slots-append (take i ps) (drop i ps)
+  parts : slots_of rows ps ≡ slots_of rows (take i ps) ++ slots_of rows (drop i ps)
+  parts = ap (slots_of rows) (sym (take-append-drop i ps)) ∙ slots-append rows (take i ps) (drop i ps)
 
-  pub none_behind : slots_of (drop i ps) ≡ [] → All (λ s. from ≤ s.age → ⊥) (slots_of ps)
+  pub none_behind : slots_of rows (drop i ps) ≡ [] → All (λ s. from ≤ s.age → ⊥) (slots_of rows ps)
   none_behind none =
-      subst (All (λ s. from ≤ s.age → ⊥)) (sym (parts ∙ ap (λ ss. slots_of (take i ps) ++ ss) none))
-      (All-append (λ s. from ≤ s.age → ⊥) (slots_of (take i ps)) []
-      (slots-All (λ a. from ≤ a → ⊥) (take i ps)
+      subst (All (λ s. from ≤ s.age → ⊥)) (sym (parts ∙ ap (λ ss. slots_of rows (take i ps) ++ ss) none))
+      (All-append (λ s. from ≤ s.age → ⊥) (slots_of rows (take i ps)) []
+      (slots-All rows (λ a. from ≤ a → ⊥) (take i ps)
       (All-weaker (λ p. p.age < from) (λ p. from ≤ p.age → ⊥) (λ p less up. absurd (omega (arith, less, up))) (take i ps) older))
       (All-nil (λ s. from ≤ s.age → ⊥)))
 
-module _ (from i : ℕ) (ps : List Place) (rise : AgesRise ps) (inside : i ≤ length ps) (point : IsPointOf from ps i)
-    (p : Place) (gaps rest : List Place) (split : drop i ps ≡ gaps ++ p ∷ rest) (none : slots_of gaps ≡ []) where
+module _ (rows : List (Option Tree)) (from i : ℕ) (ps : List Place) (rise : AgesRise ps) (inside : i ≤ length ps) (point : IsPointOf from ps i)
+    (p : Place) (gaps rest : List Place) (split : drop i ps ≡ gaps ++ p ∷ rest) (none : slots_of rows gaps ≡ []) where
   whole : ps ≡ (take i ps ++ gaps) ++ p ∷ rest
   whole =
       sym (take-append-drop i ps) ∙ ap (λ qs. take i ps ++ qs) split ∙ sym (append_assoc (take i ps) gaps (p ∷ rest))
 
-  pub first_least : (from ≤ p.age) × All (λ s. from ≤ s.age → s.age < p.age → ⊥) (slots_of ps)
+  pub first_least : (from ≤ p.age) × All (λ s. from ≤ s.age → s.age < p.age → ⊥) (slots_of rows ps)
   first_least =
       let Not : Slot → Type 0 = λ s. from ≤ s.age → s.age < p.age → ⊥ in
       let above : All (λ q. p.age ≤ q.age) (p ∷ rest) =
       All-cons (λ q. p.age ≤ q.age) p rest (omega arith)
       (All-weaker (λ q. p.age < q.age) (λ q. p.age ≤ q.age) (λ q less. omega (arith, less)) rest
       (rise-back (take i ps ++ gaps) (p ∷ rest) (subst AgesRise whole rise)).0) in
-      let before : All Not (slots_of (take i ps)) =
-      slots-All (λ a. from ≤ a → a < p.age → ⊥) (take i ps)
-      (All-weaker (λ q. q.age < from) (λ q. from ≤ q.age → q.age < p.age → ⊥) (λ q less up below. absurd (omega (arith, less, up))) (take i ps) (older from i ps rise inside point)) in
-      let behind : All Not (slots_of (p ∷ rest)) =
-      slots-All (λ a. from ≤ a → a < p.age → ⊥) (p ∷ rest)
+      let before : All Not (slots_of rows (take i ps)) =
+      slots-All rows (λ a. from ≤ a → a < p.age → ⊥) (take i ps)
+      (All-weaker (λ q. q.age < from) (λ q. from ≤ q.age → q.age < p.age → ⊥) (λ q less up below. absurd (omega (arith, less, up))) (take i ps) (older rows from i ps rise inside point)) in
+      let behind : All Not (slots_of rows (p ∷ rest)) =
+      slots-All rows (λ a. from ≤ a → a < p.age → ⊥) (p ∷ rest)
       (All-weaker (λ q. p.age ≤ q.age) (λ q. from ≤ q.age → q.age < p.age → ⊥) (λ q up_to up below. absurd (omega (arith, up_to, below))) (p ∷ rest) above) in
-      let back : slots_of (drop i ps) ≡ slots_of (p ∷ rest) =
-      ap slots_of split ∙ slots-append gaps (p ∷ rest) ∙ ap (λ ss. ss ++ slots_of (p ∷ rest)) none in (
-        All-head (λ q. from ≤ q.age) p rest (All-append_right (λ q. from ≤ q.age) gaps (p ∷ rest) (subst (All (λ q. from ≤ q.age)) split (younger from i ps rise inside point))),
-        subst (All Not) (sym (parts from i ps rise inside point ∙ ap (λ ss. slots_of (take i ps) ++ ss) back))
-            (All-append Not (slots_of (take i ps)) (slots_of (p ∷ rest)) before behind),
+      let back : slots_of rows (drop i ps) ≡ slots_of rows (p ∷ rest) =
+      ap (slots_of rows) split ∙ slots-append rows gaps (p ∷ rest) ∙ ap (λ ss. ss ++ slots_of rows (p ∷ rest)) none in (
+        All-head (λ q. from ≤ q.age) p rest (All-append_right (λ q. from ≤ q.age) gaps (p ∷ rest) (subst (All (λ q. from ≤ q.age)) split (younger rows from i ps rise inside point))),
+        subst (All Not) (sym (parts rows from i ps rise inside point ∙ ap (λ ss. slots_of rows (take i ps) ++ ss) back))
+            (All-append Not (slots_of rows (take i ps)) (slots_of rows (p ∷ rest)) before behind),
       )
 
-  pub first_taken : All (λ s. s.age ≡ p.age → s.taken ≡ p.taken) (slots_of ps)
+  pub first_taken : All (λ s. s.age ≡ p.age → s.taken ≡ p.taken) (slots_of rows ps)
   first_taken =
-      placed_taken p.age (slots_of ps) p (rise-order ps rise)
-      (ap (λ qs. slot_at p.age (slots_of qs)) whole ∙ slot_placed (take i ps ++ gaps) p rest (subst AgesRise whole rise))
+      placed_taken rows p.age (slots_of rows ps) p (rise-order rows ps rise)
+      (ap (λ qs. slot_at p.age (slots_of rows qs)) whole ∙ slot_placed rows (take i ps ++ gaps) p rest (subst AgesRise whole rise))
+
+last_of : (P : Place → Type 0) (ps : List Place) (p : Place) → All P (ps ++ p ∷ []) → P p
+last_of P ps p all = All-head P p [] (All-append_right P ps (p ∷ []) all)
 
 -- the row in the last place is the youngest
-pub last_youngest : (ps : List Place) (p : Place) → EndsFilled ps → slice_get ps (length ps - 1) ≡ Some p → IsYoungest (slots_of ps) p.age
-last_youngest ps p ends read =
+pub last_youngest : (rows : List (Option Tree)) (ps : List Place) (p : Place) → All (HasTuple rows) ps → EndsFilled ps → slice_get ps (length ps - 1) ≡ Some p → IsYoungest (slots_of rows ps) p.age
+last_youngest rows ps p full ends read =
     let last = push_from_last ps p read in
     let before = last.0 in
-    go before p.tuple (ap slots_of last.1 ∙ slots-append before (p ∷ [])) (ends-last before p (subst EndsFilled last.1 ends))
+    go before (tuple_of rows p) (ap (slots_of rows) last.1 ∙ slots-append rows before (p ∷ []))
+    (has_tuple rows p (last_of (HasTuple rows) before p (subst (All (HasTuple rows)) last.1 full)) (ends-last before p (subst EndsFilled last.1 ends)))
   where
-    go : (front : List Place) (o : Option Tree) → slots_of ps ≡ slots_of front ++ cons_option (option_map (slot_taken p.age p.taken) o) []
-        → IsTrue (is_some o) → IsYoungest (slots_of ps) p.age
+    go : (front : List Place) (o : Option Tree) → slots_of rows ps ≡ slots_of rows front ++ cons_option (option_map (slot_taken p.age p.taken) o) []
+        → IsTrue (is_some o) → IsYoungest (slots_of rows ps) p.age
     go front None split filled = absurd (true≢false (sym filled))
     go front (Some t) split filled = record {
-      before = slots_of front;
+      before = slots_of rows front;
       last = slot_taken p.age p.taken t;
       split = split;
       same = refl;
     }
 
-top_below : (age : ℕ) (before : List Place) (top : Place) → IsTrue (is_some top.tuple) → All (λ s. s.age < age) (slots_of (before ++ top ∷ []))
+top_below : (rows : List (Option Tree)) (age : ℕ) (before : List Place) (top : Place) → IsTrue (is_some (tuple_of rows top)) → All (λ s. s.age < age) (slots_of rows (before ++ top ∷ []))
     → top.age < age
-top_below age before top filled below =
-    go top.tuple filled (All-append_right (λ s. s.age < age) (slots_of before) (slots_of (top ∷ []))
-    (subst (All (λ s. s.age < age)) (slots-append before (top ∷ [])) below))
+top_below rows age before top filled below =
+    go (tuple_of rows top) filled (All-append_right (λ s. s.age < age) (slots_of rows before) (slots_of rows (top ∷ []))
+    (subst (All (λ s. s.age < age)) (slots-append rows before (top ∷ [])) below))
   where
     go : (o : Option Tree) → IsTrue (is_some o) → All (λ s. s.age < age) (cons_option (option_map (slot_taken top.age top.taken) o) [])
         → top.age < age
@@ -449,13 +420,15 @@ top_below age before top filled below =
     go (Some t) filled below = All-head (λ s. s.age < age) (slot_taken top.age top.taken t) [] below
 
 -- what is older than all rows is so of all places
-pub places_below : (age : ℕ) (ps : List Place) → AgesRise ps → EndsFilled ps → All (λ s. s.age < age) (slots_of ps) → All (λ p. p.age < age) ps
-places_below age ps rise filled below =
+pub places_below : (rows : List (Option Tree)) (age : ℕ) (ps : List Place) → AgesRise ps → All (HasTuple rows) ps → EndsFilled ps → All (λ s. s.age < age) (slots_of rows ps) → All (λ p. p.age < age) ps
+places_below rows age ps rise full filled below =
     elim (nil_or_push ps) [
       | inl none ↦ subst (All (λ p. p.age < age)) (sym none) (All-nil (λ p. p.age < age))
       | inr (before, top, split) ↦
           let here : top.age < age =
-          top_below age before top (ends-last before top (subst EndsFilled split filled)) (subst (λ qs. All (λ s. s.age < age) (slots_of qs)) split below) in
+          top_below rows age before top
+          (has_tuple rows top (last_of (HasTuple rows) before top (subst (All (HasTuple rows)) split full)) (ends-last before top (subst EndsFilled split filled)))
+          (subst (λ qs. All (λ s. s.age < age) (slots_of rows qs)) split below) in
           subst (All (λ p. p.age < age)) (sym split)
           (All-append (λ p. p.age < age) before (top ∷ [])
           (All-weaker (λ p. p.age < top.age) (λ p. p.age < age) (λ p less. omega (arith, less, here)) before
@@ -464,42 +437,33 @@ places_below age ps rise filled below =
     ]
 
 -- a row is put behind the others
-pub slots-push : (ps : List Place) (p : Place) (t : Tree) → p.tuple ≡ Some t → slots_of (ps ++ p ∷ []) ≡ slots_of ps ++ slot_taken p.age p.taken t ∷ []
-slots-push ps p t some =
-    slots-append ps (p ∷ []) ∙ ap (λ o. slots_of ps ++ cons_option (option_map (slot_taken p.age p.taken) o) []) some
-
-pub kept-push : (ps : List Place) (filled : ℕ) (p : Place) (t : Tree) → AreRowPlaces ps filled → p.tuple ≡ Some t
-    → All (λ s. s.age < p.age) (slots_of ps) → AreRowPlaces (ps ++ p ∷ []) (filled + 1)
-kept-push ps filled p t kept some below = record {
-  rise = rise-push ps p kept.rise (places_below p.age ps kept.rise kept.ends below);
-  ends = ends-push ps p (ap is_some some);
-  count =
-      omega (arith, kept.count, ap length (slots-push ps p t some), length-append (slots_of ps) (slot_taken p.age p.taken t ∷ []));
-}
+pub slots-push : (rows : List (Option Tree)) (ps : List Place) (p : Place) (t : Tree) → (tuple_of rows p) ≡ Some t → slots_of rows (ps ++ p ∷ []) ≡ slots_of rows ps ++ slot_taken p.age p.taken t ∷ []
+slots-push rows ps p t some =
+    slots-append rows ps (p ∷ []) ∙ ap (λ o. slots_of rows ps ++ cons_option (option_map (slot_taken p.age p.taken) o) []) some
 
 -- a slice to the end
 pub sliced : (i : ℕ) (ps : List Place) → take (length ps - i) (drop i ps) ≡ drop i ps
 sliced i ps = take_all (length ps - i) (drop i ps) (omega (arith, length-drop i ps))
 
 -- the last place is a gap
-pub gap-read : (ps before : List Place) (p : Place) → ps ≡ before ++ p ∷ [] → p.tuple ≡ None → slots_of before ≡ slots_of ps
-gap-read ps before p split gone = sym (ap slots_of split ∙ slots-gap before p gone)
+pub gap-read : (rows : List (Option Tree)) (ps before : List Place) (p : Place) → ps ≡ before ++ p ∷ [] → row_in p ≡ None → slots_of rows before ≡ slots_of rows ps
+gap-read rows ps before p split gone = sym (ap (slots_of rows) split ∙ slots-gap rows before p gone)
 
 -- without a gap at the end
 pub popped : (ps new : List Place) (p : Place) (n : ℕ) → slice_get ps (length ps - 1) ≡ Some p → n ≡ length ps → new ≡ take (n - 1) ps
-    → p.tuple ≡ None → AgesRise ps → (slots_of new ≡ slots_of ps) × AgesRise new
+    → row_in p ≡ None → AgesRise ps → ((rows : List (Option Tree)) → slots_of rows new ≡ slots_of rows ps) × AgesRise new
 popped ps new p n read many is gone rise =
     let last = push_from_last ps p read in
     let before = last.0 in
     let place : n - 1 ≡ length before = omega (arith, many, ap length last.1, length-append before (p ∷ [])) in
     let left : new ≡ before =
     is ∙ ap (take (n - 1)) last.1 ∙ ap (λ k. take k (before ++ p ∷ [])) place ∙ take-append_seam before (p ∷ []) in (
-      ap slots_of left ∙ gap-read ps before p last.1 gone,
+      λ rows. ap (slots_of rows) left ∙ gap-read rows ps before p last.1 gone,
       subst AgesRise (sym left) (rise-front before (p ∷ []) (subst AgesRise last.1 rise)),
     )
 
 -- the last place is a row
-pub ends-read : (ps : List Place) (p : Place) → slice_get ps (length ps - 1) ≡ Some p → IsTrue (is_some p.tuple) → EndsFilled ps
+pub ends-read : (ps : List Place) (p : Place) → slice_get ps (length ps - 1) ≡ Some p → IsTrue (is_some (row_in p)) → EndsFilled ps
 ends-read ps p read filled =
     let last = push_from_last ps p read in
     subst EndsFilled (sym last.1) (ends-push last.0 p filled)

@@ -4,8 +4,10 @@ pub mod Ages
 pub mod PairOrder
 pub mod ByAge
 pub mod Gaps
+pub mod Kept
 pub mod Searching
 pub mod Logged
 pub mod Stocks
+pub mod Looks
 pub mod Walks
 pub mod Begun

@@ -5,6 +5,7 @@ use Rattle.tc_lists.specs.Codes.{mixed}
 use Rattle.tc_term.specs.Tree.{Tree, Variable, Atomic, Number, Compound}
 use Rattle.tc_bag.specs.declared.key.Key.{Key}
 use Rattle.tc_bag.specs.declared.key.Key.TheVariants.{Any, Int, Atom, Comp}
+use Rattle.tc_bag.specs.declared.codes.Codes.{Codes}
 use Rattle.tc_bag.specs.Keys.{arity, first_of, key_of}
 
 -- the code of a key
@@ -28,6 +29,10 @@ first_code (Atomic name) = None
 first_code (Number n) = None
 first_code (Compound name args) =
     Some (mixed (key_code (key_of (Compound name args))) (top_code (first_of args)))
+
+-- the codes of a tuple
+abbrev pub codes_of : Tree → Codes
+codes_of t = record { key = key_code (key_of t); first = first_code t }
 
 -- the code of the tuples with a key and, where one is given, a first argument
 abbrev pub code_like : Key → Option Tree → ℕ

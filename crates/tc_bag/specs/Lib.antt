@@ -4,5 +4,7 @@ pub mod Codes
 pub mod Stock
 pub mod Pairs
 pub mod Ages
+pub mod Rows
+pub mod Looks
 pub mod Slots
 pub mod Places

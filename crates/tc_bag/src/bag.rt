@@ -1,7 +1,7 @@
 //! The bag.
+use crate::held::Held;
 use crate::key::{Key, Lent};
 use crate::log::{discard, unwind};
-use crate::rows::Rows;
 use crate::slots::Mark;
 use std::alloc::Global;
 use std::marker::Model;
@@ -22,7 +22,7 @@ pub enum PutFault {
 /// A mark copies nothing: a row that is taken after it stays where it was, out of the index.
 #[derive(Drop)]
 pub struct Bag {
-    rows: Rows,
+    rows: Held,
     next: u64,
     log: Vec<u64>,
     marks: Vec<Mark>,
@@ -46,8 +46,8 @@ impl Model for Bag {
 }
 
 impl Bag {
-    ghost use Rattle.std.specs.Prelude.{◌≡◌, ◌^◌, ◌<◌, [], length, slice_get, All};
-    ghost use Rattle.std.specs.Prelude.{OnOk, OnErr, IfErr, IfSome, IfNone};
+    ghost use Rattle.std.specs.Prelude.{◌≡◌, ◌+◌, ◌^◌, ◌<◌, ◌≤◌, [], length, slice_get, All};
+    ghost use Rattle.std.specs.Prelude.{OnOk, OnErr, IfErr, IfSome, IfNone, None};
     ghost use Rattle.std.specs.Option.{option_copied};
     ghost use Rattle.tc_lists.specs.Firsts.{NoneOf, IsFirst};
     ghost use Rattle.tc_lists.specs.Marks.{IsBack, IsGivenUp};
@@ -55,6 +55,7 @@ impl Bag {
     ghost use Rattle.tc_term.specs.TreeView.{tree_of};
     ghost use Rattle.tc_bag.specs.Keys.{key_of};
     ghost use Rattle.tc_bag.specs.Lent.{lent_key, lent_tree};
+    ghost use Rattle.tc_bag.specs.Looks.{like_between, like_from};
     ghost use Rattle.tc_bag.specs.Stock.{row, tuples_of, AgesRiseBelow, IsCandidate, IsCandidateLike};
     ghost use Rattle.tc_bag.specs.Stock.{tuple_at, without_age, with_tuple, saved_of, marked};
     ghost use Rattle.tc_bag.specs.Stock.{begun, HasGone};
@@ -64,7 +65,7 @@ impl Bag {
         ensures { result ≡ record { now = []; next = 0; saved = [] } }
     {
         Bag {
-            rows: Rows::new(alloc),
+            rows: Held::new(alloc),
             next: 0,
             log: Vec::new(alloc),
             marks: Vec::new(alloc),
@@ -84,16 +85,21 @@ impl Bag {
             (λ r. IsFirst (IsCandidate key.now from) self.now.now (row r.0 r.1.now)) }
         ensures none { IfNone result (NoneOf (IsCandidate key.now from) self.now.now) }
 
+        // How many tuples are looked at.
+        ensures looked { IfSome result (λ r. steps.new ≡ steps.old + 1) }
+        ensures looked_none { IfNone result (steps.new ≡ steps.old) }
+        ensures steps_rise { steps.old ≤ steps.new }
+
         // What a search needs that goes on from the age found.
         ensures rises { AgesRiseBelow self.now.now self.now.next }
         ensures limit { self.now.next < 2 ^ 64 }
         ensures tuples { All (λ r. IsTuple r.tuple) self.now.now }
     {
-        self.candidate_like(key, None, from, steps)
+        self.first_candidate(key.lend(), None, from, steps)
     }
 
     /// The oldest tuple that agrees with the key, has this first argument where one is given, and
-    /// whose age is at least `from`, with its age.
+    /// whose age is at least `from`, with its age. Tuples of other keys are not looked at.
     ///
     /// No memory is taken.
     pub fn candidate_like<L: Ledger>(
@@ -110,12 +116,19 @@ impl Bag {
             (IsCandidateLike key.now (lent_tree first.entry) from)
             self.now.now) }
 
+        // How many tuples are looked at.
+        ensures looked { IfSome result (λ r. steps.new
+            ≤ steps.old + like_between key.now from (r.0 + 1) self.now.now) }
+        ensures looked_none { IfNone result (steps.new
+            ≤ steps.old + like_from key.now from self.now.now) }
+        ensures steps_rise { steps.old ≤ steps.new }
+
         // What a search needs that goes on from the age found.
         ensures rises { AgesRiseBelow self.now.now self.now.next }
         ensures limit { self.now.next < 2 ^ 64 }
         ensures tuples { All (λ r. IsTuple r.tuple) self.now.now }
     {
-        self.first_candidate(key.lend(), first, from)
+        self.first_candidate(key.lend(), first, from, steps)
     }
 
     /// As `candidate_like` with the template's key, which isn't copied.
@@ -134,29 +147,51 @@ impl Bag {
             (key_of (tree_of template.now)) (lent_tree first.entry) from)
             self.now.now) }
 
+        // How many tuples are looked at.
+        ensures looked { IfSome result (λ r. steps.new
+            ≤ steps.old + like_between (key_of (tree_of template.now)) from (r.0 + 1) self.now.now) }
+        ensures looked_none { IfNone result (steps.new
+            ≤ steps.old + like_from (key_of (tree_of template.now)) from self.now.now) }
+        ensures steps_rise { steps.old ≤ steps.new }
+
         // What a search needs that goes on from the age found.
         ensures rises { AgesRiseBelow self.now.now self.now.next }
         ensures limit { self.now.next < 2 ^ 64 }
         ensures tuples { All (λ r. IsTuple r.tuple) self.now.now }
     {
-        self.first_candidate(Lent::of(template), first, from)
+        self.first_candidate(Lent::of(template), first, from, steps)
     }
 
     // The same by a key that is lent.
-    fn first_candidate(&self, key: Lent, first: Option<&Term>, from: u64) -> Option<(u64, &Ground)>
+    fn first_candidate<L: Ledger>(
+        &self,
+        key: Lent,
+        first: Option<&Term>,
+        from: u64,
+        steps: &mut Steps<L>,
+    ) -> Option<(u64, &Ground)>
         ensures found { IfSome result (λ r. IsFirst (IsCandidateLike
             (lent_key key.entry) (lent_tree first.entry) from)
             self.now.now (row r.0 r.1.now)) }
         ensures none { IfNone result (NoneOf (IsCandidateLike
             (lent_key key.entry) (lent_tree first.entry) from)
             self.now.now) }
+        ensures plain { lent_tree first.entry ≡ None
+            → IfSome result (λ r. steps.new ≡ steps.old + 1) }
+        ensures plain_none { lent_tree first.entry ≡ None
+            → IfNone result (steps.new ≡ steps.old) }
+        ensures looked { IfSome result (λ r. steps.new
+            ≤ steps.old + like_between (lent_key key.entry) from (r.0 + 1) self.now.now) }
+        ensures looked_none { IfNone result (steps.new
+            ≤ steps.old + like_from (lent_key key.entry) from self.now.now) }
+        ensures steps_rise { steps.old ≤ steps.new }
         ensures rises { AgesRiseBelow self.now.now self.now.next }
         ensures limit { self.now.next < 2 ^ 64 }
         ensures tuples { All (λ r. IsTuple r.tuple) self.now.now }
     {
         // Reading it tells that it is a number of 64 bits.
         let _next = self.next;
-        self.rows.first_like(key, first, from)
+        self.rows.first_like(key, first, from, steps)
     }
 
     /// The age that the next tuple that is put will have, above those of all that are there.

@@ -1,32 +1,42 @@
 //! Codes of terms: numbers by which rows are looked up. Terms of one code may differ.
 ghost use Rattle.std.specs.Prelude.{◌≡◌};
 ghost use Rattle.tc_term.specs.TreeView.{tree_of};
-ghost use Rattle.tc_bag.specs.Keys.{key_of};
 ghost use Rattle.tc_bag.specs.Lent.{lent_key, lent_tree};
-ghost use Rattle.tc_bag.specs.Codes.{key_code, top_code, first_code, code_like};
+ghost use Rattle.tc_bag.specs.Codes.{key_code, top_code, codes_of, code_like};
 
 use crate::key::Lent;
 use tc_lists::{mix, mix_all};
-use tc_term::{Ground, Term};
+use tc_term::Term;
 
-/// The code of a tuple's key.
-pub(crate) fn tuple_code(t: &Term) -> u64
-    ensures { result ≡ key_code (key_of (tree_of t.now)) }
-{
-    match t {
-        Term::Int(_) => 1,
-        _ => top_code(t),
-    }
+/// The codes of a tuple: that of its key, and that of its key and first argument, where it has
+/// arguments.
+#[derive(Clone, Copy)]
+pub(crate) struct Codes {
+    pub(crate) key: u64,
+    pub(crate) first: Option<u64>,
 }
 
-/// The code of a term's key and first argument, where it has arguments.
-pub(crate) fn first_code(t: &Term) -> Option<u64>
-    ensures { result ≡ first_code (tree_of t.now) }
+/// The codes of a tuple.
+pub(crate) fn codes_of(t: &Term) -> Codes
+    ensures { result ≡ codes_of (tree_of t.now) }
 {
-    let Term::Comp(_, args) = t else {
-        return None;
-    };
-    Some(mix(top_code(t), top_code(&args.items()[0])))
+    match t {
+        Term::Int(_) => Codes {
+            key: 1,
+            first: None,
+        },
+        Term::Comp(_, args) => {
+            let key = top_code(t);
+            Codes {
+                key,
+                first: Some(mix(key, top_code(&args.items()[0]))),
+            }
+        }
+        _ => Codes {
+            key: top_code(t),
+            first: None,
+        },
+    }
 }
 
 /// The code of the tuples with a key and, where one is given, a first argument.

@@ -1,8 +1,8 @@
 //! Ages by codes.
 ghost use Rattle.std.specs.Prelude.{ℕ, ◌≢◌, ◌<◌, ◌≤◌, IsTrue, OnOk, IfSome, IfNone};
-ghost use Rattle.tc_bag.specs.Ages.{Has, HasRow};
+ghost use Rattle.tc_bag.specs.Ages.{Has, HasCodes};
 
-use crate::codes::{first_code, tuple_code};
+use crate::codes::{Codes, codes_of};
 use crate::pairs::Pairs;
 use std::alloc::Global;
 use tc_lists::NoMemory;
@@ -32,36 +32,34 @@ impl Index {
     }
 
     /// Enters a row.
-    pub(crate) fn enter_row(&mut self, age: u64, tuple: &Ground) -> Result<(), NoMemory>
-        ensures entered { OnOk result (HasRow self.new age tuple.now) }
+    pub(crate) fn enter_row(&mut self, age: u64, codes: Codes) -> Result<(), NoMemory>
+        ensures entered { OnOk result (HasCodes self.new age codes) }
         ensures kept { (c a : ℕ) → Has self.old c a → Has self.new c a }
     {
-        let term = tuple.term();
-        self.pairs.enter(tuple_code(term), age)?;
-        match first_code(term) {
+        self.pairs.enter(codes.key, age)?;
+        match codes.first {
             Some(code) => self.pairs.enter(code, age),
             None => Ok(()),
         }
     }
 
     /// Enters a row again, and tells whether the index is whole, where it was so before.
-    pub(crate) fn enter_again(&mut self, whole: bool, age: u64, tuple: &Ground) -> bool
-        ensures entered { IsTrue result → IsTrue whole × HasRow self.new age tuple.now }
+    pub(crate) fn enter_again(&mut self, whole: bool, age: u64, codes: Codes) -> bool
+        ensures entered { IsTrue result → IsTrue whole × HasCodes self.new age codes }
         ensures kept { (c a : ℕ) → Has self.old c a → Has self.new c a }
     {
-        match self.enter_row(age, tuple) {
+        match self.enter_row(age, codes) {
             Ok(()) => whole,
             Err(_) => false,
         }
     }
 
     /// Removes a row.
-    pub(crate) fn leave_row(&mut self, age: u64, tuple: &Ground)
+    pub(crate) fn leave_row(&mut self, age: u64, codes: Codes)
         ensures kept { (c a : ℕ) → a ≢ age → Has self.old c a → Has self.new c a }
     {
-        let term = tuple.term();
-        self.pairs.leave(tuple_code(term), age);
-        if let Some(code) = first_code(term) {
+        self.pairs.leave(codes.key, age);
+        if let Some(code) = codes.first {
             self.pairs.leave(code, age);
         }
     }
@@ -70,6 +68,6 @@ impl Index {
     pub(crate) fn drop_row(&mut self, age: u64, tuple: Ground)
         ensures kept { (c a : ℕ) → a ≢ age → Has self.old c a → Has self.new c a }
     {
-        self.leave_row(age, &tuple);
+        self.leave_row(age, codes_of(tuple.term()));
     }
 }

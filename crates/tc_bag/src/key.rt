@@ -2,7 +2,7 @@
 ghost use Rattle.std.specs.Prelude.{◌≡◌, ◌↔◌, IfOk, IsTrue};
 ghost use Rattle.tc_term.specs.Tree.{Fits};
 ghost use Rattle.tc_term.specs.TreeView.{tree_of};
-ghost use Rattle.tc_bag.specs.Keys.{known_first, HasFirst, IsLike};
+ghost use Rattle.tc_bag.specs.Keys.{known_first, HasFirst};
 ghost use Rattle.tc_bag.specs.Lent.{lent_key, lent_tree};
 
 use std::alloc::Global;
@@ -83,7 +83,7 @@ impl<'n> Lent<'n> {
     }
 
     /// Whether a tuple has this key, or the key is `Any`.
-    fn agrees(self, tuple: &Ground) -> bool
+    pub(crate) fn agrees(self, tuple: &Ground) -> bool
         ensures { IsTrue result ↔ IsOfKey (lent_key self.entry) tuple.now }
     {
         match (self, tuple.term()) {
@@ -109,16 +109,8 @@ pub fn known_first(t: &Term) -> Option<&Term>
     if first.is_ground() { Some(first) } else { None }
 }
 
-/// Whether a tuple has this key and, where one is given, this first argument.
-pub(crate) fn is_like(key: Lent, first: Option<&Term>, tuple: &Ground) -> bool
-    ensures { IsTrue result
-        ↔ IsLike (lent_key key.entry) (lent_tree first.entry) tuple.now }
-{
-    key.agrees(tuple) && has_first(first, tuple.term())
-}
-
-// Whether a term has this first argument, where one is given.
-fn has_first(first: Option<&Term>, t: &Term) -> bool
+/// Whether a term has this first argument, where one is given.
+pub(crate) fn has_first(first: Option<&Term>, t: &Term) -> bool
     ensures { IsTrue result
         ↔ HasFirst (lent_tree first.entry) (tree_of t.now) }
 {

@@ -2,10 +2,10 @@
 ghost use Rattle.std.specs.Prelude.{◌≡◌, ◌+◌, ◌≤◌, [], length, map, filter, take, vec_capacity, All};
 ghost use Rattle.tc_bag.specs.Slots.{InOrder, IsLogged, is_there, revived};
 
-use crate::rows::Rows;
+use crate::held::Held;
 
 /// Brings back the rows that were taken after so many.
-pub(crate) fn unwind(rows: &mut Rows, log: &mut Vec<u64>, count: usize)
+pub(crate) fn unwind(rows: &mut Held, log: &mut Vec<u64>, count: usize)
     requires order { InOrder rows.old }
     requires logged { All (IsLogged log.old.items) rows.old }
     ensures rows { rows.new ≡ map (revived count) rows.old }
@@ -23,7 +23,7 @@ pub(crate) fn unwind(rows: &mut Rows, log: &mut Vec<u64>, count: usize)
 }
 
 /// Removes the rows that were taken.
-pub(crate) fn discard(rows: &mut Rows, log: &mut Vec<u64>)
+pub(crate) fn discard(rows: &mut Held, log: &mut Vec<u64>)
     requires order { InOrder rows.old }
     requires logged { All (IsLogged log.old.items) rows.old }
     ensures rows { rows.new ≡ filter is_there rows.old }

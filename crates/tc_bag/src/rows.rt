@@ -1,411 +1,113 @@
-//! Rows by age, and an index of their ages.
-ghost use Rattle.std.specs.Prelude.{ℕ, ◌≡◌, All, OnOk};
-ghost use Rattle.std.specs.Option.{option_copied, option_map};
-ghost use Rattle.tc_bag.specs.Ages.{Has};
-ghost use Rattle.tc_bag.specs.Places.{slots_of, slot_if, IsEntered};
+//! Tuples in rows, each by its number.
+ghost use Rattle.std.specs.Prelude.{ℕ, Option};
+ghost use Rattle.tc_term.specs.Tree.{Tree};
+ghost use Rattle.tc_bag.specs.Rows.{tuple_in};
 
-use crate::codes::code_like;
-use crate::index::Index;
-use crate::key::{Lent, is_like};
-use crate::places::Places;
-use crate::slots::Place;
+use crate::bag::PutFault;
+use crate::codes::{Codes, codes_of};
+use crate::key::Lent;
+use slab::Slab;
 use std::alloc::Global;
 use std::marker::Model;
-use tc_lists::NoMemory;
-use tc_term::{Ground, Term};
+use std::sync::ledger::Ledger;
+use tc_steps::Steps;
+use tc_term::Ground;
 
-/// Rows by age, also those that were taken while a mark may bring them back.
+/// Tuples in rows, each by its number.
 ///
-/// No row below the age `start` is there. The index has the age of each row that is there twice: by
-/// the code of its key, and by that of its key and first argument. Where memory ended when a row
-/// came back to it, it isn't `whole`, and searches go through the rows.
+/// A tuple that stays in its row is handed out by `look` alone, and each look is a step.
 #[derive(Drop)]
-pub(crate) struct Rows {
-    places: Places,
-    index: Index,
-    whole: bool,
-    start: u64,
+pub struct Rows {
+    slab: Slab<Ground>,
 }
 
 impl Model for Rows {
-    ghost use Rattle.std.specs.Prelude.{List, All};
+    ghost use Rattle.std.specs.Prelude.{List, Option};
     ghost use Rattle.std.specs.Coded.{codes};
+    ghost use Rattle.tc_term.specs.Tree.{Tree};
     ghost use Rattle.tc_term.specs.TreeCode.{coded_tree};
-    ghost use Rattle.tc_bag.specs.Slots.{Slot};
-    ghost use Rattle.tc_bag.specs.Places.{IsFindable};
 
-    ghost Value = { List Slot };
+    ghost Value = { List (Option Tree) };
 
     ghost coded = { Prim.hlevel (codes, coded_tree) };
 
-    ghost view = { λ r. r.places };
-
-    ghost invariant = { λ r. All (IsFindable r.start r.whole r.index) r.places };
+    ghost view = { λ r. r.slab.slots };
 }
 
 impl Rows {
-    ghost use Rattle.std.specs.Prelude.{◌≡◌, ◌<◌, ◌≤◌, ◌^◌, IsTrue, List, [], ◌∷◌, ◌++◌};
-    ghost use Rattle.std.specs.Prelude.{length, map, filter, slice_get, is_some, All, OnOk};
-    ghost use Rattle.std.specs.Prelude.{OnErr, IfErr, IfSome, IfNone, Option, Some};
-    ghost use Rattle.std.specs.Option.{option_copied};
-    ghost use Rattle.tc_lists.specs.Firsts.{NoneOf, IsFirst};
-    ghost use Rattle.tc_term.specs.Tree.{Tree};
-    ghost use Rattle.tc_term.specs.TreeView.{tree_of};
-    ghost use Rattle.tc_bag.specs.Keys.{IsLike};
-    ghost use Rattle.tc_bag.specs.Lent.{lent_key, lent_tree};
-    ghost use Rattle.tc_bag.specs.Codes.{code_like};
-    ghost use Rattle.tc_bag.specs.Slots.{Slot, slot, InOrder, IsThereLike, is_there, IsYoungest};
-    ghost use Rattle.tc_bag.specs.Slots.{is_older, is_not_of, stays, taken_at, revived_at};
-    ghost use Rattle.tc_bag.specs.Slots.{with_taken, tuple_there, tuples_there};
-    ghost use Rattle.tc_bag.specs.Places.{tuple_older};
+    ghost use Rattle.std.specs.Prelude.{◌≡◌, ◌+◌, ◌↔◌, ◌<◌, IsTrue, IsSome, Some, None, []};
+    ghost use Rattle.std.specs.Prelude.{IfOk, OnErr, IfErr, IfSome};
+    ghost use Rattle.tc_bag.specs.Codes.{codes_of};
+    ghost use Rattle.tc_bag.specs.Keys.{IsOfKey};
+    ghost use Rattle.tc_bag.specs.Lent.{lent_key};
+    ghost use Rattle.tc_bag.specs.Rows.{no_row, Updates};
 
-    /// No row.
-    pub(crate) fn new(alloc: Global) -> Rows
+    /// No tuple at any row.
+    pub fn new(alloc: Global) -> Rows
         ensures { result ≡ [] }
     {
         Rows {
-            places: Places::new(alloc),
-            index: Index::new(alloc),
-            whole: true,
-            start: 0,
+            slab: Slab::new(alloc),
         }
     }
 
-    /// How many rows are held.
-    pub(crate) fn len(&self) -> usize
-        ensures len { result ≡ length self.now }
-        ensures small { result < 2 ^ 63 }
-    {
-        self.places.len()
-    }
-
-    /// How many rows are there.
-    pub(crate) fn count(&self) -> usize
-        ensures { result ≡ length (filter is_there self.now) }
-    {
-        let mut count = 0;
-        for place in self.places.list() {
-            if let Some(_tuple) = place.there() {
-                count += 1;
-            }
-        }
-        count
-    }
-
-    /// The tuple of this age, where its row is there.
-    pub(crate) fn get(&self, age: u64) -> Option<&Ground>
-        ensures { option_copied result ≡ tuple_there age self.now }
-    {
-        self.places.find(age)?.there()
-    }
-
-    /// The tuple of this age, where that is below `next`, also where its row was taken.
-    pub(crate) fn get_older(&self, age: u64, next: u64) -> Option<&Ground>
-        ensures { option_copied result ≡ tuple_older next age self.now }
-    {
-        if age < next {
-            tuple_in(self.places.find(age))
-        } else {
-            None
-        }
-    }
-
-    /// The first row that is there, is not older than `from`, agrees with the key and has this
-    /// first argument, where one is given.
-    pub(crate) fn first_like(
-        &self,
-        key: Lent,
-        first: Option<&Term>,
-        from: u64,
-    ) -> Option<(u64, &Ground)>
-        requires order { InOrder self.now }
-        requires limit { All (λ s. s.age < 2 ^ 64) self.now }
-        ensures found { IfSome result (λ r. IsFirst
-            (IsThereLike (lent_key key.entry) (lent_tree first.entry) from)
-            self.now (slot r.0 r.1.now)) }
-        ensures none { IfNone result (NoneOf
-            (IsThereLike (lent_key key.entry) (lent_tree first.entry) from)
-            self.now) }
-    {
-        let code = code_like(key, first);
-        let mut at = from;
-        while let Some(age) = self.next_age(key, code, at) {
-            if let Some(tuple) = self.like_at(age, key, first) {
-                return Some((age, tuple));
-            }
-            if age == u64::MAX {
-                return None;
-            }
-            at = age + 1;
-        }
-        None
-    }
-
-    // The tuple of this age, where its row is there, agrees with the key and has this first
-    // argument, where one is given.
-    fn like_at(&self, age: u64, key: Lent, first: Option<&Term>) -> Option<&Ground>
-        ensures found { IfSome result (λ t. (tuple_there age self.now ≡ Some t.now)
-            × IsLike (lent_key key.entry) (lent_tree first.entry) t.now) }
-        ensures none { IfNone result ((t : Tree) → tuple_there age self.now ≡ Some t
-            → IsLike (lent_key key.entry) (lent_tree first.entry) t → ⊥) }
-    {
-        let tuple = self.get(age)?;
-        if is_like(key, first, tuple) {
-            Some(tuple)
-        } else {
-            None
-        }
-    }
-
-    // The least age from `from` on that the index has for a key, by the code of the key and of what
-    // else is asked; that of a row where the key is any or the index isn't whole.
-    fn next_age(&self, key: Lent, code: u64, from: u64) -> Option<u64>
-        requires order { InOrder self.now }
-        ensures found { IfSome result (λ age. (from ≤ age) × ((first : Option Tree)
-            → code ≡ code_like (lent_key key.entry) first
-            → All (λ s. from ≤ s.age → s.age < age
-            → IsThereLike (lent_key key.entry) first from s → ⊥) self.now)) }
-        ensures none { IfNone result ((first : Option Tree)
-            → code ≡ code_like (lent_key key.entry) first
-            → All (λ s. from ≤ s.age
-            → IsThereLike (lent_key key.entry) first from s → ⊥) self.now) }
-    {
-        if !self.whole {
-            return self.oldest_from(from);
-        }
-        match key {
-            Lent::Any => self.oldest_from(from),
-            _ => self.index.next(code, from),
-        }
-    }
-
-    // The least age of a row from `from` on, with none that is there between them.
-    fn oldest_from(&self, from: u64) -> Option<u64>
-        ensures found { IfSome result (λ age. (from ≤ age)
-            × All (λ s. from ≤ s.age → s.age < age → IsTrue (is_there s) → ⊥) self.now) }
-        ensures none { IfNone result (All (λ s. from ≤ s.age → IsTrue (is_there s) → ⊥) self.now) }
-    {
-        let (age, _) = self.places.first_from(from.max(self.start))?;
-        Some(age)
-    }
-
-    /// The tuple of this place, from 0, of those whose rows are there.
-    pub(crate) fn nth(&self, i: usize) -> Option<&Ground>
-        ensures { option_copied result ≡ slice_get (tuples_there self.now) i }
-    {
-        let mut left = i;
-        for place in self.places.list() {
-            if let Some(tuple) = place.there() {
-                if left == 0 {
-                    return Some(tuple);
-                }
-                left -= 1;
-            }
-        }
-        None
-    }
-
-    /// Puts a row behind the others.
-    pub(crate) fn push(&mut self, age: u64, tuple: Ground) -> Result<(), Ground>
-        requires { All (λ s. s.age < age) self.old }
-        ensures pushed { OnOk result (self.new ≡ self.old ++ slot age tuple ∷ []) }
+    /// Places a tuple at a row that held none, and answers the row. Where memory ends it is handed
+    /// back.
+    pub fn put(&mut self, tuple: Ground) -> Result<usize, PutFault>
+        ensures free { IfOk result (λ row. tuple_in row self.old ≡ None) }
+        ensures put { IfOk result (λ row. Updates row (Some tuple) self.old self.new) }
+        ensures below { IfOk result (λ row. row < no_row) }
         ensures same { OnErr result (self.new ≡ self.old) }
-        ensures returned { IfErr result (λ back. back ≡ tuple) }
+        ensures returned { IfErr result (λ fault. fault ≡ PutFault.NoMemory tuple) }
     {
-        if let Err(_) = self.index.enter_row(age, &tuple) {
-            self.index.leave_row(age, &tuple);
-            return Err(tuple);
-        }
-        let empty = self.places.len() == 0;
-        match self.places.push(age, tuple) {
-            Ok(()) => {
-                self.start = if empty { age } else { self.start.min(age) };
-                Ok(())
+        match self.slab.insert(tuple) {
+            Ok(row) => {
+                // It bounds the rows.
+                let _most = self.slab.capacity();
+                Ok(row)
             }
-            Err(tuple) => {
-                self.index.leave_row(age, &tuple);
-                Err(tuple)
-            }
+            Err(failed) => Err(PutFault::NoMemory(failed.value)),
         }
     }
 
-    /// Removes the row of this age.
-    pub(crate) fn remove(&mut self, age: u64)
-        requires order { InOrder self.old }
-        ensures { self.new ≡ filter (is_not_of age) self.old }
+    /// Takes the tuple out of a row. No memory is taken.
+    pub fn remove(&mut self, row: usize) -> Ground
+        requires { IsSome (tuple_in row self.old) }
+        ensures taken { tuple_in row self.old ≡ Some result }
+        ensures gone { Updates row None self.old self.new }
     {
-        self.drop_row(age);
-        if age <= self.start {
-            self.skip_gone();
-        }
+        self.slab.remove(row)
     }
 
-    // Removes the row of this age, and leaves the start.
-    fn drop_row(&mut self, age: u64)
-        requires order { InOrder self.old }
-        ensures { self.new ≡ filter (is_not_of age) self.old }
+    /// The tuple at a row. It is a step.
+    #[inline]
+    pub fn look<L: Ledger>(&self, row: usize, steps: &mut Steps<L>) -> &Ground
+        requires { IsSome (tuple_in row self.now) }
+        ensures found { tuple_in row self.now ≡ Some result.now }
+        ensures counted { steps.new ≡ steps.old + 1 }
     {
-        if let Some(tuple) = self.places.remove(age) {
-            self.index.drop_row(age, tuple);
-        }
+        steps.count();
+        &self.slab[row]
     }
 
-    /// Removes the row of this age, unless it is there.
-    pub(crate) fn discard(&mut self, age: u64)
-        requires order { InOrder self.old }
-        ensures { self.new ≡ filter (stays age) self.old }
+    /// Whether the tuple at a row has this key, or the key is any. It isn't handed out.
+    #[inline]
+    pub(crate) fn has_key(&self, row: usize, key: Lent) -> bool
+        ensures { IfSome (tuple_in row self.now)
+            (λ t. IsTrue result ↔ IsOfKey (lent_key key.entry) t) }
     {
-        if self.get(age).is_none() {
-            self.forget(age);
-        }
-    }
-
-    // Removes the row of this age, but not from the index.
-    fn forget(&mut self, age: u64)
-        requires order { InOrder self.old }
-        ensures { self.new ≡ filter (is_not_of age) self.old }
-    {
-        let _tuple = self.places.remove(age);
-    }
-
-    /// Removes the rows that are not older than this age.
-    pub(crate) fn truncate(&mut self, next: u64)
-        requires order { InOrder self.old }
-        ensures { self.new ≡ filter (is_older next) self.old }
-    {
-        while let Some(age) = self.youngest() {
-            if age < next {
-                break;
-            }
-            self.drop_row(age);
-        }
-    }
-
-    // The age of the youngest row.
-    fn youngest(&self) -> Option<u64>
-        ensures some { IfSome result (IsYoungest self.now) }
-        ensures none { IfNone result (self.now ≡ []) }
-    {
-        self.places.youngest()
-    }
-
-    /// Has each row that is there in the index, where memory had ended for one.
-    pub(crate) fn mend(&mut self) -> Result<(), NoMemory>
-        ensures { self.new ≡ self.old }
-    {
-        if !self.whole {
-            enter_all(&mut self.index, self.places.list())?;
-            self.whole = true;
-        }
-        Ok(())
-    }
-
-    /// Notes of the row of this age, where it is there, that it is so manieth to be taken.
-    pub(crate) fn take(&mut self, age: u64, n: usize) -> bool
-        requires order { InOrder self.old }
-        requires counted { 0 < n }
-        ensures taken { self.new ≡ map (taken_at age n) self.old }
-        ensures told { result ≡ is_some (tuple_there age self.old) }
-    {
-        let there = self.get(age).is_some();
-        if there {
-            self.set_gone(age, n);
-            self.skip_gone();
-        }
-        there
-    }
-
-    // Notes of the row of this age that it is so manieth to be taken. The index has it no more.
-    fn set_gone(&mut self, age: u64, n: usize)
-        requires order { InOrder self.old }
-        requires counted { 0 < n }
-        ensures { self.new ≡ map (with_taken age n) self.old }
-    {
-        if let Some(tuple) = tuple_in(self.places.find(age)) {
-            self.index.leave_row(age, tuple);
-        }
-        self.places.set_taken(age, n);
-    }
-
-    // Lets the start go to the first row that is there.
-    fn skip_gone(&mut self)
-        ensures { self.new ≡ self.old }
-    {
-        for _ in 0..self.places.len() {
-            if !self.skip_one() {
-                return;
-            }
-        }
-    }
-
-    // Lets the start go to the first row from it on, and behind it, unless it is there.
-    fn skip_one(&mut self) -> bool
-        ensures { self.new ≡ self.old }
-    {
-        match self.places.first_from(self.start) {
-            Some((age, taken)) => {
-                self.start = if taken == 0 {
-                    age
-                } else {
-                    age.saturating_add(1)
-                };
-                taken != 0
-            }
+        match self.slab.get(row) {
+            Some(tuple) => key.agrees(tuple),
             None => false,
         }
     }
 
-    /// Has the row of this age there again, where more than so many were taken up to it.
-    pub(crate) fn revive(&mut self, age: u64, n: usize)
-        requires order { InOrder self.old }
-        ensures { self.new ≡ map (revived_at age n) self.old }
+    /// The codes of the tuple at a row. They tell of its top and of its first argument's, and it
+    /// isn't handed out.
+    pub(crate) fn codes(&self, row: usize) -> Codes
+        requires { IsSome (tuple_in row self.now) }
+        ensures { IfSome (tuple_in row self.now) (λ t. result ≡ codes_of t) }
     {
-        if self.taken(age) > n {
-            self.set_there(age);
-        }
+        codes_of(self.slab[row].term())
     }
-
-    // How manieth the row of this age was to be taken; 0 where it is there or there is none.
-    fn taken(&self, age: u64) -> usize
-        requires order { InOrder self.now }
-        ensures { All (λ s. s.age ≡ age → s.taken ≡ result) self.now }
-    {
-        match self.places.find(age) {
-            Some(place) => place.taken,
-            None => 0,
-        }
-    }
-
-    // Has the row of this age there. The index has it again, where memory lasts.
-    fn set_there(&mut self, age: u64)
-        requires order { InOrder self.old }
-        ensures { self.new ≡ map (with_taken age 0) self.old }
-    {
-        if let Some(tuple) = tuple_in(self.places.find(age)) {
-            self.whole = self.index.enter_again(self.whole, age, tuple);
-            self.start = self.start.min(age);
-        }
-        self.places.set_taken(age, 0);
-    }
-}
-
-// The tuple in a place, where it is no gap.
-fn tuple_in(place: Option<&Place>) -> Option<&Ground>
-    ensures { option_copied result
-        ≡ option_map (λ s. s.tuple) (slot_if (option_copied place.entry)) }
-{
-    place?.tuple.as_ref()
-}
-
-// Enters each row that is there.
-fn enter_all(index: &mut Index, places: &[Place]) -> Result<(), NoMemory>
-    ensures entered { OnOk result (All (IsEntered index.new) (slots_of places.now)) }
-    ensures kept { (c a : ℕ) → Has index.old c a → Has index.new c a }
-{
-    for place in places {
-        if let Some(tuple) = place.there() {
-            index.enter_row(place.age, tuple)?;
-        }
-    }
-    Ok(())
 }

@@ -1,32 +1,50 @@
 //! Slots and marks. A row that is taken stays in its slot while a mark may bring it back.
-use tc_term::Ground;
 
-/// A place in the list of rows, for the row of an age. Once that is gone it is a gap, without a
-/// tuple.
+/// A place in the list of rows, for the row of an age. Once that is gone it is a gap, whose row is
+/// `NO_ROW`.
 ///
 /// The row is there where `taken` is 0. Else it was so manieth to be taken, from 1, of the rows
 /// that a mark may bring back.
-#[derive(Drop)]
+#[derive(Clone, Copy)]
 pub(crate) struct Place {
     pub(crate) age: u64,
     pub(crate) taken: usize,
-    pub(crate) tuple: Option<Ground>,
+    pub(crate) row: usize,
 }
 
-impl Place {
-    ghost use Rattle.std.specs.Prelude.{◌≡◌};
-    ghost use Rattle.std.specs.Option.{option_copied};
-    ghost use Rattle.tc_bag.specs.Places.{there_in};
+/// The row of a gap, at which no tuple is.
+pub(crate) const NO_ROW: usize = usize::MAX;
 
-    /// The tuple, where the row is there.
-    pub(crate) fn there(&self) -> Option<&Ground>
-        ensures { option_copied result ≡ there_in self.now }
+impl Place {
+    ghost use Rattle.std.specs.Prelude.{◌≡◌, is_some};
+    ghost use Rattle.tc_bag.specs.Places.{row_in, row_there};
+
+    /// Whether it is no gap.
+    #[inline]
+    pub(crate) fn is_filled(&self) -> bool
+        ensures { result ≡ is_some (row_in self.now) }
     {
-        if self.taken == 0 {
-            self.tuple.as_ref()
-        } else {
+        self.row != NO_ROW
+    }
+
+    /// The number of its tuple, where it is no gap.
+    #[inline]
+    pub(crate) fn row(&self) -> Option<usize>
+        ensures { result ≡ row_in self.now }
+    {
+        if self.row == NO_ROW {
             None
+        } else {
+            Some(self.row)
         }
+    }
+
+    /// The number of its tuple, where the row is there.
+    #[inline]
+    pub(crate) fn there(&self) -> Option<usize>
+        ensures { result ≡ row_there self.now }
+    {
+        if self.taken == 0 { self.row() } else { None }
     }
 }
 

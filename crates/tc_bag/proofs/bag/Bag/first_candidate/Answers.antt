@@ -1,9 +1,10 @@
-use Rattle.std.proofs.Common.{All, subst}
+use Rattle.std.proofs.Common.{◌≤◌, ◌+◌, IfSome, IfNone, All, subst}
 use Rattle.tc_lists.specs.Firsts.{NoneOf, IsFirst}
 use Rattle.tc_lists.proofs.Options.{IfNone-weaker}
 use Rattle.tc_term.specs.Tree.{IsTuple}
 use Rattle.tc_bag.specs.Stock.{Stock, row, AgesRiseBelow, IsCandidateLike}
 use Rattle.tc_bag.specs.Slots.{IsThereLike}
+use Rattle.tc_bag.specs.Looks.{like_between, like_from}
 use Rattle.tc_bag.specs.Lent.{lent_key, lent_tree}
 use Rattle.std.proofs.Common.{vec_capacity}
 use Rattle.std.proofs.lemmas.Option.{IfSome_then}
@@ -11,7 +12,7 @@ use Rattle.tc_bag.proofs.Stocks.{sound-rises, sound-tuples, first-like, none-lik
 use Rattle.tc_bag.proofs.bag.Bag.first_candidate.Goals as goal
 
 pub returns-clause-found : goal.returns-clause-found
-returns-clause-found c =
+returns-clause-found g c =
     let first = lent_tree c.args.first in
     let key = lent_key c.args.key in
     let from = c.args.from in
@@ -20,7 +21,7 @@ returns-clause-found c =
     (first-like key first from c.self.inside.rows r.0 r.1.now found))
 
 pub returns-clause-none : goal.returns-clause-none
-returns-clause-none c =
+returns-clause-none g c =
     let first = lent_tree c.args.first in
     let key = lent_key c.args.key in
     let from = c.args.from in
@@ -30,13 +31,27 @@ returns-clause-none c =
     (none-like key first from c.self.inside.rows none)) c.first_like.ensures.none
 
 pub returns-clause-rises : goal.returns-clause-rises
-returns-clause-rises c =
+returns-clause-rises g c =
     let b = c.self.inside in
     subst (λ (stock : Stock). AgesRiseBelow stock.now stock.next) c.self.view_is
     (sound-rises b.rows b.next b.log.items (vec_capacity b.log) b.marks.items c.self.invariant)
 
 pub returns-clause-tuples : goal.returns-clause-tuples
-returns-clause-tuples c =
+returns-clause-tuples g c =
     let b = c.self.inside in
     subst (λ (stock : Stock). All (λ r. IsTuple r.tuple) stock.now) c.self.view_is
     (sound-tuples b.rows b.next b.log.items (vec_capacity b.log) b.marks.items c.self.invariant)
+
+pub returns-clause-looked : goal.returns-clause-looked
+returns-clause-looked g c =
+    let key = lent_key c.args.key in
+    let from = c.args.from in
+    subst (λ (stock : Stock). IfSome c.first_like.result (λ r. c.first_like.new.steps
+    ≤ c.args.steps.now + like_between key from (r.0 + 1) stock.now)) c.self.view_is c.first_like.ensures.looked
+
+pub returns-clause-looked_none : goal.returns-clause-looked_none
+returns-clause-looked_none g c =
+    let key = lent_key c.args.key in
+    let from = c.args.from in
+    subst (λ (stock : Stock). IfNone c.first_like.result (c.first_like.new.steps ≤ c.args.steps.now + like_from key from stock.now))
+    c.self.view_is c.first_like.ensures.looked_none

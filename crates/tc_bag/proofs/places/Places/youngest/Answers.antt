@@ -9,4 +9,4 @@ returns-clause-some c =
     let p = c.in_ok-last.field-0.now in
     let read : slice_get ps (length ps - 1) ≡ Some p =
     subst (λ qs. slice_get qs (length qs - 1) ≡ Some p) c.deref.ensures.value (sym c.in_ok-last.ensures.value) in
-    subst (λ ss. IsYoungest ss p.age) c.self.view_is (last_youngest ps p c.self.invariant.ends read)
+    subst (λ ss. IsYoungest ss p.age) c.self.view_is (last_youngest c.self.inside.rows ps p c.self.invariant.full c.self.invariant.ends read)
