@@ -6,7 +6,10 @@ ghost use Rattle.tc_term.specs.Variables.{raised, var_bound};
 use crate::chains::{LENGTH, chains};
 use crate::tally::Tally;
 use std::alloc::{AllocError, Global};
+use std::marker::Brand;
+use std::sync::ledger::{Blank, Ledger};
 use tc_read::read_term;
+use tc_steps::Steps;
 use tc_term::{Pattern, Term};
 use tc_unify::{Part, Store};
 
@@ -47,6 +50,21 @@ impl Case {
 
 /// Makes so many additions of a case.
 pub fn additions(alloc: Global, case: Case, count: u32) -> anyhow::Result<Tally> {
+    additions_in::<Brand>(alloc, case, count, Blank::new(1))
+}
+
+/// The same, with its steps counted in a ledger.
+fn additions_in<L: Ledger>(
+    alloc: Global,
+    case: Case,
+    count: u32,
+    blank: Blank,
+) -> anyhow::Result<Tally>
+    requires name { blank.name ≡ L.name }
+    requires parts { blank.parts ≡ L.parts }
+    requires some { 0 < blank.parts }
+{
+    let mut steps = Steps::<L>::none(blank);
     let template = read_term(alloc, b"f(X,g(Y,a),X)")?;
     let tally = match case {
         Case::Fresh => in_new_stores(
@@ -54,30 +72,34 @@ pub fn additions(alloc: Global, case: Case, count: u32) -> anyhow::Result<Tally>
             &template,
             &read_term(alloc, b"f(b,g(c,a),b)")?,
             count,
+            &mut steps,
         )?,
         Case::Reused => in_one_store(
             alloc,
             &template,
             &read_term(alloc, b"f(b,g(c,a),b)")?,
             count,
+            &mut steps,
         )?,
-        Case::Chains => over_chains(alloc, count)?,
+        Case::Chains => over_chains(alloc, count, &mut steps)?,
         Case::Clash => in_one_store(
             alloc,
             &template,
             &read_term(alloc, b"h(b,g(c,a),b)")?,
             count,
+            &mut steps,
         )?,
     };
     Ok(tally)
 }
 
 /// Adds template = tuple to a new store, so many times.
-fn in_new_stores(
+fn in_new_stores<L: Ledger>(
     alloc: Global,
     template: &Pattern,
     tuple: &Pattern,
     count: u32,
+    steps: &mut Steps<L>,
 ) -> Result<Tally, AllocError>
     ensures { IfOk result (λ tally. tally.accepted + tally.refused ≡ count) }
 {
@@ -88,29 +110,40 @@ fn in_new_stores(
     };
     for _ in 0..count {
         let mut store = Store::new(alloc, variables)?;
-        tally.count(store.add(as_it_is(template), as_it_is(tuple))?);
+        tally.count(store.add(as_it_is(template), as_it_is(tuple), steps)?);
     }
     Ok(tally)
 }
 
 /// Adds template = tuple to one store, so many times.
-fn in_one_store(
+fn in_one_store<L: Ledger>(
     alloc: Global,
     template: &Pattern,
     tuple: &Pattern,
     count: u32,
+    steps: &mut Steps<L>,
 ) -> Result<Tally, AllocError>
     ensures { IfOk result (λ tally. tally.accepted + tally.refused ≡ count) }
 {
     let mut store = Store::new(alloc, template.vars().max(tuple.vars()))?;
-    again(&mut store, as_it_is(template), as_it_is(tuple), count)
+    again(
+        &mut store,
+        as_it_is(template),
+        as_it_is(tuple),
+        count,
+        steps,
+    )
 }
 
 /// Makes the first variables of two chains equal, so many times.
-fn over_chains(alloc: Global, count: u32) -> Result<Tally, AllocError>
+fn over_chains<L: Ledger>(
+    alloc: Global,
+    count: u32,
+    steps: &mut Steps<L>,
+) -> Result<Tally, AllocError>
     ensures { IfOk result (λ tally. tally.accepted + tally.refused ≡ count) }
 {
-    let mut store = chains(alloc)?;
+    let mut store = chains(alloc, steps)?;
     let first = Term::Var(0);
     let left = Part {
         term: &first,
@@ -120,7 +153,7 @@ fn over_chains(alloc: Global, count: u32) -> Result<Tally, AllocError>
         term: &first,
         shift: LENGTH,
     };
-    again(&mut store, left, right, count)
+    again(&mut store, left, right, count, steps)
 }
 
 /// The template with the numbers that its variables have.
@@ -134,7 +167,13 @@ fn as_it_is(template: &Pattern) -> Part<'_>
 }
 
 /// Adds an equation and goes back to what was there before, so many times.
-fn again(store: &mut Store, left: Part, right: Part, count: u32) -> Result<Tally, AllocError>
+fn again<L: Ledger>(
+    store: &mut Store,
+    left: Part,
+    right: Part,
+    count: u32,
+    steps: &mut Steps<L>,
+) -> Result<Tally, AllocError>
     requires left { var_bound (raised left.shift (tree_of left.term.now)) ≤ store.old.vars }
     requires right { var_bound (raised right.shift (tree_of right.term.now)) ≤ store.old.vars }
     ensures { IfOk result (λ tally. tally.accepted + tally.refused ≡ count) }
@@ -145,7 +184,7 @@ fn again(store: &mut Store, left: Part, right: Part, count: u32) -> Result<Tally
     };
     for _ in 0..count {
         let mark = store.mark();
-        tally.count(store.add(left, right)?);
+        tally.count(store.add(left, right, steps)?);
         store.undo(&mark);
     }
     Ok(tally)

@@ -1,2 +1,3 @@
 pub mod Moments
 pub mod Left
+pub mod Costs

@@ -28,7 +28,7 @@ use tc_unify::{Part, Store};
 ///
 /// Where it could, the equations are those after its step. Where it could not, it has no step, and
 /// the equations may have changed: the body has failed. Tuples and effects stay as they are, and
-/// there is nothing to choose.
+/// there is nothing to choose. It makes one step at most.
 pub fn succeeds<L: Ledger>(
     alloc: Global,
     goal: &Goal,
@@ -53,6 +53,8 @@ pub fn succeeds<L: Ledger>(
     // After each answer:
     ensures vars { store.new.vars ≡ store.old.vars }
     ensures solvable { Solvable store.new.vars store.new.pairs }
+    ensures counted { steps.new ≤ steps.old + 1 }
+    ensures rises { steps.old ≤ steps.new }
 {
     match goal {
         Goal::Pre => Ok(e.phase() == Phase::Pre),
@@ -90,6 +92,8 @@ fn equate_name<L: Ledger>(
         → CannotEqual store.old (tree_of t.now) (Atomic name.now)) }
     ensures vars { store.new.vars ≡ store.old.vars }
     ensures solvable { Solvable store.new.vars store.new.pairs }
+    ensures counted { steps.new ≤ steps.old + 1 }
+    ensures rises { steps.old ≤ steps.new }
 {
     let atom = Term::Atom(name.copy(alloc)?);
     let added = store.equate(t, &atom, steps)?;
@@ -112,6 +116,8 @@ fn equate_op<L: Ledger>(
         → CannotEqual store.old (tree_of t.now) (Atomic (op_name op))) }
     ensures vars { store.new.vars ≡ store.old.vars }
     ensures solvable { Solvable store.new.vars store.new.pairs }
+    ensures counted { steps.new ≤ steps.old + 1 }
+    ensures rises { steps.old ≤ steps.new }
 {
     let name = Name::new(alloc, op.name())?;
     let added = equate_name(alloc, store, t, &name, steps)?;
@@ -134,6 +140,8 @@ fn equate_event<L: Ledger>(
         → CannotEqual store.old (tree_of t.now) (raised vars e.now)) }
     ensures vars { store.new.vars ≡ store.old.vars }
     ensures solvable { Solvable store.new.vars store.new.pairs }
+    ensures counted { steps.new ≤ steps.old + 1 }
+    ensures rises { steps.old ≤ steps.new }
 {
     let left = Part { term: t, shift: 0 };
     let right = Part {
@@ -170,6 +178,8 @@ fn equate_number<L: Ledger>(
         → CannotEqual store.old (tree_of s.now) (Number i)) }
     ensures vars { store.new.vars ≡ store.old.vars }
     ensures solvable { Solvable store.new.vars store.new.pairs }
+    ensures counted { steps.new ≤ steps.old + 1 }
+    ensures rises { steps.old ≤ steps.new }
 {
     let number = Term::Int(i);
     let added = store.equate(s, &number, steps)?;
@@ -194,6 +204,8 @@ fn assign<L: Ledger>(
         → CannotEqual store.old (tree_of s.now) (Number i)) }
     ensures vars { store.new.vars ≡ store.old.vars }
     ensures solvable { Solvable store.new.vars store.new.pairs }
+    ensures counted { steps.new ≤ steps.old + 1 }
+    ensures rises { steps.old ≤ steps.new }
 {
     let Some(i) = number(store, t)? else {
         return Ok(false);

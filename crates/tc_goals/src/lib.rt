@@ -5,7 +5,7 @@
 //! goal does to them.
 //!
 //! ```text
-//! if !succeeds(alloc, goal, reaction.vars(), &event, &context, &mut store)? {
+//! if !succeeds(alloc, goal, reaction.vars(), &event, &context, &mut store, &mut steps)? {
 //!     // the goal can't be done, and the body has failed
 //! }
 //! ```

@@ -4,4 +4,4 @@ use Rattle.tc_term.specs.Variables.{var_bound}
 use Rattle.bench_unify.proofs.chains.chains.Given as goal
 
 abbrev pub invariant-loop-i : goal.invariant-loop-i
-invariant-loop-i l = (l.store.vars ≡ 256) × (var_bound (tree_of l.doubled) ≡ 1)
+invariant-loop-i g l = (l.store.vars ≡ 256) × (var_bound (tree_of l.doubled) ≡ 1)

@@ -8,11 +8,11 @@ use Rattle.tc_goals.proofs.Values.{no_number, number_some, refused_number}
 use Rattle.tc_goals.proofs.goal.assign.Goals as goal
 
 pub returns-in_default-clause-refused : goal.returns-in_default-clause-refused
-returns-in_default-clause-refused c = λ _ i has solvable.
+returns-in_default-clause-refused g c = λ _ i has solvable.
     no_number c.args.store.now (tree_of c.args.t.now) c.in_ok-i.field-0 c.in_ok-i.ensures c.in_default.not-Some i has
 
 pub returns-clause-assigned : goal.returns-clause-assigned
-returns-clause-assigned c = λ y.
+returns-clause-assigned g c = λ y.
     let fits : SFits w64 c.in-Some.i = search rules in
     let added = c.in_ok-added.ensures.added y in (
       c.in-Some.i,
@@ -22,7 +22,7 @@ returns-clause-assigned c = λ y.
     )
 
 pub returns-clause-refused : goal.returns-clause-refused
-returns-clause-refused c = λ n.
+returns-clause-refused g c = λ n.
     let fits : SFits w64 c.in-Some.i = search rules in
     let never = c.in_ok-added.ensures.refused n in
     refused_number c.args.store.now (tree_of c.args.s.now) (tree_of c.args.t.now) c.in-Some.i
