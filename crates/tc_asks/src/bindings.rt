@@ -2,7 +2,9 @@
 use crate::filling::filled;
 use std::alloc::Global;
 use std::marker::Model;
+use std::sync::ledger::{Blank, Ledger};
 use tc_lists::NoMemory;
+use tc_steps::Steps;
 use tc_term::{Ground, Term};
 use tc_unify::Store;
 
@@ -50,14 +52,23 @@ impl Bindings {
     }
 
     /// The tuple came for the template.
-    pub(crate) fn tell(&mut self, template: &Term, tuple: &Ground) -> Result<(), NoMemory>
-        requires { HasBounds self.old (tree_of template.now) }
+    pub(crate) fn tell<L: Ledger>(
+        &mut self,
+        template: &Term,
+        tuple: &Ground,
+        blank: Blank,
+    ) -> Result<(), NoMemory>
+        requires name { blank.name ≡ L.name }
+        requires parts { blank.parts ≡ L.parts }
+        requires some { 0 < blank.parts }
+        requires bounds { HasBounds self.old (tree_of template.now) }
         ensures told { OnOk result ((vars : ℕ) (es : List Equation) → AreKnown vars es self.old
             → AreKnown vars (es ++ (tree_of template.now, tuple.now) ∷ []) self.new) }
         ensures same { OnErr result (self.new ≡ self.old) }
     {
         if self.solvable {
-            self.solvable = self.store.equate(template, tuple.term())?;
+            let mut steps = Steps::<L>::none(blank);
+            self.solvable = self.store.equate(template, tuple.term(), &mut steps)?;
         }
         Ok(())
     }

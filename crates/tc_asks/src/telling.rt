@@ -11,6 +11,8 @@ ghost use Rattle.tc_desk.specs.Asks.{equation, told, told_of};
 ghost use Rattle.tc_asks.specs.Bindings.{HasBounds, AreKnown};
 
 use crate::bindings::Bindings;
+use std::marker::Brand;
+use std::sync::ledger::Blank;
 use tc_desk::LogResult;
 use tc_lists::NoMemory;
 use tc_model::{Ask, Reply};
@@ -29,7 +31,7 @@ pub(crate) fn tell(bindings: &mut Bindings, ask: &Ask, came: &LogResult) -> Resu
     let Some(tuple) = tuple_in(came) else {
         return Ok(());
     };
-    bindings.tell(template, tuple)?;
+    bindings.tell::<Brand>(template, tuple, Blank::new(1))?;
     Ok(())
 }
 

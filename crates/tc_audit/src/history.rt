@@ -16,6 +16,8 @@ use crate::noted::{Noted, is_next, note, nothing};
 use crate::reached::{Reached, begin, is_quiet, rest};
 use crate::serving::{give, serve};
 use std::alloc::Global;
+use std::marker::Brand;
+use std::sync::ledger::Blank;
 use tc_lists::NoMemory;
 use tc_model::{CallId, Entry};
 
@@ -43,7 +45,7 @@ pub fn first_bad(
             return Ok(Some(place + 1));
         }
     }
-    if is_quiet(&reached) {
+    if is_quiet::<Brand>(&reached, Blank::new(1)) {
         return Ok(None);
     }
     Ok(Some(history.len() + 1))
@@ -130,7 +132,7 @@ fn is_heard(
     ensures { IsTrue result ↔ (IsQuiescent (state_of reached.now)
         × IsNext (origin_in beginning.now) history.now id) }
 {
-    if !is_quiet(reached) {
+    if !is_quiet::<Brand>(reached, Blank::new(1)) {
         return false;
     }
     is_next(beginning, noted, history, id)

@@ -8,10 +8,12 @@ ghost use Rattle.tc_audit.specs.Reached.{IsRested, IsSound, state_of};
 
 use crate::beginning::Beginning;
 use std::alloc::Global;
+use std::sync::ledger::{Blank, Ledger};
 use tc_bag::Bag;
 use tc_lists::NoMemory;
 use tc_pending::{Known, Pending};
 use tc_spec::Spec;
+use tc_steps::Steps;
 use tc_term::Ground;
 use tc_unify::Store;
 
@@ -60,11 +62,18 @@ fn fill(alloc: Global, tuples: &[Ground]) -> Result<Bag, NoMemory>
 }
 
 /// Whether no request can be answered.
-pub(crate) fn is_quiet(reached: &Reached) -> bool
-    requires { IsSound reached.now }
+pub(crate) fn is_quiet<L: Ledger>(reached: &Reached, blank: Blank) -> bool
+    requires name { blank.name ≡ L.name }
+    requires parts { blank.parts ≡ L.parts }
+    requires some { 0 < blank.parts }
+    requires sound { IsSound reached.now }
     ensures { IsTrue result ↔ IsQuiescent (state_of reached.now) }
 {
-    match reached.pending.next_answerable(&reached.bag, reached.known) {
+    let mut steps = Steps::<L>::none(blank);
+    match reached
+        .pending
+        .next_answerable(&reached.bag, reached.known, &mut steps)
+    {
         Some(_) => false,
         None => true,
     }

@@ -1,3 +1,4 @@
+pub mod Costs
 pub mod Next
 pub mod Log
 pub mod Newly

@@ -1,10 +1,13 @@
 //! Which of the requests that wait is answered next.
-ghost use Rattle.std.specs.Prelude.{◌≡◌, ◌<◌, ◌≤◌, Contains, Some, length, take, IfSome, IfNone};
+ghost use Rattle.std.specs.Prelude.{◌≡◌, ◌<◌, ◌≤◌, ◌+◌, Contains, Some, length, take, drop};
+ghost use Rattle.std.specs.Prelude.{IfSome, IfNone};
 ghost use Rattle.tc_lists.specs.Firsts.{NoneOf};
 ghost use Rattle.tc_bag.specs.Stock.{Row, begun, tuples_of};
 ghost use Rattle.tc_model.specs.State.{IsAnswerable};
+ghost use Rattle.tc_steps.specs.Tops.{agreeing};
 ghost use Rattle.tc_pending.specs.Answers.{AsksFor, IsAnsweredBy, IsNextAnswer, IsKnown};
 ghost use Rattle.tc_pending.specs.Answers.{IsFree, IsMet, IsOldestMet, IsOldestSuch, NoneOlder};
+ghost use Rattle.tc_pending.specs.Costs.{requests_steps};
 ghost use Rattle.tc_pending.specs.Filed.{AreLent, IsSuch};
 
 use crate::asking::{is_free, oldest_asking, wants_tuple};
@@ -71,6 +74,7 @@ pub(crate) fn newly_answerable<L: Ledger>(
         (λ r. IsNextAnswer bag.now.now waiters.now.requests.now r.0 r.1) }
     ensures none { IfNone result (NoneOf (IsAnswerable (tuples_of bag.now.now))
         (take known.requests waiters.now.requests.now)) }
+    ensures rises { steps.old ≤ steps.new }
 {
     match newly_met(waiters, bag, known, steps) {
         Some((place, age)) => match newly_free(waiters, bag, place, steps) {
@@ -101,6 +105,7 @@ fn newly_met<L: Ledger>(
     ensures inside { IfSome result (λ r. r.0 < known.requests) }
     ensures none { IfNone result (NoneOf (IsMet (tuples_of bag.now.now))
         (take known.requests waiters.now.requests.now)) }
+    ensures rises { steps.old ≤ steps.new }
 {
     if known.requests == 0 {
         return None;
@@ -141,6 +146,7 @@ fn newly_free<L: Ledger>(
     ensures inside { IfSome result (λ place. place < count) }
     ensures none { IfNone result (NoneOf (IsFree (tuples_of bag.now.now))
         (take count waiters.now.requests.now)) }
+    ensures rises { steps.old ≤ steps.new }
 {
     if waiters.absences {
         oldest_free(waiters, bag, count, steps)
@@ -165,6 +171,7 @@ fn oldest_free<L: Ledger>(
     ensures inside { IfSome result (λ place. place < count) }
     ensures none { IfNone result (NoneOf (IsFree (tuples_of bag.now.now))
         (take count waiters.now.requests.now)) }
+    ensures rises { steps.old ≤ steps.new }
 {
     let gone = bag.taken();
     if count <= gone.len() {
@@ -189,6 +196,7 @@ fn first_free<L: Ledger>(
     ensures inside { IfSome result (λ place. place < count) }
     ensures none { IfNone result (NoneOf (IsFree (tuples_of bag.now.now))
         (take count requests.now)) }
+    ensures rises { steps.old ≤ steps.new }
 {
     for place in 0..count {
         if is_free(&requests[place], bag, steps) {
@@ -215,6 +223,7 @@ fn freed_by<L: Ledger>(
     ensures none { (row : Row) → Contains (begun bag.now) row → row.age ≡ age
         → NoneOf (AsksFor (Some (tuples_of bag.now.now)) row.tuple)
         (take result waiters.now.requests.now) }
+    ensures rises { steps.old ≤ steps.new }
 {
     match bag.get_begun(age) {
         Some(tuple) => match oldest_asking(waiters, count, tuple, Some(bag), steps) {
@@ -239,6 +248,9 @@ pub fn answerable_from<L: Ledger>(
     requires inside { place ≤ length requests.now }
     ensures found { IfSome result (λ r. IsNextAnswer bag.now.now requests.now r.0 r.1) }
     ensures none { IfNone result (NoneOf (IsAnswerable (tuples_of bag.now.now)) requests.now) }
+    ensures counted { steps.new
+        ≤ steps.old + requests_steps (tuples_of bag.now.now) (drop place requests.now) }
+    ensures rises { steps.old ≤ steps.new }
 {
     for at in place..requests.len() {
         if let Some(age) = answer_to(&requests[at], bag, steps) {
@@ -254,6 +266,9 @@ fn answer_to<L: Ledger>(request: &Request, bag: &Bag, steps: &mut Steps<L>) -> O
     ensures found { IfSome result
         (IsAnsweredBy bag.now.now request.now.wants request.now.template) }
     ensures none { IfNone result (IsAnswerable (tuples_of bag.now.now) request.now → ⊥) }
+    ensures counted { steps.new
+        ≤ steps.old + agreeing request.now.template (tuples_of bag.now.now) }
+    ensures rises { steps.old ≤ steps.new }
 {
     let is_tuple = wants_tuple(request.wants);
     match oldest_match_of(&request.template, bag, steps) {

@@ -49,6 +49,7 @@ pub(crate) fn oldest_asking<L: Ledger>(
     ensures inside { IfSome result (λ place. place < count) }
     ensures none { IfNone result (NoneOf (AsksFor (tuples_in left.entry) tuple.now)
         (take count waiters.now.requests.now)) }
+    ensures rises { steps.old ≤ steps.new }
 {
     let wants = sought(left);
     let wanted = Wanted {
@@ -90,6 +91,7 @@ fn looked_up<L: Ledger>(
     ensures inside { result ≤ count }
     ensures asks { result < count → IsSuch (Asks wanted.now) waiters.now.requests.now result }
     ensures none { NoneOf (Asks wanted.now) (take result waiters.now.requests.now) }
+    ensures rises { steps.old ≤ steps.new }
 {
     if count == 0 {
         return 0;
@@ -117,6 +119,7 @@ fn gone_through<L: Ledger>(
     ensures inside { IfSome result (λ place. place < count) }
     ensures none { IfNone result
         (NoneOf (Asks wanted.now) (take count waiters.now.requests.now)) }
+    ensures rises { steps.old ≤ steps.new }
 {
     let requests = waiters.requests;
     let codes = waiters.codes;
@@ -132,7 +135,8 @@ fn gone_through<L: Ledger>(
 fn asks<L: Ledger>(request: &Request, code: u64, wanted: &Wanted, steps: &mut Steps<L>) -> bool
     requires code { code ≡ request_code request.now }
     requires wanted { IsWanted wanted.now }
-    ensures { IsTrue result ↔ Asks wanted.now request.now }
+    ensures exact { IsTrue result ↔ Asks wanted.now request.now }
+    ensures rises { steps.old ≤ steps.new }
 {
     if code != wanted.any && code != wanted.top && code != wanted.whole {
         return false;
@@ -142,7 +146,8 @@ fn asks<L: Ledger>(request: &Request, code: u64, wanted: &Wanted, steps: &mut St
 
 // Whether a request asks for a tuple.
 fn is_asking<L: Ledger>(request: &Request, wanted: &Wanted, steps: &mut Steps<L>) -> bool
-    ensures { IsTrue result ↔ Asks wanted.now request.now }
+    ensures exact { IsTrue result ↔ Asks wanted.now request.now }
+    ensures rises { steps.old ≤ steps.new }
 {
     if !does_match(&request.template, wanted.tuple) {
         return false;
@@ -155,7 +160,8 @@ fn is_asking<L: Ledger>(request: &Request, wanted: &Wanted, steps: &mut Steps<L>
 
 /// Whether a request wants absence, and no tuple matches.
 pub(crate) fn is_free<L: Ledger>(request: &Request, bag: &Bag, steps: &mut Steps<L>) -> bool
-    ensures { IsTrue result ↔ IsFree (tuples_of bag.now.now) request.now }
+    ensures exact { IsTrue result ↔ IsFree (tuples_of bag.now.now) request.now }
+    ensures rises { steps.old ≤ steps.new }
 {
     if wants_tuple(request.wants) {
         return false;
@@ -199,6 +205,7 @@ fn asking_by<L: Ledger>(
     ensures inside { result ≤ count }
     ensures asks { result < count → IsSuch (Asks wanted.now) waiters.now.requests.now result }
     ensures none { NoneSuch (Asks wanted.now) waiters.now.requests.now code result }
+    ensures rises { steps.old ≤ steps.new }
 {
     let requests = waiters.requests;
     let mut at = 0;

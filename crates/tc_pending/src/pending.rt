@@ -55,7 +55,7 @@ impl Model for Pending {
 }
 
 impl Pending {
-    ghost use Rattle.std.specs.Prelude.{◌≡◌, ◌<◌, ◌≤◌, ◌++◌, ◌∷◌, []};
+    ghost use Rattle.std.specs.Prelude.{◌≡◌, ◌<◌, ◌≤◌, ◌+◌, ◌++◌, ◌∷◌, []};
     ghost use Rattle.std.specs.Prelude.{length, remove};
     ghost use Rattle.std.specs.Prelude.{IfOk, IfSome, IfNone, OnOk, OnErr};
     ghost use Rattle.tc_lists.specs.Firsts.{NoneOf};
@@ -64,6 +64,7 @@ impl Pending {
     ghost use Rattle.tc_lists.specs.Marks.{IsBack, IsGivenUp};
     ghost use Rattle.tc_pending.specs.Waiting.{marked_requests};
     ghost use Rattle.tc_pending.specs.Answers.{IsNextAnswer, IsKnown};
+    ghost use Rattle.tc_pending.specs.Costs.{requests_steps};
 
     /// No request and no mark.
     pub fn new(alloc: Global) -> Pending
@@ -104,6 +105,9 @@ impl Pending {
         ensures none { IfOk result (λ found. IfNone found
             (NoneOf (IsAnswerable (tuples_of bag.now.now)) self.now.now)) }
         ensures never_fails { OnErr result ⊥ }
+        ensures counted { steps.new
+            ≤ steps.old + requests_steps (tuples_of bag.now.now) self.now.now }
+        ensures rises { steps.old ≤ steps.new }
     {
         Ok(answerable_from(&self.requests, bag, 0, steps))
     }
@@ -134,6 +138,7 @@ impl Pending {
         ensures found { IfSome result (λ r. IsNextAnswer bag.now.now self.now.now r.0 r.1) }
         ensures none { IfNone result
             (NoneOf (IsAnswerable (tuples_of bag.now.now)) self.now.now) }
+        ensures rises { steps.old ≤ steps.new }
     {
         let waiters = Waiters {
             requests: &self.requests,

@@ -10,10 +10,12 @@ ghost use Rattle.tc_replay.specs.Meeting.{IsAgeOf};
 
 use crate::meeting::age_of;
 use std::alloc::Global;
+use std::sync::ledger::{Blank, Ledger};
 use tc_bag::Bag;
 use tc_lists::NoMemory;
 use tc_model::{Event, EventOp, Phase, Sign};
 use tc_search::{does_match, oldest_match_of};
+use tc_steps::Steps;
 use tc_term::{Ground, Pattern};
 
 /// What an operation does to the tuples before its reactions, or finds there.
@@ -36,8 +38,16 @@ pub enum Act<'a> {
 }
 
 /// Does it where the tuples allow it, and tells whether they do.
-pub fn is_done(alloc: Global, act: &Act, bag: &mut Bag) -> Result<bool, NoMemory>
-    requires { bag.old.next < u64.MAX }
+pub fn is_done<L: Ledger>(
+    alloc: Global,
+    act: &Act,
+    bag: &mut Bag,
+    blank: Blank,
+) -> Result<bool, NoMemory>
+    requires name { blank.name ≡ L.name }
+    requires parts { blank.parts ≡ L.parts }
+    requires some { 0 < blank.parts }
+    requires next { bag.old.next < u64.MAX }
     ensures exact { IfOk result (λ y. IsTrue y ↔ CanAct act.now (tuples_of bag.old.now)) }
     ensures tuples { IfOk result (λ y. IsTrue y
         → tuples_of bag.new.now ≡ after_act act.now (tuples_of bag.old.now)) }
@@ -45,6 +55,7 @@ pub fn is_done(alloc: Global, act: &Act, bag: &mut Bag) -> Result<bool, NoMemory
     ensures adds { AddsYounger bag.old bag.new }
     ensures room { bag.new.next ≤ bag.old.next + 1 }
 {
+    let mut steps = Steps::<L>::none(blank);
     match act {
         Act::Put(tuple) => {
             bag.add(tuple.copy(alloc)?)?;
@@ -52,22 +63,27 @@ pub fn is_done(alloc: Global, act: &Act, bag: &mut Bag) -> Result<bool, NoMemory
         }
         Act::Ask(_) => Ok(true),
         Act::Take(template, tuple) => {
-            let Some(age) = chosen(template, tuple, bag) else {
+            let Some(age) = chosen(template, tuple, bag, &mut steps) else {
                 return Ok(false);
             };
             bag.take(age);
             Ok(true)
         }
         Act::Read(template, tuple) | Act::Refute(template, tuple) => {
-            Ok(chosen(template, tuple, bag).is_some())
+            Ok(chosen(template, tuple, bag, &mut steps).is_some())
         }
-        Act::Miss(template) => Ok(is_missed(template, bag)),
-        Act::Confirm(template) => Ok(is_missed(template, bag)),
+        Act::Miss(template) => Ok(is_missed(template, bag, &mut steps)),
+        Act::Confirm(template) => Ok(is_missed(template, bag, &mut steps)),
     }
 }
 
 // The age of the tuple, where it is there and matches the template.
-fn chosen(template: &Pattern, tuple: &Ground, bag: &Bag) -> Option<u64>
+fn chosen<L: Ledger>(
+    template: &Pattern,
+    tuple: &Ground,
+    bag: &Bag,
+    steps: &mut Steps<L>,
+) -> Option<u64>
     ensures age { IfSome result (IsAgeOf tuple.now bag.now.now) }
     ensures some { IfSome result
         (λ age. IsChosen AnyOne (IsMatch template.now) (tuples_of bag.now.now) tuple.now) }
@@ -75,16 +91,16 @@ fn chosen(template: &Pattern, tuple: &Ground, bag: &Bag) -> Option<u64>
         (IsChosen AnyOne (IsMatch template.now) (tuples_of bag.now.now) tuple.now → ⊥) }
 {
     if does_match(template, tuple) {
-        return age_of(tuple, bag);
+        return age_of(tuple, bag, steps);
     }
     None
 }
 
 // Whether no tuple matches the template.
-fn is_missed(template: &Pattern, bag: &Bag) -> bool
+fn is_missed<L: Ledger>(template: &Pattern, bag: &Bag, steps: &mut Steps<L>) -> bool
     ensures { IsTrue result ↔ NoneMatches (tuples_of bag.now.now) template.now }
 {
-    oldest_match_of(template, bag).is_none()
+    oldest_match_of(template, bag, steps).is_none()
 }
 
 /// The event of an operation that has acted so.

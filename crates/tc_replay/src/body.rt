@@ -12,9 +12,12 @@ ghost use Rattle.tc_bag.specs.Stock.{tuples_of, AddsYounger};
 use crate::goal::is_stuck;
 use crate::leading::lead;
 use std::alloc::Global;
+use std::marker::Brand;
+use std::sync::ledger::{Blank, Ledger};
 use tc_bag::Bag;
 use tc_lists::NoMemory;
 use tc_model::{Context, Effect, Event, Item, Reaction};
+use tc_steps::Steps;
 use tc_unify::Store;
 
 /// Whether the item tells what may come of the body over the tuples of the bag, whatever tuples
@@ -81,7 +84,7 @@ fn does_fire(
     ensures room { bag.new.next ≤ bag.old.next + MOST_GOALS }
 {
     bag.mark()?;
-    match fires(alloc, store, r, e, context, recorded, bag) {
+    match fires::<Brand>(alloc, store, r, e, context, recorded, bag, Blank::new(1)) {
         Ok(true) => {
             bag.keep();
             Ok(true)
@@ -117,13 +120,23 @@ fn does_fail(
     ensures same { bag.new ≡ bag.old }
 {
     bag.mark()?;
-    let failed = fails(alloc, store, r, e, context, number, recorded, bag);
+    let failed = fails::<Brand>(
+        alloc,
+        store,
+        r,
+        e,
+        context,
+        number,
+        recorded,
+        bag,
+        Blank::new(1),
+    );
     bag.undo();
     failed
 }
 
 // The same as `does_fire` without its mark: where the body can't fire so, the bag may have changed.
-fn fires(
+fn fires<L: Ledger>(
     alloc: Global,
     store: &mut Store,
     r: &Reaction,
@@ -131,7 +144,11 @@ fn fires(
     context: &Context,
     recorded: &[Effect],
     bag: &mut Bag,
+    blank: Blank,
 ) -> Result<bool, NoMemory>
+    requires name { blank.name ≡ L.name }
+    requires parts { blank.parts ≡ L.parts }
+    requires some { 0 < blank.parts }
     requires next { bag.old.next + MOST_GOALS ≤ u64.MAX }
     ensures yes { IfOk result (λ y. IsTrue y
         → IsFired AnyOne r.now e.now context.now (tuples_of bag.old.now) recorded.now) }
@@ -143,16 +160,19 @@ fn fires(
     ensures adds { AddsYounger bag.old bag.new }
     ensures room { bag.new.next ≤ bag.old.next + MOST_GOALS }
 {
+    let mut steps = Steps::<L>::none(blank);
     let goals = r.goals();
     let vars = r.vars();
-    if !meet_head(store, r, e)? {
+    if !meet_head(store, r, e, &mut steps)? {
         return Ok(false);
     }
-    lead(alloc, goals, vars, e, context, recorded, store, bag)
+    lead(
+        alloc, goals, vars, e, context, recorded, store, bag, &mut steps,
+    )
 }
 
 // The same as `does_fail` without its mark: the bag may have changed.
-fn fails(
+fn fails<L: Ledger>(
     alloc: Global,
     store: &mut Store,
     r: &Reaction,
@@ -161,7 +181,11 @@ fn fails(
     number: u32,
     recorded: &[Effect],
     bag: &mut Bag,
+    blank: Blank,
 ) -> Result<bool, NoMemory>
+    requires name { blank.name ≡ L.name }
+    requires parts { blank.parts ≡ L.parts }
+    requires some { 0 < blank.parts }
     requires next { bag.old.next + MOST_GOALS ≤ u64.MAX }
     ensures yes { IfOk result (λ y. IsTrue y
         → IsFailed AnyOne r.now e.now context.now (tuples_of bag.old.now) number recorded.now) }
@@ -170,6 +194,7 @@ fn fails(
         → ⊥) }
     ensures saved { bag.new.saved ≡ bag.old.saved }
 {
+    let mut steps = Steps::<L>::none(blank);
     if number == 0 {
         return Ok(false);
     }
@@ -179,7 +204,7 @@ fn fails(
     if goals.len() <= place {
         return Ok(false);
     }
-    if !meet_head(store, r, e)? {
+    if !meet_head(store, r, e, &mut steps)? {
         return Ok(is_first(number, recorded));
     }
     if !lead(
@@ -191,22 +216,37 @@ fn fails(
         recorded,
         store,
         bag,
+        &mut steps,
     )? {
         return Ok(false);
     }
-    is_stuck(alloc, &goals[place], vars, e, context, store, bag)
+    is_stuck(
+        alloc,
+        &goals[place],
+        vars,
+        e,
+        context,
+        store,
+        bag,
+        &mut steps,
+    )
 }
 
 // Whether the head of a reaction and the term of an event can be made equal. Then the store holds
 // their equation alone.
-fn meet_head(store: &mut Store, r: &Reaction, e: &Event) -> Result<bool, NoMemory>
+fn meet_head<L: Ledger>(
+    store: &mut Store,
+    r: &Reaction,
+    e: &Event,
+    steps: &mut Steps<L>,
+) -> Result<bool, NoMemory>
     ensures met { IfOk result (λ y. IsTrue y
         → store.new ≡ met r.now.vars r.now.head e.now.term) }
     ensures apart { IfOk result (λ y. y ≡ false → Solvable (r.now.vars + var_bound e.now.term)
         ((r.now.head, raised r.now.vars e.now.term) ∷ []) → ⊥) }
     ensures solvable { OnOk result (Solvable store.new.vars store.new.pairs) }
 {
-    let met = store.meet(r.head(), r.vars(), e.term())?;
+    let met = store.meet(r.head(), r.vars(), e.term(), steps)?;
     Ok(met)
 }
 

@@ -8,6 +8,8 @@ ghost use Rattle.tc_replay.specs.Replays.{IsCascade, KeepsBudget, LeavesMembers}
 use crate::agenda::Agenda;
 use crate::trying::{add, is_tried};
 use std::alloc::Global;
+use std::marker::Brand;
+use std::sync::ledger::Blank;
 use tc_bag::Bag;
 use tc_lists::NoMemory;
 use tc_model::{Context, Event, Item};
@@ -55,7 +57,14 @@ pub fn is_cascade(
         return Ok(false);
     }
     let mut triggered = Agenda::new(alloc);
-    add(alloc, store, spec, e.copy(alloc)?, &mut triggered)?;
+    add::<Brand>(
+        alloc,
+        store,
+        spec,
+        e.copy(alloc)?,
+        &mut triggered,
+        Blank::new(1),
+    )?;
     for item in items {
         if !is_tried(alloc, store, spec, context, item, &mut triggered, bag)? {
             return Ok(false);

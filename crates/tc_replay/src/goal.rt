@@ -17,11 +17,13 @@ ghost use Rattle.tc_replay.specs.Meeting.{HasReadNext, ReadsNoNext};
 
 use crate::meeting::meet;
 use std::alloc::Global;
+use std::sync::ledger::Ledger;
 use tc_bag::{Bag, Key};
 use tc_goals::succeeds;
 use tc_lists::NoMemory;
 use tc_model::{Context, Effect, Event, Goal};
 use tc_search::oldest_match;
+use tc_steps::Steps;
 use tc_term::Term;
 use tc_unify::{Part, Store};
 
@@ -30,7 +32,7 @@ use tc_unify::{Part, Store};
 ///
 /// Where it has, every such step leads to one moment, and the equations and the tuples are those
 /// there. Else the equations may have changed.
-pub fn follow(
+pub fn follow<L: Ledger>(
     alloc: Global,
     goal: &Goal,
     vars: u32,
@@ -39,6 +41,7 @@ pub fn follow(
     next: Option<&Effect>,
     store: &mut Store,
     bag: &mut Bag,
+    steps: &mut Steps<L>,
 ) -> Result<bool, NoMemory>
     requires width { store.old.vars ≡ vars + var_bound e.now.term }
     requires goal { All (HasVarsBelow vars) (terms_of goal.now) }
@@ -62,17 +65,17 @@ pub fn follow(
 {
     match goal {
         Goal::OutR(t) => put_next(t, next, store, bag),
-        Goal::InR(t) => take_next(t, next, store, bag),
-        Goal::RdR(t) => read_next(t, next, store, bag),
-        Goal::NoR(t) => is_absent(alloc, t, store, bag),
-        _ => succeeds(alloc, goal, vars, e, context, store),
+        Goal::InR(t) => take_next(t, next, store, bag, steps),
+        Goal::RdR(t) => read_next(t, next, store, bag, steps),
+        Goal::NoR(t) => is_absent(alloc, t, store, bag, steps),
+        _ => succeeds(alloc, goal, vars, e, context, store, steps),
     }
 }
 
 /// Whether a goal of a body with so many variables has no step, by any tuple.
 ///
 /// The equations may have changed.
-pub fn is_stuck(
+pub fn is_stuck<L: Ledger>(
     alloc: Global,
     goal: &Goal,
     vars: u32,
@@ -80,6 +83,7 @@ pub fn is_stuck(
     context: &Context,
     store: &mut Store,
     bag: &Bag,
+    steps: &mut Steps<L>,
 ) -> Result<bool, NoMemory>
     requires width { store.old.vars ≡ vars + var_bound e.now.term }
     requires goal { All (HasVarsBelow vars) (terms_of goal.now) }
@@ -93,9 +97,9 @@ pub fn is_stuck(
 {
     match goal {
         Goal::OutR(t) => has_no_value(t, store),
-        Goal::InR(t) | Goal::RdR(t) => is_absent(alloc, t, store, bag),
-        Goal::NoR(t) => Ok(!is_absent(alloc, t, store, bag)?),
-        _ => Ok(!succeeds(alloc, goal, vars, e, context, store)?),
+        Goal::InR(t) | Goal::RdR(t) => is_absent(alloc, t, store, bag, steps),
+        Goal::NoR(t) => Ok(!is_absent(alloc, t, store, bag, steps)?),
+        _ => Ok(!succeeds(alloc, goal, vars, e, context, store, steps)?),
     }
 }
 
@@ -129,11 +133,12 @@ fn put_next(t: &Term, next: Option<&Effect>, store: &Store, bag: &mut Bag) -> Re
 }
 
 // Takes the tuple that the next effect tells, where it matches.
-fn take_next(
+fn take_next<L: Ledger>(
     t: &Term,
     next: Option<&Effect>,
     store: &mut Store,
     bag: &mut Bag,
+    steps: &mut Steps<L>,
 ) -> Result<bool, NoMemory>
     requires bound { var_bound (tree_of t.now) ≤ store.old.vars }
     requires solvable { Solvable store.old.vars store.old.pairs }
@@ -154,7 +159,7 @@ fn take_next(
     let Effect::Took(tuple) = effect else {
         return Ok(false);
     };
-    let Some(age) = meet(store, t, tuple, bag)? else {
+    let Some(age) = meet(store, t, tuple, bag, steps)? else {
         return Ok(false);
     };
     bag.take(age);
@@ -162,11 +167,12 @@ fn take_next(
 }
 
 // Reads the tuple that the next effect tells, where it matches.
-fn read_next(
+fn read_next<L: Ledger>(
     t: &Term,
     next: Option<&Effect>,
     store: &mut Store,
     bag: &Bag,
+    steps: &mut Steps<L>,
 ) -> Result<bool, NoMemory>
     requires bound { var_bound (tree_of t.now) ≤ store.old.vars }
     requires solvable { Solvable store.old.vars store.old.pairs }
@@ -183,14 +189,20 @@ fn read_next(
     let Effect::Read(tuple) = effect else {
         return Ok(false);
     };
-    let Some(_age) = meet(store, t, tuple, bag)? else {
+    let Some(_age) = meet(store, t, tuple, bag, steps)? else {
         return Ok(false);
     };
     Ok(true)
 }
 
 // Whether no tuple matches.
-fn is_absent(alloc: Global, t: &Term, store: &mut Store, bag: &Bag) -> Result<bool, NoMemory>
+fn is_absent<L: Ledger>(
+    alloc: Global,
+    t: &Term,
+    store: &mut Store,
+    bag: &Bag,
+    steps: &mut Steps<L>,
+) -> Result<bool, NoMemory>
     requires within { HasVarsBelow store.old.vars (tree_of t.now) }
     requires solvable { Solvable store.old.vars store.old.pairs }
     ensures none { IfOk result (λ y. IsTrue y
@@ -203,7 +215,7 @@ fn is_absent(alloc: Global, t: &Term, store: &mut Store, bag: &Bag) -> Result<bo
     ensures solvable { Solvable store.new.vars store.new.pairs }
 {
     let key = Key::of(alloc, t)?;
-    match oldest_match(store, t, &key, bag)? {
+    match oldest_match(store, t, &key, bag, steps)? {
         Some(_) => Ok(false),
         None => Ok(true),
     }

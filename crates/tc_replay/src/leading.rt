@@ -11,16 +11,18 @@ ghost use Rattle.tc_replay.specs.Following.{LeadsThere, LeadsNowhere, has_effect
 
 use crate::goal::follow;
 use std::alloc::Global;
+use std::sync::ledger::Ledger;
 use tc_bag::Bag;
 use tc_lists::NoMemory;
 use tc_model::{Context, Effect, Event, Goal};
+use tc_steps::Steps;
 use tc_unify::Store;
 
 /// Whether goals, of a body with so many variables, lead on with exactly these effects.
 ///
 /// Where they do, they lead to one end alone, and the equations and the tuples are those there.
 /// Else both may have changed.
-pub fn lead(
+pub fn lead<L: Ledger>(
     alloc: Global,
     goals: &[Goal],
     vars: u32,
@@ -29,6 +31,7 @@ pub fn lead(
     recorded: &[Effect],
     store: &mut Store,
     bag: &mut Bag,
+    steps: &mut Steps<L>,
 ) -> Result<bool, NoMemory>
     requires width { store.old.vars ≡ vars + var_bound e.now.term }
     requires goals { All (λ g. All (HasVarsBelow vars) (terms_of g)) goals.now }
@@ -52,7 +55,7 @@ pub fn lead(
     let mut done = 0;
     for goal in goals {
         let next = effect_at(recorded, done);
-        if !follow(alloc, goal, vars, e, context, next, store, bag)? {
+        if !follow(alloc, goal, vars, e, context, next, store, bag, steps)? {
             return Ok(false);
         }
         let behind = place_behind(goal, done);

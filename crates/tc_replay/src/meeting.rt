@@ -6,14 +6,22 @@ ghost use Rattle.tc_term.specs.Equations.{Solvable, Matches, with_pair};
 ghost use Rattle.tc_bag.specs.Stock.{tuples_of};
 ghost use Rattle.tc_replay.specs.Meeting.{IsAgeOf, HasMet, MeetsNot};
 
+use std::sync::ledger::Ledger;
 use tc_bag::{Bag, known_first};
 use tc_lists::NoMemory;
+use tc_steps::Steps;
 use tc_term::{Ground, Term};
 use tc_unify::Store;
 
 /// Adds the equation of a term and a tuple, and tells the age of the first equal one in the bag;
 /// nothing where it isn't there, or doesn't match.
-pub fn meet(store: &mut Store, t: &Term, tuple: &Ground, bag: &Bag) -> Result<Option<u64>, NoMemory>
+pub fn meet<L: Ledger>(
+    store: &mut Store,
+    t: &Term,
+    tuple: &Ground,
+    bag: &Bag,
+    steps: &mut Steps<L>,
+) -> Result<Option<u64>, NoMemory>
     requires bound { var_bound (tree_of t.now) ≤ store.old.vars }
     requires solvable { Solvable store.old.vars store.old.pairs }
     ensures met { IfOk result (λ found. IfSome found
@@ -24,10 +32,10 @@ pub fn meet(store: &mut Store, t: &Term, tuple: &Ground, bag: &Bag) -> Result<Op
     ensures vars { store.new.vars ≡ store.old.vars }
     ensures solvable { Solvable store.new.vars store.new.pairs }
 {
-    let Some(age) = age_of(tuple, bag) else {
+    let Some(age) = age_of(tuple, bag, steps) else {
         return Ok(None);
     };
-    if is_added(store, t, tuple)? {
+    if is_added(store, t, tuple, steps)? {
         return Ok(Some(age));
     }
     Ok(None)
@@ -36,14 +44,14 @@ pub fn meet(store: &mut Store, t: &Term, tuple: &Ground, bag: &Bag) -> Result<Op
 /// The age of the first tuple of the bag that is equal to this one.
 ///
 /// Those with its key and its first argument are compared, the oldest first. No memory is taken.
-pub fn age_of(tuple: &Ground, bag: &Bag) -> Option<u64>
+pub fn age_of<L: Ledger>(tuple: &Ground, bag: &Bag, steps: &mut Steps<L>) -> Option<u64>
     ensures found { IfSome result (IsAgeOf tuple.now bag.now.now) }
     ensures none { IfNone result (Contains (tuples_of bag.now.now) tuple.now → ⊥) }
 {
     let term = tuple.term();
     let first = known_first(term);
     let mut start = 0;
-    while let Some((age, other)) = bag.candidate_for(term, first, start) {
+    while let Some((age, other)) = bag.candidate_for(term, first, start, steps) {
         if *other.term() == *term {
             return Some(age);
         }
@@ -53,7 +61,12 @@ pub fn age_of(tuple: &Ground, bag: &Bag) -> Option<u64>
 }
 
 // Adds the equation of a term and a tuple, and tells whether it could.
-fn is_added(store: &mut Store, t: &Term, tuple: &Ground) -> Result<bool, NoMemory>
+fn is_added<L: Ledger>(
+    store: &mut Store,
+    t: &Term,
+    tuple: &Ground,
+    steps: &mut Steps<L>,
+) -> Result<bool, NoMemory>
     requires { var_bound (tree_of t.now) ≤ store.old.vars }
     ensures added { IfOk result (λ y. IsTrue y
         → store.new ≡ with_pair store.old (tree_of t.now) tuple.now) }
@@ -62,6 +75,6 @@ fn is_added(store: &mut Store, t: &Term, tuple: &Ground) -> Result<bool, NoMemor
     ensures vars { store.new.vars ≡ store.old.vars }
     ensures solvable { Solvable store.new.vars store.new.pairs }
 {
-    let added = store.equate(t, tuple.term())?;
+    let added = store.equate(t, tuple.term(), steps)?;
     Ok(added)
 }

@@ -18,6 +18,8 @@ use crate::acts::{Act, event_of, is_done};
 use crate::cascade::{Ending, is_cascade};
 use crate::demands::{Demand, of_answer, of_call};
 use std::alloc::Global;
+use std::marker::Brand;
+use std::sync::ledger::Blank;
 use tc_bag::Bag;
 use tc_lists::{NoMemory, Seq};
 use tc_model::{Context, EventOp, Item, Op, Outcome, Request};
@@ -191,7 +193,7 @@ fn is_phase(
     ensures adds { AddsYounger bag.old bag.new }
     ensures room { bag.new.next ≤ bag.old.next + 1 + MOST_GOALS * length items.now }
 {
-    if !is_done(alloc, act, bag)? {
+    if !is_done::<Brand>(alloc, act, bag, Blank::new(1))? {
         return Ok(false);
     }
     let event = event_of(alloc, op, act)?;

@@ -14,10 +14,13 @@ ghost use Rattle.tc_replay.specs.Replays.{Raises, wave_of};
 use crate::agenda::Agenda;
 use crate::body::is_body;
 use std::alloc::Global;
+use std::marker::Brand;
+use std::sync::ledger::{Blank, Ledger};
 use tc_bag::Bag;
 use tc_lists::NoMemory;
 use tc_model::{Clauses, Context, Effect, Event, EventOp, Item, Reaction};
 use tc_spec::Spec;
+use tc_steps::Steps;
 use tc_unify::Store;
 
 /// Whether the item tells of a triggered reaction that was picked and tried. Then what is triggered
@@ -65,16 +68,21 @@ pub fn is_tried(
 }
 
 /// Adds what the event triggers behind the others.
-pub fn add(
+pub fn add<L: Ledger>(
     alloc: Global,
     store: &mut Store,
     spec: &Spec,
     event: Event,
     triggered: &mut Agenda,
+    blank: Blank,
 ) -> Result<(), NoMemory>
+    requires name { blank.name ≡ L.name }
+    requires parts { blank.parts ≡ L.parts }
+    requires some { 0 < blank.parts }
     ensures { OnOk result (Raises spec.now (event ∷ []) triggered.old triggered.new) }
 {
-    let numbers = spec.triggered(alloc, store, &event)?;
+    let mut steps = Steps::<L>::none(blank);
+    let numbers = spec.triggered(alloc, store, &event, &mut steps)?;
     triggered.add(event, numbers)?;
     Ok(())
 }
@@ -127,7 +135,14 @@ fn raise_all(
     ensures { OnOk result (Raises spec.now (map event_of effects.now) triggered.old triggered.new) }
 {
     for effect in effects {
-        add(alloc, store, spec, event_of(alloc, effect)?, triggered)?;
+        add::<Brand>(
+            alloc,
+            store,
+            spec,
+            event_of(alloc, effect)?,
+            triggered,
+            Blank::new(1),
+        )?;
     }
     Ok(())
 }

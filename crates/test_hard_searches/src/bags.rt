@@ -1,6 +1,6 @@
 //! Bags that are hard to search.
 use crate::fault::Fault;
-use crate::terms::{add, applied, is_first, is_oldest, key, wide, word};
+use crate::terms::{add, applied, is_first, is_oldest, key, oldest_from, wide, word};
 use std::alloc::Global;
 use tc_bag::{Bag, Key};
 use tc_term::Term;
@@ -18,7 +18,7 @@ fn of_equals(alloc: Global, count: u32) -> Result<Bag, Fault> {
 fn take_oldest(bag: &mut Bag, key: &Key, count: u32) -> u32 {
     let mut taken = 0u32;
     for _ in 0..count {
-        let Some(age) = bag.candidate(key, 0).map(|row| row.0) else {
+        let Some(age) = oldest_from(bag, key, 0) else {
             return taken;
         };
         bag.take(age);
@@ -35,8 +35,8 @@ pub fn a_million(alloc: Global) -> Result<bool, Fault> {
     let before = is_oldest(&bag, &key, Some(0)) && is_first(&bag, &key, &one, Some(0));
     let taken = take_oldest(&mut bag, &key, 1_000);
     let behind = is_oldest(&bag, &key, Some(1_000)) && is_first(&bag, &key, &one, Some(1_000));
-    let youngest = bag.candidate(&key, 999_999).map(|row| row.0) == Some(999_999);
-    let beyond = bag.candidate(&key, 1_000_000).is_none();
+    let youngest = oldest_from(&bag, &key, 999_999) == Some(999_999);
+    let beyond = oldest_from(&bag, &key, 1_000_000).is_none();
     Ok(before && taken == 1_000 && behind && youngest && beyond && bag.len() == 999_000)
 }
 

@@ -5,10 +5,13 @@ ghost use Rattle.tc_model.specs.State.{WantsTuple};
 use crate::fault::Fault;
 use crate::terms::{add, applied, of_one_code};
 use std::alloc::Global;
+use std::marker::Brand;
+use std::sync::ledger::{Blank, Ledger};
 use tc_bag::Bag;
 use tc_lists::NoMemory;
 use tc_model::{CallId, Request, Wants};
 use tc_pending::{Known, Pending};
+use tc_steps::Steps;
 use tc_term::{NotPattern, Pattern, Term};
 
 // Adds the request of the first agent for a tuple.
@@ -39,12 +42,16 @@ fn is_next(
 ) -> Result<bool, Fault> {
     let mut bag = Bag::new(alloc);
     add(&mut bag, tuple)?;
-    let next = next(pending, &bag);
+    let next = next::<Brand>(pending, &bag, Blank::new(1));
     Ok(next.map(|found| found.0) == place)
 }
 
 // What is next where all tuples are new to all requests, each of which wants a tuple.
-fn next(pending: &Pending, bag: &Bag) -> Option<(usize, Option<u64>)> {
+fn next<L: Ledger>(pending: &Pending, bag: &Bag, blank: Blank) -> Option<(usize, Option<u64>)>
+    requires name { blank.name ≡ L.name }
+    requires parts { blank.parts ≡ L.parts }
+    requires some { 0 < blank.parts }
+{
     if !want_tuples(pending.list()) {
         return None;
     }
@@ -52,7 +59,8 @@ fn next(pending: &Pending, bag: &Bag) -> Option<(usize, Option<u64>)> {
         requests: pending.list().len(),
         age: 0,
     };
-    pending.next_answerable(bag, known)
+    let mut steps = Steps::<L>::none(blank);
+    pending.next_answerable(bag, known, &mut steps)
 }
 
 // Whether each request wants a tuple.
@@ -165,6 +173,20 @@ fn bag_of(alloc: Global, numbers: &[i64]) -> Result<Bag, Fault> {
     Ok(bag)
 }
 
+// What is next of all the requests, by all the tuples.
+fn first<L: Ledger>(
+    pending: &Pending,
+    bag: &Bag,
+    blank: Blank,
+) -> Result<Option<(usize, Option<u64>)>, NoMemory>
+    requires name { blank.name ≡ L.name }
+    requires parts { blank.parts ≡ L.parts }
+    requires some { 0 < blank.parts }
+{
+    let mut steps = Steps::<L>::none(blank);
+    pending.oldest_answerable(bag, &mut steps)
+}
+
 // Requests for these, the tuples that are there, and which request is answered next by which tuple.
 type Row<'a> = (&'a [i64], &'a [i64], Option<(usize, u64)>);
 
@@ -181,7 +203,7 @@ pub fn oldest(alloc: Global) -> Result<bool, Fault> {
     let mut all = true;
     for (wanted, there, place) in rows {
         let pending = requests_for(alloc, wanted)?;
-        let found = pending.oldest_answerable(&bag_of(alloc, there)?)?;
+        let found = first::<Brand>(&pending, &bag_of(alloc, there)?, Blank::new(1))?;
         all = found == place.map(|(request, age)| (request, Some(age))) && all;
     }
     Ok(all)

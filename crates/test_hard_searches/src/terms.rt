@@ -1,8 +1,11 @@
 //! Terms, and bags and keys of them.
 use crate::fault::Fault;
 use std::alloc::Global;
+use std::marker::Brand;
+use std::sync::ledger::{Blank, Ledger};
 use tc_bag::{Bag, Key};
 use tc_lists::NoMemory;
+use tc_steps::Steps;
 use tc_term::{Args, Ground, Name, Term};
 
 /// The term `name(x)`.
@@ -67,11 +70,37 @@ pub fn key(alloc: Global, name: &[u8]) -> Result<Key, NoMemory> {
 
 /// Whether the oldest tuple of a key has this age; whether there is none, where none is given.
 pub fn is_oldest(bag: &Bag, key: &Key, age: Option<u64>) -> bool {
-    bag.candidate(key, 0).map(|row| row.0) == age
+    oldest_from(bag, key, 0) == age
 }
 
 /// Whether the oldest tuple of a key with a first argument has this age; whether there is none, where none
 /// is given.
 pub fn is_first(bag: &Bag, key: &Key, argument: &Term, age: Option<u64>) -> bool {
-    bag.candidate_like(key, Some(argument), 0).map(|row| row.0) == age
+    first_of::<Brand>(bag, key, argument, Blank::new(1)) == age
+}
+
+/// The age of the oldest tuple of a key, from this age on.
+pub fn oldest_from(bag: &Bag, key: &Key, from: u64) -> Option<u64> {
+    oldest_of::<Brand>(bag, key, from, Blank::new(1))
+}
+
+// The same, with steps that are counted.
+fn oldest_of<L: Ledger>(bag: &Bag, key: &Key, from: u64, blank: Blank) -> Option<u64>
+    requires name { blank.name ≡ L.name }
+    requires parts { blank.parts ≡ L.parts }
+    requires some { 0 < blank.parts }
+{
+    let mut steps = Steps::<L>::none(blank);
+    bag.candidate(key, from, &mut steps).map(|row| row.0)
+}
+
+// The age of the oldest tuple of a key with a first argument, with steps that are counted.
+fn first_of<L: Ledger>(bag: &Bag, key: &Key, argument: &Term, blank: Blank) -> Option<u64>
+    requires name { blank.name ≡ L.name }
+    requires parts { blank.parts ≡ L.parts }
+    requires some { 0 < blank.parts }
+{
+    let mut steps = Steps::<L>::none(blank);
+    bag.candidate_like(key, Some(argument), 0, &mut steps)
+        .map(|row| row.0)
 }

@@ -13,9 +13,12 @@ use crate::answers::{append_term, append_truth};
 use crate::terms::{template_of, tuple_of};
 use anyhow::anyhow;
 use std::alloc::Global;
+use std::marker::Brand;
+use std::sync::ledger::{Blank, Ledger};
 use tc_bag::{Bag, Key};
 use tc_lists::{NoMemory, append_number};
 use tc_search::{does_match, oldest_match_of};
+use tc_steps::Steps;
 use tc_term::{Ground, Term};
 use test_texts::parts;
 
@@ -53,13 +56,24 @@ fn act(alloc: Global, bag: &mut Bag, step: &Term, into: &mut Vec<u8>) -> anyhow:
         (b"mark", []) => bag.mark()?,
         (b"keep", []) => bag.keep(),
         (b"undo", []) => bag.undo(),
-        _ => tell(alloc, bag, step, into)?,
+        _ => tell::<Brand>(alloc, bag, step, into, Blank::new(1))?,
     }
     Ok(())
 }
 
 // Tells what a step asks of a bag.
-fn tell(alloc: Global, bag: &Bag, step: &Term, into: &mut Vec<u8>) -> anyhow::Result<()> {
+fn tell<L: Ledger>(
+    alloc: Global,
+    bag: &Bag,
+    step: &Term,
+    into: &mut Vec<u8>,
+    blank: Blank,
+) -> anyhow::Result<()>
+    requires name { blank.name ≡ L.name }
+    requires parts { blank.parts ≡ L.parts }
+    requires some { 0 < blank.parts }
+{
+    let mut steps = Steps::<L>::none(blank);
     into.extend_from_slice(b" ")?;
     match parts(step) {
         (b"all", []) => append_all(alloc, bag, into)?,
@@ -68,17 +82,17 @@ fn tell(alloc: Global, bag: &Bag, step: &Term, into: &mut Vec<u8>) -> anyhow::Re
             None => into.extend_from_slice(b"none")?,
         },
         (b"oldest", [term]) => {
-            let found = oldest_match_of(&template_of(alloc, term)?, bag);
+            let found = oldest_match_of(&template_of(alloc, term)?, bag, &mut steps);
             append_age(found.map(|row| row.0), into)?;
         }
         (b"next", [term, Term::Int(from)]) => {
             let key = key_of(alloc, term)?;
-            let found = bag.candidate(&key, u64::try_from(*from)?);
+            let found = bag.candidate(&key, u64::try_from(*from)?, &mut steps);
             append_age(found.map(|row| row.0), into)?;
         }
         (b"next", [term, first, Term::Int(from)]) => {
             let key = key_of(alloc, term)?;
-            let found = bag.candidate_like(&key, Some(first), u64::try_from(*from)?);
+            let found = bag.candidate_like(&key, Some(first), u64::try_from(*from)?, &mut steps);
             append_age(found.map(|row| row.0), into)?;
         }
         _ => return Err(anyhow!("no step has this form")),

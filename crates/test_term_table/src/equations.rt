@@ -19,6 +19,8 @@ use crate::sample::Sample;
 use crate::terms::{built, wide};
 use anyhow::anyhow;
 use std::alloc::Global;
+use std::marker::Brand;
+use std::sync::ledger::Blank;
 use tc_lists::append_number;
 use tc_term::{Name, Term};
 use tc_unify::Part;
@@ -96,7 +98,7 @@ fn add(
         term: &t,
         shift: u32::try_from(right.1)?,
     };
-    let added = sample.add(s, t)?;
+    let added = sample.add::<Brand>(s, t, Blank::new(1))?;
     into.extend_from_slice(b" ")?;
     append_truth(added, into)?;
     Ok(())
@@ -136,7 +138,7 @@ fn find(
     let template = built(alloc, template)?;
     let bag = bag_of(alloc, tuples)?;
     into.extend_from_slice(b" ")?;
-    match sample.find(alloc, &template, &bag)? {
+    match sample.find::<Brand>(alloc, &template, &bag, Blank::new(1))? {
         Some(age) => append_number(age, into)?,
         None => into.extend_from_slice(b"none")?,
     }
@@ -161,7 +163,7 @@ fn chain(
     for i in 0..u32::from(count) {
         let variable = Term::Var(u32::from(first) + i);
         let next = wide(alloc, &name, times, &Term::Var(u32::from(first) + i + 1))?;
-        if sample.add(as_is(&variable), as_is(&next))? {
+        if sample.add::<Brand>(as_is(&variable), as_is(&next), Blank::new(1))? {
             added = added.saturating_add(1);
         }
     }

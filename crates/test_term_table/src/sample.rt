@@ -6,9 +6,11 @@ ghost use Rattle.tc_term.specs.Variables.{raised, var_bound};
 
 use anyhow::anyhow;
 use std::alloc::Global;
+use std::sync::ledger::{Blank, Ledger};
 use tc_bag::{Bag, Key};
 use tc_lists::NoMemory;
 use tc_search::oldest_match;
+use tc_steps::Steps;
 use tc_term::{Ground, Term, fits};
 use tc_unify::{Part, Store, StoreMark};
 
@@ -30,13 +32,17 @@ impl Sample {
     }
 
     /// Whether the equation is added.
-    pub fn add(&mut self, s: Part, t: Part) -> anyhow::Result<bool>
+    pub fn add<L: Ledger>(&mut self, s: Part, t: Part, blank: Blank) -> anyhow::Result<bool>
+        requires name { blank.name ≡ L.name }
+        requires parts { blank.parts ≡ L.parts }
+        requires some { 0 < blank.parts }
         ensures { IsPrefix self.old.store.pairs self.new.store.pairs }
     {
         if !is_below(s.term, s.shift, self.vars) || !is_below(t.term, t.shift, self.vars) {
             return Err(anyhow!("a variable is not the store's"));
         }
-        Ok(self.store.add(s, t)?)
+        let mut steps = Steps::<L>::none(blank);
+        Ok(self.store.add(s, t, &mut steps)?)
     }
 
     /// The value of a term.
@@ -48,14 +54,24 @@ impl Sample {
     }
 
     /// The age of the oldest tuple of the bag that the template matches, whose equation is added.
-    pub fn find(&mut self, alloc: Global, template: &Term, bag: &Bag) -> anyhow::Result<Option<u64>>
+    pub fn find<L: Ledger>(
+        &mut self,
+        alloc: Global,
+        template: &Term,
+        bag: &Bag,
+        blank: Blank,
+    ) -> anyhow::Result<Option<u64>>
+        requires name { blank.name ≡ L.name }
+        requires parts { blank.parts ≡ L.parts }
+        requires some { 0 < blank.parts }
         ensures { IsPrefix self.old.store.pairs self.new.store.pairs }
     {
         if !fits(template) || !is_below(template, 0, self.vars) {
             return Err(anyhow!("no template of the store"));
         }
         let key = Key::of(alloc, template)?;
-        match oldest_match(&mut self.store, template, &key, bag)? {
+        let mut steps = Steps::<L>::none(blank);
+        match oldest_match(&mut self.store, template, &key, bag, &mut steps)? {
             Some((age, _tuple)) => Ok(Some(age)),
             None => Ok(None),
         }

@@ -19,13 +19,16 @@ overflow_add-from c = omega (arith, below c, c.in-Some.ensures.limit)
 pub loop-age-smaller : goal.loop-age-smaller
 loop-age-smaller c = omega (arith, below c, c.in-Some.ensures.found.has.0)
 
-pub loop-age-preserved : goal.loop-age-preserved
-loop-age-preserved c =
+-- the requests so far, with the next candidate
+far : (c : goal.Joined-oldest_asking)
+    → IsSoFar c.args.bag.now.now c.args.waiters.now.requests.now c.args.known.requests c.match-oldest_asking.next c.match-oldest_asking.count
+    (c.in-Some.age + 1)
+far c =
     let rows = c.args.bag.now.now in
     let requests = c.args.waiters.now.requests.now in
     let most = c.args.known.requests in
     let age = c.in-Some.age in
-    let far = c.loop-age.invariant in
+    let far = c.loop-age.invariant.far in
     let this : Row = row age c.in-Some.tuple.now in
     elim c.match-oldest_asking.branch [
       | in-Some-oldest_asking w ↦
@@ -42,21 +45,27 @@ loop-age-preserved c =
           c.in-Some.ensures.rises c.in-Some.ensures.found w.in_default-oldest_asking.ensures.none))
     ]
 
+pub loop-age-preserved : goal.loop-age-preserved
+loop-age-preserved c = record {
+  far = far c;
+  rises = omega (arith, c.loop-age.invariant.rises, c.in-Some.ensures.steps_rise, c.match-oldest_asking.ensures.rises);
+}
+
 pub returns-clause-found : goal.returns-clause-found
 returns-clause-found c =
     far-next c.args.bag.now.now c.args.waiters.now.requests.now c.args.known.requests c.loop-age.next c.loop-age.count c.loop-age.from
-    c.loop-age.invariant
-    (none-met c.args.bag.now.now c.args.waiters.now.requests.now c.loop-age.count c.loop-age.from c.loop-age.invariant.known
+    c.loop-age.invariant.far
+    (none-met c.args.bag.now.now c.args.waiters.now.requests.now c.loop-age.count c.loop-age.from c.loop-age.invariant.far.known
     c.in_default.ensures.none)
 
 pub returns-clause-inside : goal.returns-clause-inside
 returns-clause-inside c =
     far-inside c.args.bag.now.now c.args.waiters.now.requests.now c.args.known.requests c.loop-age.next c.loop-age.count c.loop-age.from
-    c.loop-age.invariant
+    c.loop-age.invariant.far
 
 pub returns-clause-none : goal.returns-clause-none
 returns-clause-none c =
     far-no c.args.bag.now.now c.args.waiters.now.requests.now c.args.known.requests c.loop-age.next c.loop-age.count c.loop-age.from
-    c.loop-age.invariant
-    (none-met c.args.bag.now.now c.args.waiters.now.requests.now c.loop-age.count c.loop-age.from c.loop-age.invariant.known
+    c.loop-age.invariant.far
+    (none-met c.args.bag.now.now c.args.waiters.now.requests.now c.loop-age.count c.loop-age.from c.loop-age.invariant.far.known
     c.in_default.ensures.none)

@@ -1,9 +1,12 @@
-use Rattle.std.proofs.Common.{◌-◌}
+use Rattle.std.proofs.Common.{◌≤◌, ◌-◌}
 use Rattle.tc_pending.proofs.Newly.{IsSoFar}
 use Rattle.tc_pending.proofs.answering.newly_met.Given as goal
 
 abbrev pub invariant-loop-age : goal.invariant-loop-age
-invariant-loop-age l = IsSoFar l.bag.now l.waiters.requests.now l.initial.count l.next l.count l.from
+invariant-loop-age l = record {
+  far : IsSoFar l.bag.now l.waiters.requests.now l.initial.count l.next l.count l.from;
+  rises : l.initial.steps ≤ l.steps;
+}
 
 abbrev pub decreases-loop-age : goal.decreases-loop-age
 decreases-loop-age l = l.bag.next - l.from

@@ -1,5 +1,9 @@
+use Rattle.std.proofs.Common.{◌≤◌}
 use Rattle.tc_pending.proofs.Freed.{IsSoFreed}
 use Rattle.tc_pending.proofs.answering.oldest_free.Given as goal
 
 abbrev pub invariant-loop-i : goal.invariant-loop-i
-invariant-loop-i l = IsSoFreed l.bag l.waiters.requests.now l.gone l.i l.count l.least
+invariant-loop-i l = record {
+  freed : IsSoFreed l.bag l.waiters.requests.now l.gone l.i l.count l.least;
+  rises : l.initial.steps ≤ l.steps;
+}

@@ -21,8 +21,9 @@ loop-place-preserved c =
       none = none-further (Asks c.args.wanted.now) requests c.args.waiters.now.codes.now c.requires.indexed.codes c.args.code c.loop-place.at
           c.loop-place.invariant.none place r
           (slice_get-get_or requests place r inside ∙ ap Some (sym c.index-requests-place.is))
-          (λ asks. absurd (true≢false (sym (c.if-is_asking.ensures.1 asks))))
+          (λ asks. absurd (true≢false (sym (c.if-is_asking.ensures.exact.1 asks))))
           c.in-Some.ensures.found;
+      rises = omega (arith, c.loop-place.invariant.rises, c.if-is_asking.ensures.rises);
     }
 
 pub returns-clause-none : goal.returns-clause-none

@@ -6,6 +6,7 @@ abbrev pub invariant-loop-place : goal.invariant-loop-place
 invariant-loop-place l = record {
   inside : l.at ≤ l.count;
   none : NoneSuch (Asks l.wanted) l.waiters.requests.now l.code l.at;
+  rises : l.initial.steps ≤ l.steps;
 }
 
 abbrev pub decreases-loop-place : goal.decreases-loop-place

@@ -3,8 +3,8 @@ use Rattle.std.proofs.lemmas.Bool.{true≢false}
 use Rattle.tc_pending.proofs.Coded.{not-asks}
 use Rattle.tc_pending.proofs.asking.asks.Goals as goal
 
-pub returns-then-code-wanted-3 : goal.returns-then-code-wanted-3
-returns-then-code-wanted-3 c = (
+pub returns-then-code-wanted-3-clause-exact : goal.returns-then-code-wanted-3-clause-exact
+returns-then-code-wanted-3-clause-exact c = (
   λ yes. absurd (true≢false (sym yes)),
   λ asks. absurd
       (not-asks c.args.wanted.now c.args.request.now c.args.code c.requires.wanted c.requires.code

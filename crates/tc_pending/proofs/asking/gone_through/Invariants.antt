@@ -1,7 +1,10 @@
-use Rattle.std.proofs.Common.{take}
+use Rattle.std.proofs.Common.{◌≤◌, take}
 use Rattle.tc_lists.specs.Firsts.{NoneOf}
 use Rattle.tc_pending.specs.Filed.{Asks}
 use Rattle.tc_pending.proofs.asking.gone_through.Given as goal
 
 abbrev pub invariant-loop-place : goal.invariant-loop-place
-invariant-loop-place l = NoneOf (Asks l.wanted) (take l.place l.waiters.requests.now)
+invariant-loop-place l = record {
+  none : NoneOf (Asks l.wanted) (take l.place l.waiters.requests.now);
+  rises : l.initial.steps ≤ l.steps;
+}

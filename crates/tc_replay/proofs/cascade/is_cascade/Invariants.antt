@@ -14,3 +14,6 @@ invariant-loop-item l = record {
   next : l.bag.next ≤ l.initial.bag.next + MOST_GOALS * l.item-index;
   adds : AddsYounger l.initial.bag l.bag;
 }
+
+abbrev pub ghosts-add : goal.ghosts-add
+ghosts-add a = record { name = a.blank.name; parts = 1 }
