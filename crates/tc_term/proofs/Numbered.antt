@@ -1,8 +1,8 @@
 -- Terms whose variables are 0, 1, .. by first appearance.
-use Rattle.std.proofs.Common.{◌≡◌, ◌<◌, ◌≤◌, ◌-◌, ◌⊎◌, inl, inr, ℕ, IsTrue, List, [], length, refl, ap, sym, ◌∙◌, subst, arith}
+use Rattle.std.proofs.Common.{◌≡◌, ◌<◌, ◌≤◌, ◌-◌, ◌⊎◌, inl, inr, ℕ, IsTrue, List, [], length, refl, ap, sym, ◌∙◌, subst, arith, Bool, true, false}
 use Rattle.std.specs.List.{range_with_len}
 use Rattle.std.proofs.lemmas.Bool.{cases_lt, and_parts}
-use Rattle.tc_term.proofs.Instances.{instance-Variable}
+use Rattle.tc_term.proofs.Instances.{instance-Variable, is_ground-instance}
 use Rattle.tc_term.proofs.Places.{Stands, Stands-range, Stands-with_number_back, Stands-with_number_new, place_in-range}
 use Rattle.tc_term.proofs.Renumbering.{Stands-variables_after_all}
 use Rattle.tc_term.specs.Tree.{Tree, Variable, Atomic, Number, Compound, Trees, Last, More, is_ground, are_ground, IsTuple}
@@ -118,3 +118,18 @@ IsPattern-tuple t tuple =
       template = record { fits = tuple.fits; few = omega (arith, ap length none) };
       numbered = none ∙ ap (range_with_len 0) (ap length (sym none));
     }
+
+-- a template is a tuple exactly where it has no variable
+pub IsTuple-pattern : (t : Tree) → IsPattern t → length (variables t) ≡ 0 → IsTuple t
+IsTuple-pattern t pattern none = record {
+  ground = subst (λ u. IsTrue (is_ground u)) (renumbered-pattern t pattern)
+      (is_ground-instance (λ n. Variable (place_in (variables t) n)) t (λ n below. absurd (omega (arith, below, var_bound-pattern t pattern, none))));
+  fits = pattern.template.fits;
+}
+
+pub is_ground-variables : (t : Tree) → 0 < length (variables t) → is_ground t ≡ false
+is_ground-variables t some = by (is_ground t) refl
+  where
+    by : (b : Bool) → is_ground t ≡ b → b ≡ false
+    by true ground = absurd (omega (arith, some, ap length (variables_after-ground t [] ground)))
+    by false e = refl

@@ -1,9 +1,10 @@
 //! Tuples: ground terms within the limits.
-ghost use Rattle.std.specs.Prelude.{◌≡◌, IfErr, IfOk};
-ghost use Rattle.tc_term.specs.Tree.{IsTuple};
+ghost use Rattle.std.specs.Prelude.{◌≡◌, IfErr, IfNone, IfOk, IfSome, false};
+ghost use Rattle.tc_term.specs.Tree.{IsTuple, is_ground};
 ghost use Rattle.tc_term.specs.TreeView.{tree_of};
 
 use crate::limits::fits;
+use crate::template::Pattern;
 use crate::terms::Term;
 use std::alloc::Global;
 use std::marker::Model;
@@ -57,6 +58,21 @@ impl Ground {
             return Err(NotTuple::NotGround(t));
         }
         Ok(Ground { term: t })
+    }
+
+    /// The template as a tuple, where it has no variable.
+    ///
+    /// It is not looked at again: takes O(1) time and no memory.
+    pub fn of_pattern(pattern: Pattern) -> Option<Ground>
+        ensures some { IfSome result (λ tuple. (tuple ≡ pattern) × IsTuple pattern) }
+        ensures none { IfNone result (is_ground pattern ≡ false) }
+    {
+        if pattern.vars() > 0 {
+            return None;
+        }
+        Some(Ground {
+            term: pattern.into_term(),
+        })
     }
 
     /// The term, which has no variable.
