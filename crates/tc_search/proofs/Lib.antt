@@ -4,3 +4,4 @@ pub mod Walking
 pub mod Arguments
 pub mod Bound
 pub mod ByFirst
+pub mod Looks

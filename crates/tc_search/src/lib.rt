@@ -4,7 +4,7 @@
 //! Nothing here knows of operations or histories.
 //!
 //! ```text
-//! let found = oldest_match_of(&template, &bag);
+//! let found = oldest_match_of(&template, &bag, &mut steps);
 //! assert!(rt; found.map(|row| row.0) == Some(1)); // its age
 //! ```
 #![tactic(auto)]

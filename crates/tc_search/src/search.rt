@@ -1,11 +1,12 @@
 //! Searches in a bag, under the equations of a store and for a template alone.
-ghost use Rattle.std.specs.Prelude.{◌≡◌, ◌≤◌, [], false, IsTrue, IfOk, IfSome, IfNone, OnErr};
+ghost use Rattle.std.specs.Prelude.{◌≡◌, ◌≤◌, ◌+◌, ◌*◌, [], false, IsTrue, IfOk, IfSome, IfNone, OnErr};
 ghost use Rattle.tc_lists.specs.Firsts.{NoneOf};
 ghost use Rattle.tc_term.specs.Equations.{Solvable, Matches, with_pair};
 ghost use Rattle.tc_term.specs.TreeView.{tree_of};
 ghost use Rattle.tc_term.specs.Variables.{var_bound};
 ghost use Rattle.tc_bag.specs.Keys.{key_of};
 ghost use Rattle.tc_bag.specs.Stock.{tuples_of};
+ghost use Rattle.tc_steps.specs.Tops.{agreeing};
 ghost use Rattle.tc_search.specs.Found.{IsFound};
 
 use crate::firsts::{first_of, value_after};
@@ -22,7 +23,8 @@ use tc_unify::Store;
 /// The equation of template and tuple is then added to the store; where no tuple matches, and where
 /// memory ends, the store is as before. The key is the template's. Only tuples are tried that agree
 /// with it; and once a few were tried in vain, only those that have the first argument which the
-/// equations give to the template, if they give one.
+/// equations give to the template, if they give one. So it makes two steps at most for each tuple
+/// that agrees with the template at its top: a look and a try.
 pub fn oldest_match<'a, L: Ledger>(
     store: &mut Store,
     template: &Term,
@@ -46,6 +48,9 @@ pub fn oldest_match<'a, L: Ledger>(
     ensures vars { store.new.vars ≡ store.old.vars }
     ensures solvable { Solvable store.old.vars store.old.pairs
         → Solvable store.new.vars store.new.pairs }
+    ensures tried { steps.new
+        ≤ steps.old + 2 * agreeing (tree_of template.now) (tuples_of bag.now.now) }
+    ensures rises { steps.old ≤ steps.new }
 {
     let known = known_first(template);
     let mut value = None;
@@ -64,7 +69,8 @@ pub fn oldest_match<'a, L: Ledger>(
 
 /// The oldest tuple that the template matches, with its age.
 ///
-/// It takes no memory, however many tuples are tried.
+/// It takes no memory, however many tuples are tried. Only tuples are looked at that agree with the
+/// template at its top.
 #[inline(always)]
 pub fn oldest_match_of<'a, L: Ledger>(
     template: &Pattern,
@@ -75,6 +81,8 @@ pub fn oldest_match_of<'a, L: Ledger>(
         (λ m. IsFound (var_bound template.now) [] template.now bag.now.now m.0 m.1.now) }
     ensures none { IfNone result
         (NoneOf (Matches (var_bound template.now) [] template.now) (tuples_of bag.now.now)) }
+    ensures looked { steps.new ≤ steps.old + agreeing template.now (tuples_of bag.now.now) }
+    ensures rises { steps.old ≤ steps.new }
 {
     let term = template.term();
     let first = known_first(term);
@@ -104,6 +112,7 @@ fn is_added<L: Ledger>(
         → Matches store.old.vars store.old.pairs (tree_of template.now) tuple.now → ⊥) }
     ensures same_no { IfOk result (λ m. m ≡ false → store.new ≡ store.old) }
     ensures same { OnErr result (store.new ≡ store.old) }
+    ensures counted { steps.new ≡ steps.old + 1 }
 {
     let added = store.equate(template, tuple.term(), steps)?;
     Ok(added)

@@ -6,18 +6,18 @@ use Rattle.tc_search.proofs.Equal.{var_bound-tuple}
 use Rattle.tc_search.proofs.search.is_added.Goals as goal
 
 pub equate-requires-clause-right : goal.equate-requires-clause-right
-equate-requires-clause-right c =
+equate-requires-clause-right g c =
     var_bound-tuple (tree_of c.term.result.now) c.args.tuple.now c.args.store.now.vars c.term.ensures.term c.term.ensures.tuple
 
 pub returns-clause-added : goal.returns-clause-added
-returns-clause-added c matches =
+returns-clause-added g c matches =
     c.in_ok-added.ensures.added matches ∙ ap (with_pair c.args.store.now (tree_of c.args.template.now)) c.term.ensures.term
 
 pub returns-clause-yes : goal.returns-clause-yes
-returns-clause-yes c matches =
-    subst (λ (es : Equations). Solvable es.vars es.pairs) (returns-clause-added c matches) c.in_ok-added.ensures.solvable
+returns-clause-yes g c matches =
+    subst (λ (es : Equations). Solvable es.vars es.pairs) (returns-clause-added g c matches) c.in_ok-added.ensures.solvable
 
 pub returns-clause-no : goal.returns-clause-no
-returns-clause-no c never match =
+returns-clause-no g c never match =
     c.in_ok-added.ensures.refused never
     (subst (λ (t : Tree). Matches c.args.store.now.vars c.args.store.now.pairs (tree_of c.args.template.now) t) (sym c.term.ensures.term) match)
