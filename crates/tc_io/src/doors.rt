@@ -1,8 +1,9 @@
 //! Links and a door in memory.
 ghost use Rattle.std.specs.Prelude.{◌≡◌, Some, [], ◌∷◌, ◌++◌, map, take, drop, refl};
 ghost use Rattle.std.specs.Prelude.{IsErr, IfOk, OnErr};
+ghost use Rattle.std.specs.Result.{IsErrOf};
 ghost use Rattle.tc_io.specs.Doors.{MemListening, Accepts, link_opened, copy_opened};
-ghost use Rattle.tc_io.specs.Memory.{MakesCall, no_call};
+ghost use Rattle.tc_io.specs.Memory.{GivesPiece, MakesCall, TakesPiece, no_call};
 
 use crate::calls::NumberedCalls;
 use crate::links::{Door, Link};
@@ -58,7 +59,15 @@ impl Source for MemLink {
     ghost other = { λ l. Some (sink_of ⟦<MemSink as Sink>⟧.taken ⟦<MemSink as Sink>⟧.write_faults
         ⟦<MemSink as Sink>⟧.sure l.sink) };
 
-    fn read(&mut self, into: &mut [u8]) -> Result<usize, Failed> {
+    fn read(&mut self, into: &mut [u8]) -> Result<usize, Failed>
+        ensures call { MakesCall self.old.source.calls self.new.source.calls (IsErr result) }
+        ensures piece { IfOk result (λ n.
+            GivesPiece self.old.source self.new.source n into.old into.new) }
+        ensures same { OnErr result (self.new.source.left ≡ self.old.source.left) }
+        ensures buffer { OnErr result (into.new ≡ into.old) }
+        ensures size { self.new.source.piece ≡ self.old.source.piece }
+        ensures sink { self.new.sink ≡ self.old.sink }
+    {
         self.source.read(into)
     }
 }
@@ -75,7 +84,14 @@ impl Sink for MemLink {
     ghost other = { λ l. Some (source_of ⟦<MemSource as Source>⟧.left
         ⟦<MemSource as Source>⟧.read_faults ⟦<MemSource as Source>⟧.sure l.source) };
 
-    fn write(&mut self, piece: &[u8]) -> Result<usize, SinkFault> {
+    fn write(&mut self, piece: &[u8]) -> Result<usize, SinkFault>
+        ensures call { MakesCall self.old.sink.calls self.new.sink.calls
+            (IsErrOf result SinkFault.Failed) }
+        ensures piece { IfOk result (λ n. TakesPiece self.old.sink self.new.sink n piece.now) }
+        ensures same { OnErr result (self.new.sink.taken ≡ self.old.sink.taken) }
+        ensures size { self.new.sink.piece ≡ self.old.sink.piece }
+        ensures source { self.new.source ≡ self.old.source }
+    {
         self.sink.write(piece)
     }
 }

@@ -1,5 +1,5 @@
 //! Bytes that are kept until they are many, and then written.
-ghost use Rattle.std.specs.Prelude.{◌≡◌, [], OnOk};
+ghost use Rattle.std.specs.Prelude.{◌≡◌, [], OnOk, OnErr};
 ghost use Rattle.tc_io.specs.Flow.{HandsOn, flow};
 
 use crate::{Sink, SinkFault, write_all};
@@ -9,6 +9,7 @@ pub fn write_kept<K: Sink>(sink: &mut K, kept: &mut Vec<u8>) -> Result<(), SinkF
     ensures hands { HandsOn [] (flow K.taken K.write_faults K.sure sink.old kept.old.items)
         (flow K.taken K.write_faults K.sure sink.new kept.new.items) result }
     ensures empty { OnOk result (kept.new.items ≡ []) }
+    ensures same { OnErr result (kept.new.items ≡ kept.old.items) }
     ensures other { K.other sink.new ≡ K.other sink.old }
 {
     write_all(sink, kept)?;

@@ -1,10 +1,10 @@
 -- A session, as it goes on.
-use Rattle.std.proofs.Common.{◌≡◌, ℕ, List, [], ◌∷◌, ◌++◌, Option, Some, None, Result, Ok, refl, sym, ap, subst, ◌∙◌, append-nil, append_assoc, arith}
+use Rattle.std.proofs.Common.{◌≡◌, ℕ, List, [], ◌∷◌, ◌++◌, Option, Some, None, Result, Ok, refl, sym, ap, subst, ◌∙◌, append-nil, append_assoc}
 use Rattle.std.proofs.lemmas.Option.{same_Some}
-use Rattle.tc_io.specs.Flow.{Flow, HandsOn, handed}
+use Rattle.tc_io.specs.Flow.{Flow, HandsOn}
 use Rattle.tc_io.specs.Sinks.{SinkState}
 use Rattle.tc_io.specs.Sources.{SourceState, ReadsBytes}
-use Rattle.tc_io.proofs.Flows.{appended-nil, both, kept_first}
+use Rattle.tc_io.proofs.Flows.{both, kept_first, nothing_handed}
 use Rattle.tc_io.proofs.Inputs.{ReadsBytes-none}
 use Rattle.tc_desk.specs.Desks.{DeskState}
 use Rattle.tc_lines.specs.Lines.{lines_text}
@@ -24,16 +24,6 @@ read_both (Some left) None new bytes more first second = let impossible = first.
 read_both (Some left) (Some rest) new bytes more first second =
     let same : rest ≡ first.0 = same_Some rest first.0 first.2 in
     (second.0, first.1 ∙ ap (λ l. bytes ++ l) (sym same ∙ second.1) ∙ sym (append_assoc bytes more second.0), second.2)
-
--- nothing was handed on
-pub nothing_handed : (f : Flow) → HandsOn [] f f (Ok tt)
-nothing_handed f = record {
-  all = sym (appended-nil (handed f));
-  front = (0, omega arith, sym (appended-nil f.sink.taken));
-  counted = record { failed = λ failed. absurd (cc); unfailed = λ unfailed. refl };
-  sure = λ sure failed. cc;
-  stays_sure = refl;
-}
 
 -- all replies were written
 pub flushed : (from now : Moment) (source : SourceState) (sink : SinkState) (kept after : List ℕ) → IsSoFar from now → source ≡ now.source

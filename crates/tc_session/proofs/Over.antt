@@ -8,7 +8,7 @@ use Rattle.tc_io.specs.Sources.{SourceState, ReadsBytes}
 use Rattle.tc_io.specs.Sinks.{SinkState, AppendsFront, appended}
 use Rattle.tc_io.specs.declared.sinks.SinkFault.{SinkFault}
 use Rattle.tc_io.specs.declared.sinks.SinkFault.TheVariants as fault
-use Rattle.tc_io.proofs.Flows.{appended-nil, both, front-longer, kept_first}
+use Rattle.tc_io.proofs.Flows.{all_handed, appended-nil, both, front-longer, front_taken, kept_first, nothing_handed}
 use Rattle.tc_io.proofs.Inputs.{ReadsBytes-none}
 use Rattle.tc_desk.specs.Desks.{DeskState}
 use Rattle.tc_lines.specs.Lines.{Fills, HasNoBreak, lines_text}
@@ -21,7 +21,7 @@ use Rattle.tc_session.specs.Sessions.{EndsBy, IsAtEnd, Wrote, cut_text}
 use Rattle.tc_session.specs.SoFar.{EndIs, Finishes, IsOver, IsSoFar, IsStop, Moment, flow_at}
 use Rattle.tc_lines.specs.Replies.{error_line, reply_line}
 use Rattle.tc_session.specs.Answers.{Answers, FindsNoMemory, KeepsDesk}
-use Rattle.tc_session.proofs.Going.{nothing_handed, read_on}
+use Rattle.tc_session.proofs.Going.{read_on}
 use Rattle.tc_session.specs.declared.endings.SessionEnd.{SessionEnd}
 use Rattle.tc_session.specs.declared.endings.SessionEnd.TheVariants as end
 
@@ -30,7 +30,12 @@ whole : (text : List ℕ) (s : SinkState) (new : Flow) → new.kept ≡ [] → H
     → new.sink.taken ≡ appended s.taken text
 whole text s new empty hands =
     sym (appended-nil new.sink.taken) ∙ ap (λ l. appended new.sink.taken l) (sym empty)
-    ∙ hands.all ∙ ap (λ o. appended o text) (appended-nil s.taken)
+    ∙ all_handed text (record { sink = s; kept = [] }) new hands ∙ ap (λ o. appended o text) (appended-nil s.taken)
+
+-- a front was written
+front : (text : List ℕ) (s : SinkState) (new : Flow) (r : Result (Unit {0}) SinkFault) → HandsOn text (record { sink = s; kept = [] }) new r
+    → AppendsFront s.taken new.sink.taken text
+front text s new r hands = front_taken text (record { sink = s; kept = [] }) new r hands
 
 -- what was read is all there was, where nothing is left
 all_read : (left rest : Option (List ℕ)) (bytes all : List ℕ) → ReadsBytes left rest bytes
@@ -43,14 +48,14 @@ all_read (Some l) rest bytes all read none is =
 wrote : (due result : SessionEnd) (text : List ℕ) (s : SinkState) (new : Flow) (r : Result (Unit {0}) SinkFault)
     → HandsOn text (record { sink = s; kept = [] }) new r → OnOk r (new.kept ≡ []) → EndIs due r result
     → Wrote due text s new.sink result
-wrote due result text s new (Err fault.Failed) hands empty is = subst (Wrote due text s new.sink) (sym is) hands.front
-wrote due result text s new (Err fault.NoMemory) hands empty is = subst (Wrote due text s new.sink) (sym is) hands.front
+wrote due result text s new (Err fault.Failed) hands empty is = subst (Wrote due text s new.sink) (sym is) (front text s new (Err fault.Failed) hands)
+wrote due result text s new (Err fault.NoMemory) hands empty is = subst (Wrote due text s new.sink) (sym is) (front text s new (Err fault.NoMemory) hands)
 wrote end.Quit result text s new (Ok done) hands empty is = subst (Wrote end.Quit text s new.sink) (sym is) (refl, whole text s new empty hands)
 wrote end.EndOfInput result text s new (Ok done) hands empty is = subst (Wrote end.EndOfInput text s new.sink) (sym is) (refl, whole text s new empty hands)
 wrote end.ReadFault result text s new (Ok done) hands empty is = subst (Wrote end.ReadFault text s new.sink) (sym is) (refl, whole text s new empty hands)
-wrote end.WriteFault result text s new (Ok done) hands empty is = subst (Wrote end.WriteFault text s new.sink) (sym is) hands.front
+wrote end.WriteFault result text s new (Ok done) hands empty is = subst (Wrote end.WriteFault text s new.sink) (sym is) (front text s new (Ok done) hands)
 wrote end.LineTooLong result text s new (Ok done) hands empty is = subst (Wrote end.LineTooLong text s new.sink) (sym is) (refl, whole text s new empty hands)
-wrote end.NoMemory result text s new (Ok done) hands empty is = subst (Wrote end.NoMemory text s new.sink) (sym is) hands.front
+wrote end.NoMemory result text s new (Ok done) hands empty is = subst (Wrote end.NoMemory text s new.sink) (sym is) (front text s new (Ok done) hands)
 
 -- an end that wasn't due comes of a fault of writing alone
 no_read_fault : (due result : SessionEnd) (r : Result (Unit {0}) SinkFault) → EndIs due r result
@@ -214,7 +219,8 @@ unwritten_over from now asked reply result source kept rest new e before begins 
         ends = inr (inl (asked, rest, begins, answers, keeps));
         whole = tt;
         wrote = longer_front result before.text reply from.sink new.sink r finishes.is
-            (subst (AppendsFront from.sink.taken new.sink.taken) (append-nil before.text) hands.front);
+            (subst (AppendsFront from.sink.taken new.sink.taken) (append-nil before.text)
+            (front (before.text ++ []) from.sink new r hands));
       };
       reads = o.reads;
       writes = o.writes;
@@ -234,8 +240,8 @@ long_over from now result source kept new before none long same is finishes =
 -- a read has failed where nothing is kept
 pub read_failed : (from now : Moment) (source : SourceState) (sink : SinkState) → IsSoFar from now → now.kept ≡ [] → source.left ≡ now.source.left
     → CountRises now.source.read_faults source.read_faults → (IsTrue now.source.sure → ⊥) → sink ≡ now.sink
-    → IsOver from end.ReadFault source sink now.desk
-read_failed from now source sink before empty left rises unsure is =
+    → HasNoBreak now.held → length now.held ≤ MOST_LINE → IsOver from end.ReadFault source sink now.desk
+read_failed from now source sink before empty left rises unsure is clear few =
     subst (λ (s : SinkState). IsOver from end.ReadFault source s now.desk) (sym is) (record {
       session = record {
         raws = before.raws;
@@ -246,7 +252,7 @@ read_failed from now source sink before empty left rises unsure is =
         due = end.ReadFault;
         read = subst (λ (l : Option (List ℕ)). ReadsBytes from.source.left l (lines_text before.raws ++ now.held)) (sym left) before.read;
         leads = before.leads;
-        ends = (refl, refl);
+        ends = (clear, few, refl, refl);
         whole = tt;
         wrote = (refl, whole before.text from.sink (flow_at now) empty before.handed ∙ ap (λ l. appended from.sink.taken l) (sym (append-nil before.text)));
       };

@@ -48,7 +48,8 @@ EndsBy d bytes end.EndOfInput last e =
 EndsBy d bytes end.LineTooLong last e =
     HasNoBreak bytes × (length bytes ≡ MOST_LINE + 1)
     × (last ≡ error_line (codes "line too long")) × (e ≡ d)
-EndsBy d bytes end.ReadFault last e = (last ≡ []) × (e ≡ d)
+EndsBy d bytes end.ReadFault last e =
+    HasNoBreak bytes × (length bytes ≤ MOST_LINE) × (last ≡ []) × (e ≡ d)
 EndsBy d bytes end.WriteFault last e = (last ≡ []) × (e ≡ d)
 EndsBy d bytes end.NoMemory last e = EndsForMemory d bytes last e
 

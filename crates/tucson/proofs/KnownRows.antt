@@ -171,7 +171,7 @@ module _ (names : List (List ℕ)) where
   ended-known d bytes end.Quit last e (begins, told, same) is = same-log d e (ap (λ (x : DeskState). x.log) same) is
   ended-known d bytes end.EndOfInput last e (whole, short, told, same) is = same-log d e (ap (λ (x : DeskState). x.log) same) is
   ended-known d bytes end.LineTooLong last e (whole, long, told, same) is = same-log d e (ap (λ (x : DeskState). x.log) same) is
-  ended-known d bytes end.ReadFault last e (told, same) is = same-log d e (ap (λ (x : DeskState). x.log) same) is
+  ended-known d bytes end.ReadFault last e (clear, few, told, same) is = same-log d e (ap (λ (x : DeskState). x.log) same) is
   ended-known d bytes end.WriteFault last e (told, same) is = same-log d e (ap (λ (x : DeskState). x.log) same) is
   ended-known d bytes end.NoMemory last e ends is = wanted-known d bytes last e ends is
 

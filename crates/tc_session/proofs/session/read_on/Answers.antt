@@ -15,7 +15,7 @@ returns-in-Err-Failed g c = record {
   steps = λ from d before.
       let failed = ap Err c.in-Err-Failed.field-0-is in
       read_failed from _ _ _ before c.requires.empty c.in-Err-Failed.ensures.left (c.in-Err-Failed.ensures.counted.failed failed)
-      (λ sure. c.in-Err-Failed.ensures.sure sure failed) c.read_more.ensures.sink;
+      (λ sure. c.in-Err-Failed.ensures.sure sure failed) c.read_more.ensures.sink c.requires.none c.requires.few;
 }
 
 pub returns-in-Err-NoMemory : goal.returns-in-Err-NoMemory
