@@ -1,12 +1,15 @@
 #!/usr/bin/env python3
 """A long run of `serve`: agents that call at random, vanish, half-close, stall and flood.
 
-    soak.py MINUTES AGENTS [PROGRAM] [--seed N] [--picture FILE] [--judge PROGRAM]
+    soak.py MINUTES AGENTS [PROGRAM] [--seed N] [--picture FILE] [--judge PROGRAM] [--rest SECONDS]
 
 The first agent takes and puts tuples at one centre after another, so that who waits for one, or until none is left, is
 served, and is the last to go. A third of the others are there from
 the beginning, the rest come while time passes; a third stay to the end. Once a second the program's resident memory,
 descriptors and threads are looked at, and drawn beside the replies so far: FILE, or soak.svg.
+
+An agent rests between two acts, for half a second as a rule or for --rest. The judge reads 268,435,456 bytes at most:
+half an hour with 500 agents is a text of 356 MB, and with --rest 0.8 one that it reads.
 
 At the end the text is looked through: each line is one of docs/FORMATS.md's, the replies of each session stand in its
 log in order, each served row has an entry in its centre's history, numbers of calls rise there for each agent, and what
@@ -230,12 +233,12 @@ ACTS = {ask: 100, ask_several: 30, stall: 3, flood: 0.5}
 ENDS = [end_by_quit, end_by_closing, end_by_reset, end_by_reset_amid_a_flood, end_by_half_closing, end_amid_a_line]
 
 
-async def live(peer, until, faults):
-    """Acts until this time, and ends in one of the ways."""
+async def live(peer, until, rest, faults):
+    """Acts until this time, resting so long between two acts as a rule, and ends in one of the ways."""
     end = peer.draw.choice(ENDS)
     try:
         while time.monotonic() < until:
-            await asyncio.sleep(peer.draw.expovariate(2))
+            await asyncio.sleep(peer.draw.expovariate(1 / rest))
             await peer.draw.choices(list(ACTS), list(ACTS.values()))[0](peer)
         await end(peer)
         if peer.is_over and peer.asked:
@@ -289,7 +292,7 @@ async def look(server, peers, seen):
         await asyncio.sleep(1)
 
 
-async def soak(server, seconds, agents, seed, primitives):
+async def soak(server, seconds, agents, seed, primitives, rest):
     """The peers, what was seen once a second, and what went wrong meanwhile."""
     draw, begun = random.Random(seed), time.monotonic()
     server.descriptors = server.seen()[1]
@@ -302,7 +305,7 @@ async def soak(server, seconds, agents, seed, primitives):
         peers.append(await connect(server, len(peers), seed, primitives))
         stays = draw.choice((seconds, draw.uniform(0, seconds / 2), draw.uniform(0, seconds / 4)))
         until = min(time.monotonic() + stays, begun + seconds)
-        living.append(asyncio.ensure_future(live(peers[-1], until, faults)))
+        living.append(asyncio.ensure_future(live(peers[-1], until, rest, faults)))
     await asyncio.gather(*living)
     await asyncio.wait_for(supplying, LONGEST_WAIT)
     looking.cancel()
@@ -466,6 +469,7 @@ def main():
     words.add_argument('agents', type=int)
     words.add_argument('program', nargs='?', default=os.path.join(HERE, '../crates/tucson_run/out/tucson_run'))
     words.add_argument('--seed', type=int, default=1)
+    words.add_argument('--rest', type=float, default=0.5, help='seconds that an agent rests between two acts, as a rule')
     words.add_argument('--picture', default='soak.svg')
     words.add_argument('--judge', default=os.path.join(HERE, '../crates/tucson_audit/out/tucson_audit'))
     given = words.parse_args()
@@ -473,7 +477,8 @@ def main():
     primitives = known_primitives(given.program)
     server = Server(given.program, given.agents, primitives)
     try:
-        peers, seen, faults = asyncio.run(soak(server, given.minutes * 60, given.agents, given.seed, primitives))
+        peers, seen, faults = asyncio.run(soak(server, given.minutes * 60, given.agents, given.seed, primitives,
+                                               given.rest))
         status = server.process.wait(LONGEST_WAIT)
     except (OSError, asyncio.TimeoutError, subprocess.TimeoutExpired) as fault:
         sys.exit(f'SURPRISE: {fault!r}; the status of the server is {server.process.poll()}, None if it runs on')
