@@ -12,15 +12,16 @@ use Rattle.std.specs.declared.option.Option.{Option}
 use Rattle.tc_lists.proofs.Decimals.{IsIntegerRead, integer_at-read}
 use Rattle.tc_lists.proofs.Prefixes.{append-same}
 use Rattle.std.proofs.Math.Seq.{drop-append_seam}
+use Rattle.std.proofs.lemmas.List.FromFn.{length-range_with_len}
 use Rattle.tc_lists.specs.Decimals.{integer_at, number_at}
 use Rattle.tc_term.specs.Text.{Alone, canonical, is_name, is_nil, name_text, text_in, text_of, texts_of}
 use Rattle.tc_term.specs.Tree.{Tree, Variable, Atomic, Number, Compound, Trees}
-use Rattle.tc_term.specs.Variables.{IsPattern, renumbered}
+use Rattle.tc_term.specs.Variables.{IsPattern, renumbered, variables}
 use Rattle.tc_term.proofs.Numbered.{renumbered-pattern}
 use Rattle.tc_read.proofs.Again.{Ends-stops, again, atom-again, lower_no_quote, name_at-quoted, node-integer, node-named, reads-alone-again, variable-again}
 use Rattle.tc_read.proofs.Words.{is_name-word_at}
 use Rattle.tc_read.proofs.Lexemes.{lower_is_word}
-use Rattle.tc_read.proofs.Spent.{first-variable, pattern-spent, some-paid, spent-pattern}
+use Rattle.tc_read.proofs.Spent.{first-variable, pattern-spent, some-paid, spent-pattern, spent-takes}
 use Rattle.tc_read.proofs.Taken.{IsTook, IsTookAll, arguments-took, head-took, name_at-took, plain_text, quoted_text, reads-took}
 use Rattle.tc_read.proofs.Texts.{text_in-Atomic, text_in-Number, text_in-nil}
 use Rattle.tc_read.specs.Budget.{paid, then_in, whole}
@@ -42,6 +43,23 @@ took-stands : (d : ℕ) (bytes : List ℕ) (found : Read Tree) → d ≤ 1000 �
 took-stands d bytes None deep took = tt
 took-stands d bytes (Some (t, left, rest)) deep took =
     record { pattern = spent-pattern t d left deep took.spent took.integers; text = took.text }
+
+-- what was spent tells how many variables there are
+abbrev pub HasCount : Read Tree → Type 0
+HasCount None = Unit {0}
+HasCount (Some (t, left, rest)) = left.variables ≡ length (variables t)
+
+took-counts : (d : ℕ) (bytes : List ℕ) (found : Read Tree) → IsTook d Alone whole bytes found → HasCount found
+took-counts d bytes None took = tt
+took-counts d bytes (Some (t, left, rest)) took =
+    sym (ap length (spent-takes t d whole left took.spent).variables ∙ length-range_with_len 0 left.variables)
+
+pub canonical_at-counts : (bytes : List ℕ) → HasCount (canonical_at bytes)
+canonical_at-counts bytes = by (reads 1000 Alone whole bytes) (reads-took 1000 Alone whole bytes)
+  where
+    by : (found : Read Tree) → IsTook 1000 Alone whole bytes found → HasCount (or_head bytes found)
+    by None took = took-counts 1 bytes (head (name_at 65535 bytes)) (head-took bytes (name_at 65535 bytes) (name_at-took 65535 bytes))
+    by (Some found) took = took-counts 1000 bytes (Some found) took
 
 pub canonical_at-stands : (bytes : List ℕ) → IsStanding bytes (canonical_at bytes)
 canonical_at-stands bytes = by (reads 1000 Alone whole bytes) (reads-took 1000 Alone whole bytes)

@@ -185,3 +185,8 @@ or_head bytes (Some r) = Some r
 -- a template: the whole term at the front, or its name alone
 abbrev pub canonical_at : List ℕ → Read Tree
 canonical_at bytes = or_head bytes (reads most_depth Alone whole bytes)
+
+-- what was read, whatever room is left
+abbrev pub without_room : Read Tree → Front Tree
+without_room None = None
+without_room (Some (t, left, rest)) = Some (t, rest)

@@ -3,6 +3,7 @@
 //! The next byte decides what stands there. Only where a whole term doesn't stand at the place may
 //! its name alone, so the reader goes back once at most.
 ghost use Rattle.std.specs.Prelude.{◌≡◌, ◌≤◌, IfNone, IfOk, IfSome, codes, length, ℕ};
+ghost use Rattle.tc_lists.specs.Seen.{seen};
 ghost use Rattle.tc_term.specs.Limits.{most_name_bytes};
 ghost use Rattle.tc_term.specs.Text.{Alone, Behind};
 ghost use Rattle.tc_term.specs.Tree.{Compound, Last, More, Tree};
@@ -10,6 +11,7 @@ ghost use Rattle.tc_term.specs.TreeView.{tree_of};
 ghost use Rattle.tc_read.specs.Canonical.{IsCanonicalAt, IsLongestCanonicalAt};
 ghost use Rattle.tc_read.specs.Front.{arguments, barred, called, canonical_at, element, head};
 ghost use Rattle.tc_read.specs.Front.{is_barred, is_cell, list, name_at, named, node, reads, tail};
+ghost use Rattle.tc_read.specs.Front.{without_room};
 ghost use Rattle.tc_read.specs.Seen.{arguments_seen, term_seen};
 
 use crate::budget::Budget;
@@ -263,4 +265,19 @@ pub fn read_canonical(
         Err(NotPattern::NoMemory(_)) => Err(NoMemory),
         Ok(pattern) => Ok(Some((pattern, text.len() - rest.len()))),
     }
+}
+
+/// The same at the front: the template and what stands behind it.
+///
+/// What is read is known to be a template, with so many variables, and isn't walked again.
+pub fn read_template<'a>(
+    alloc: Global,
+    bytes: &'a [u8],
+) -> Result<Option<(Pattern, &'a [u8])>, NoMemory>
+    ensures { IfOk result (λ r. seen r ≡ without_room (canonical_at bytes.now)) }
+{
+    let Some((term, left, rest)) = at_front(alloc, bytes)? else {
+        return Ok(None);
+    };
+    Ok(Some((Pattern::known(term, left.variables as u32), rest)))
 }

@@ -41,7 +41,7 @@ mod scanner;
 mod tokens;
 mod variables;
 
-pub use canonical::read_canonical;
+pub use canonical::{read_canonical, read_template};
 pub use clauses::{Unread, next_clause};
 pub use fault::ReadFault;
 pub use laws::{
