@@ -1,4 +1,5 @@
 pub mod Sifting
+pub mod Counting
 pub mod Nesting
 pub mod Tables
 pub mod Failing

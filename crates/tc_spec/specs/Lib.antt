@@ -1,4 +1,5 @@
 pub mod Guards
+pub mod Costs
 pub mod Numbers
 pub mod Codes
 pub mod Indexed

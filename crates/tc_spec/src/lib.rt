@@ -10,7 +10,7 @@
 //! let spec = Spec::of(alloc, clauses)?;
 //! let mut store = Store::new(alloc, 0)?;
 //! if spec.has_op(event.op()) {
-//!     let numbers = spec.triggered(alloc, &mut store, &event)?; // from 1, rising
+//!     let numbers = spec.triggered(alloc, &mut store, &event, &mut steps)?; // from 1, rising
 //! }
 //! let mut text = Vec::new(alloc);
 //! print_spec(alloc, spec.clauses(), &mut text)?;

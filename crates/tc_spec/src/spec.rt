@@ -56,6 +56,8 @@ impl Model for Spec {
 
 impl Spec {
     ghost use Rattle.tc_model.specs.Triggers.{AreTriggered};
+    ghost use Rattle.std.specs.Prelude.{◌≤◌, ◌+◌};
+    ghost use Rattle.tc_spec.specs.Costs.{trigger_steps};
     ghost use Rattle.tc_spec.specs.Indexed.{HasOp};
 
     /// The clauses with their index. Takes the time of their heads, and up to 512 steps for each.
@@ -109,7 +111,11 @@ impl Spec {
         e: &Event,
         steps: &mut Steps<L>,
     ) -> Result<Vec<u32>, NoMemory>
-        ensures { IfOk result (λ numbers. AreTriggered self.now e.now numbers.items) }
+        ensures triggered { IfOk result (λ numbers. AreTriggered self.now e.now numbers.items) }
+
+        // After each answer:
+        ensures counted { steps.new ≤ steps.old + trigger_steps self.now e.now }
+        ensures rises { steps.old ≤ steps.new }
     {
         let numbers = numbers_for(&self.index, e);
         let items = self.clauses.items();

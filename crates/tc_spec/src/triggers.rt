@@ -1,5 +1,5 @@
 //! The clauses of an operation, and those of them whose heads meet an event.
-ghost use Rattle.std.specs.Prelude.{◌≡◌, ◌≤◌, ◌↔◌, ◌++◌, ◌∷◌, []};
+ghost use Rattle.std.specs.Prelude.{◌≡◌, ◌≤◌, ◌+◌, ◌↔◌, ◌++◌, ◌∷◌, []};
 ghost use Rattle.std.specs.Prelude.{if◌then◌else◌};
 ghost use Rattle.std.specs.Prelude.{length, false, ℕ, List, IsTrue, IfOk, OnOk};
 ghost use Rattle.tc_term.specs.Variables.{raised};
@@ -8,6 +8,8 @@ ghost use Rattle.tc_term.specs.Tree.{Tree};
 ghost use Rattle.tc_term.specs.TreeView.{tree_of};
 ghost use Rattle.tc_model.specs.Triggers.{AreTriggered, IsTriggered};
 ghost use Rattle.tc_model.specs.declared.limits.TheConstants.{MOST_CLAUSES};
+ghost use Rattle.tc_steps.specs.Tops.{agree};
+ghost use Rattle.tc_spec.specs.Costs.{trigger_steps};
 ghost use Rattle.tc_spec.specs.Guards.{Allows, Forbids};
 ghost use Rattle.tc_spec.specs.Indexed.{AreEnough, AreOf};
 
@@ -43,7 +45,9 @@ pub fn triggered_of<L: Ledger>(
     steps: &mut Steps<L>,
 ) -> Result<Vec<u32>, NoMemory>
     requires { AreEnough clauses.now e.now numbers.now }
-    ensures { IfOk result (λ found. AreTriggered clauses.now e.now found.items) }
+    ensures triggered { IfOk result (λ found. AreTriggered clauses.now e.now found.items) }
+    ensures counted { steps.new ≤ steps.old + trigger_steps clauses.now e.now }
+    ensures rises { steps.old ≤ steps.new }
 {
     let mut found = Vec::new(alloc);
     for i in 0..numbers.len() {
@@ -90,6 +94,8 @@ fn is_triggered<L: Ledger>(
 ) -> Result<bool, NoMemory>
     ensures yes { IfOk result (λ y. IsTrue y → IsTriggered r.now e.now) }
     ensures no { IfOk result (λ y. y ≡ false → IsTriggered r.now e.now → ⊥) }
+    ensures counted { steps.new ≤ steps.old + trigger_steps (r.now ∷ []) e.now }
+    ensures rises { steps.old ≤ steps.new }
 {
     if !has_op(r, e.op()) {
         return Ok(false);
@@ -109,7 +115,8 @@ fn is_triggered<L: Ledger>(
 // Whether two terms are alike without their arguments, or one is a variable. Else no valuation
 // makes them equal.
 fn could_meet(head: &Term, term: &Term) -> bool
-    ensures { result ≡ false → (v : List Tree) (k : ℕ)
+    ensures agree { IsTrue result → IsTrue (agree (tree_of head.now) (tree_of term.now)) }
+    ensures apart { result ≡ false → (v : List Tree) (k : ℕ)
         → under v (tree_of head.now) ≡ under v (raised k (tree_of term.now)) → ⊥ }
 {
     match (head, term) {
