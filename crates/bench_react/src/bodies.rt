@@ -1,15 +1,18 @@
 //! Three bodies, each done again and again over the same tuples.
-ghost use Rattle.std.specs.Prelude.{◌≡◌, ◌≤◌, ◌+◌, IfOk};
+ghost use Rattle.std.specs.Prelude.{◌≡◌, ◌<◌, ◌≤◌, ◌+◌, IfOk};
 
 use crate::scenes::{bag, context, put, tuple};
 use crate::tally::Tally;
 use anyhow::anyhow;
 use std::alloc::Global;
+use std::marker::Brand;
+use std::sync::ledger::{Blank, Ledger};
 use tc_bag::Bag;
 use tc_body::execute;
 use tc_lists::NoMemory;
 use tc_model::{Context, Event, Reaction};
 use tc_spec::read_spec;
+use tc_steps::Steps;
 use tc_unify::Store;
 
 /// Which body is done.
@@ -58,29 +61,37 @@ pub fn run(alloc: Global, body: Body, count: u32) -> anyhow::Result<Tally> {
     let event = put(tuple(alloc, "add(2)")?);
     let context = context(alloc)?;
     let mut bag = bag(alloc, &["limit(1000000000000)", "count(0)", "by(ann,0)"])?;
-    let tally = again(alloc, reaction, &event, &context, &mut bag, count)?;
+    let blank = Blank::new(1);
+    let tally = again::<Brand>(alloc, reaction, &event, &context, &mut bag, count, blank)?;
     Ok(tally)
 }
 
 // Does the body of a reaction so many times.
-fn again(
+fn again<L: Ledger>(
     alloc: Global,
     reaction: &Reaction,
     event: &Event,
     context: &Context,
     bag: &mut Bag,
     count: u32,
+    blank: Blank,
 ) -> Result<Tally, NoMemory>
-    requires { bag.old.next ≤ 3 }
+    requires next { bag.old.next ≤ 3 }
+    requires name { blank.name ≡ L.name }
+    requires parts { blank.parts ≡ L.parts }
+    requires some { 0 < blank.parts }
     ensures { IfOk result (λ tally. tally.fired + tally.failed ≡ count) }
 {
     let mut store = Store::new(alloc, 0)?;
+    let mut steps = Steps::<L>::none(blank);
     let mut tally = Tally {
         fired: 0,
         failed: 0,
     };
     for _ in 0..count {
-        let (item, _) = execute(alloc, &mut store, reaction, 1, 1, event, context, bag)?;
+        let (item, _) = execute(
+            alloc, &mut store, reaction, 1, 1, event, context, bag, &mut steps,
+        )?;
         tally.count(&item);
     }
     Ok(tally)

@@ -1,8 +1,14 @@
 //! The search for the clause that an event triggers, again and again.
+ghost use Rattle.std.specs.Prelude.{◌≡◌, ◌<◌};
+
 use crate::scenes::{put, tuple};
 use std::alloc::Global;
+use std::marker::Brand;
+use std::sync::ledger::{Blank, Ledger};
 use tc_lists::{NoMemory, append_number};
+use tc_model::Event;
 use tc_spec::{Spec, read_spec};
+use tc_steps::Steps;
 use tc_unify::Store;
 
 /// By what the clauses differ of which one is triggered.
@@ -33,10 +39,27 @@ pub fn find(alloc: Global, kind: Kind, clauses: u32, count: u32) -> anyhow::Resu
     };
     let spec = Spec::of(alloc, read_spec(alloc, &text)?)?;
     let event = put(tuple(alloc, "e7(1)")?);
+    let found = again::<Brand>(alloc, &spec, &event, count, Blank::new(1))?;
+    Ok(found)
+}
+
+// Looks so many times for what an event triggers.
+fn again<L: Ledger>(
+    alloc: Global,
+    spec: &Spec,
+    event: &Event,
+    count: u32,
+    blank: Blank,
+) -> Result<u64, NoMemory>
+    requires name { blank.name ≡ L.name }
+    requires parts { blank.parts ≡ L.parts }
+    requires some { 0 < blank.parts }
+{
     let mut store = Store::new(alloc, 0)?;
+    let mut steps = Steps::<L>::none(blank);
     let mut found: u64 = 0;
     for _ in 0..count {
-        let numbers = spec.triggered(alloc, &mut store, &event)?;
+        let numbers = spec.triggered(alloc, &mut store, event, &mut steps)?;
         found = found.saturating_add(numbers.len() as u64);
     }
     Ok(found)

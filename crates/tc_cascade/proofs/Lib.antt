@@ -3,3 +3,4 @@ pub mod Waves
 pub mod Passing
 pub mod Keeping
 pub mod Endings
+pub mod Counting

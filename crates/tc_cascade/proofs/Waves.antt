@@ -13,11 +13,11 @@ use Rattle.tc_model.specs.Cascades.{Wave, IsTried, Cascades, IsWhole, without}
 use Rattle.tc_model.specs.declared.items.Item.{Item}
 use Rattle.tc_model.specs.declared.items.Item.TheVariants.{Fired, Failed}
 use Rattle.tc_bag.specs.Stock.{Stock, tuples_of}
-use Rattle.tc_model.proofs.Following.{cascade-tuples}
 use Rattle.tc_body.specs.Left.{IsLeft}
 use Rattle.tc_cascade.specs.Adding.{Adds, Stands}
 use Rattle.tc_cascade.specs.Reached.{IsAt}
 use Rattle.tc_lists.proofs.Parts.{cons_head, cons_tail, take-append_room}
+use Rattle.tc_cascade.proofs.Counting.{at_tuples}
 use Rattle.tc_cascade.proofs.Triggering.{triggered_stand}
 
 left_after : (item : Item) (old new : Stock) → IsLeft item old new → tuples_of new.now ≡ after_item item (tuples_of old.now)
@@ -141,5 +141,5 @@ module _ (clauses : List Rule) (setting : Setting) where
           within = within;
           done = front_none room kept at.wave.triggered some at.front none;
         },
-        sym at.tuples ∙ cascade-tuples TheFirst clauses setting e (tuples_of old.now) items at.wave at.begins,
+        at_tuples clauses setting e old new items kept room at,
       )

@@ -1,9 +1,12 @@
 //! A cascade: all that an event triggers, and what that triggers in turn.
 ghost use Rattle.std.specs.Prelude.{◌≡◌, ◌≤◌, ◌+◌, ◌*◌, ◌∷◌, ◌++◌, [], length, IfOk, OnOk};
+ghost use Rattle.std.specs.Prelude.{sum_by};
 ghost use Rattle.tc_model.specs.Triggers.{IsClause};
 ghost use Rattle.tc_model.specs.declared.limits.TheConstants.{MOST_BUDGET, MOST_GOALS};
-ghost use Rattle.tc_bag.specs.Stock.{AddsYounger, Stock, marked};
+ghost use Rattle.tc_spec.specs.Costs.{trigger_steps};
+ghost use Rattle.tc_bag.specs.Stock.{AddsYounger, Stock, marked, tuples_of};
 ghost use Rattle.tc_cascade.specs.Ages.{most_ages};
+ghost use Rattle.tc_cascade.specs.Costs.{cascade_steps};
 ghost use Rattle.tc_cascade.specs.Ends.{IsEnd, items_of, kept_or_undone};
 ghost use Rattle.tc_cascade.specs.Adding.{Adds, Stands};
 
@@ -48,11 +51,15 @@ pub fn run<L: Ledger>(
     ensures ends { IfOk result (IsEnd spec.now context.now budget e.now bag.old bag.new) }
     ensures per_item { IfOk result
         (λ c. bag.new.next ≤ bag.old.next + MOST_GOALS * length (items_of c)) }
+    ensures counted { IfOk result
+        (λ c. steps.new ≤ steps.old
+        + cascade_steps spec.now e.now (items_of c) (tuples_of bag.old.now)) }
 
     // After each answer:
     ensures saved { bag.new.saved ≡ bag.old.saved }
     ensures adds { AddsYounger bag.old bag.new }
     ensures next { bag.new.next ≤ bag.old.next + most_ages }
+    ensures rises { steps.old ≤ steps.new }
 {
     let mut triggered = Queue::new(alloc);
     add(
@@ -134,7 +141,9 @@ fn add<L: Ledger>(
     triggered: &mut Queue,
     steps: &mut Steps<L>,
 ) -> Result<(), NoMemory>
-    ensures { OnOk result (Adds spec.now (event ∷ []) room triggered.old triggered.new) }
+    ensures adds { OnOk result (Adds spec.now (event ∷ []) room triggered.old triggered.new) }
+    ensures counted { steps.new ≤ steps.old + trigger_steps spec.now event }
+    ensures rises { steps.old ≤ steps.new }
 {
     let numbers = spec.triggered(alloc, store, &event, steps)?;
     triggered.add(event, numbers, room)?;
@@ -151,7 +160,10 @@ fn add_all<L: Ledger>(
     triggered: &mut Queue,
     steps: &mut Steps<L>,
 ) -> Result<(), NoMemory>
-    ensures { OnOk result (Adds spec.now events.items room triggered.old triggered.new) }
+    ensures adds { OnOk result (Adds spec.now events.items room triggered.old triggered.new) }
+    ensures counted { OnOk result
+        (steps.new ≤ steps.old + sum_by (trigger_steps spec.now) events.items) }
+    ensures rises { steps.old ≤ steps.new }
 {
     for event in events {
         add(alloc, store, spec, event, room, triggered, steps)?;

@@ -6,7 +6,7 @@
 //!
 //! ```text
 //! bag.mark()?;
-//! let end = run(alloc, &mut store, &spec, &event, &context, budget, &mut bag);
+//! let end = run(alloc, &mut store, &spec, &event, &context, budget, &mut bag, &mut steps);
 //! keep_or_undo(&end, &mut bag); // the bag is as before, unless the cascade is whole
 //! ```
 #![tactic(auto)]

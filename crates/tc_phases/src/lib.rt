@@ -5,7 +5,8 @@
 //! as they were before the operation. Nothing here knows of requests that wait, nor of histories.
 //!
 //! ```
-//! let (found, cascade) = search(alloc, &mut store, &regime, Wants::Take, &template, &mut bag)?;
+//! let (found, cascade) =
+//!     search(alloc, &mut store, &regime, Wants::Take, &template, &mut bag, &mut steps)?;
 //! match cascade {
 //!     Cascade::Whole(items) => { .. } // what was found is taken, and all reactions have run
 //!     Cascade::Over(items) => { .. }  // the bag is as before

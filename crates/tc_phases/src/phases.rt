@@ -52,6 +52,7 @@ pub fn put<L: Ledger>(
     // After each answer:
     ensures saved { bag.new.saved ≡ bag.old.saved }
     ensures adds { AddsYounger bag.old bag.new }
+    ensures rises { steps.old ≤ steps.new }
 {
     let trigger = Trigger::Success(EventOp::Out, tuple);
     let change = Change::Put(tuple);
@@ -80,6 +81,7 @@ pub fn request<L: Ledger>(
     // After each answer:
     ensures saved { bag.new.saved ≡ bag.old.saved }
     ensures adds { AddsYounger bag.old bag.new }
+    ensures rises { steps.old ≤ steps.new }
 {
     let trigger = Trigger::Request(asking_op(wants), template);
     let end = run_phase(alloc, store, regime, &trigger, &Change::Nothing, bag, steps)?;
@@ -112,6 +114,7 @@ pub fn search<L: Ledger>(
     // After each answer:
     ensures saved { bag.new.saved ≡ bag.old.saved }
     ensures adds { AddsYounger bag.old bag.new }
+    ensures rises { steps.old ≤ steps.new }
 {
     let Some((age, tuple)) = oldest_match_of(template, bag, steps) else {
         let trigger = missing(wants, template);
@@ -157,6 +160,7 @@ pub fn answer<L: Ledger>(
     // After each answer:
     ensures saved { bag.new.saved ≡ bag.old.saved }
     ensures adds { AddsYounger bag.old bag.new }
+    ensures rises { steps.old ≤ steps.new }
 {
     let Some(tuple) = bag.get(age) else {
         unreachable!();
@@ -197,6 +201,7 @@ pub fn tell_absence<L: Ledger>(
     // After each answer:
     ensures saved { bag.new.saved ≡ bag.old.saved }
     ensures adds { AddsYounger bag.old bag.new }
+    ensures rises { steps.old ≤ steps.new }
 {
     let trigger = Trigger::Absence(EventOp::No, template);
     let end = run_phase(alloc, store, regime, &trigger, &Change::Nothing, bag, steps)?;

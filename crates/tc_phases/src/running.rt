@@ -73,6 +73,7 @@ pub fn run_phase<L: Ledger>(
         (λ c. bag.new.next ≤ bag.old.next + 1 + MOST_GOALS * length (items_of c)) }
     ensures saved { bag.new.saved ≡ bag.old.saved }
     ensures adds { AddsYounger bag.old bag.new }
+    ensures rises { steps.old ≤ steps.new }
 {
     if !regime.spec.has_op(trigger.op()) {
         make(alloc, change, bag)?;
@@ -104,6 +105,7 @@ fn make_and_run<L: Ledger>(
         (λ c. bag.new.next ≤ bag.old.next + 1 + MOST_GOALS * length (items_of c)) }
     ensures saved { bag.new.saved ≡ bag.old.saved }
     ensures adds { AddsYounger bag.old bag.new }
+    ensures rises { steps.old ≤ steps.new }
 {
     let event = trigger.event(alloc)?;
     let context = context_of(alloc, regime)?;

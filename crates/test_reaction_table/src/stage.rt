@@ -1,13 +1,21 @@
 //! What the rows of a table stand over, and their answers.
+ghost use Rattle.std.specs.Prelude.{◌≡◌, ◌<◌, ◌≤◌, ◌+◌};
+ghost use Rattle.tc_model.specs.declared.limits.TheConstants.{MOST_GOALS};
+
 use crate::answers::{print_bad, print_count, print_lines, print_numbers, print_outcome};
 use crate::events::event_of;
 use crate::rows::{bag_of, tuples_of};
 use anyhow::anyhow;
 use std::alloc::Global;
+use std::marker::Brand;
+use std::sync::ledger::{Blank, Ledger};
+use tc_bag::Bag;
 use tc_body::execute;
-use tc_model::{Clauses, Context, Event};
+use tc_lists::NoMemory;
+use tc_model::{Clauses, Context, Event, Item, Reaction};
 use tc_read::read_clause;
 use tc_spec::{Spec, SpecFault, print_spec, read_spec};
+use tc_steps::Steps;
 use tc_term::{Ground, Name, Pattern};
 use tc_unify::Store;
 use test_texts::{parts, text_of};
@@ -79,8 +87,8 @@ impl Stage {
         let context = Context::new(Name::new(alloc, b"ann")?, Name::new(alloc, b"desk")?);
         let context = context.copy(alloc)?;
         let mut bag = bag_of(alloc, &self.tuples)?;
-        let mut store = Store::new(alloc, 0)?;
-        let done = execute(alloc, &mut store, reaction, 1, 1, event, &context, &mut bag)?;
+        let blank = Blank::new(1);
+        let done = body_done::<Brand>(alloc, reaction, event, &context, &mut bag, blank)?;
         let (item, events) = done;
         print_outcome(alloc, &item, &events, &bag, into)?;
         Ok(())
@@ -113,8 +121,47 @@ impl Stage {
             return Err(anyhow!("what is triggered needs an event"));
         };
         let spec = Spec::of(alloc, self.clauses.copy(alloc)?)?;
-        let mut store = Store::new(alloc, 0)?;
-        print_numbers(&spec.triggered(alloc, &mut store, event)?, into)?;
+        let numbers = triggered::<Brand>(alloc, &spec, event, Blank::new(1))?;
+        print_numbers(&numbers, into)?;
         Ok(())
     }
+}
+
+// What comes of the body of a reaction, and the events of its effects.
+fn body_done<L: Ledger>(
+    alloc: Global,
+    reaction: &Reaction,
+    event: &Event,
+    context: &Context,
+    bag: &mut Bag,
+    blank: Blank,
+) -> Result<(Item, Vec<Event>), NoMemory>
+    requires next { bag.old.next + MOST_GOALS ≤ u64.MAX }
+    requires name { blank.name ≡ L.name }
+    requires parts { blank.parts ≡ L.parts }
+    requires some { 0 < blank.parts }
+{
+    let mut store = Store::new(alloc, 0)?;
+    let mut steps = Steps::<L>::none(blank);
+    let done = execute(
+        alloc, &mut store, reaction, 1, 1, event, context, bag, &mut steps,
+    )?;
+    Ok(done)
+}
+
+// The numbers of the clauses that an event triggers.
+fn triggered<L: Ledger>(
+    alloc: Global,
+    spec: &Spec,
+    event: &Event,
+    blank: Blank,
+) -> Result<Vec<u32>, NoMemory>
+    requires name { blank.name ≡ L.name }
+    requires parts { blank.parts ≡ L.parts }
+    requires some { 0 < blank.parts }
+{
+    let mut store = Store::new(alloc, 0)?;
+    let mut steps = Steps::<L>::none(blank);
+    let numbers = spec.triggered(alloc, &mut store, event, &mut steps)?;
+    Ok(numbers)
 }

@@ -8,7 +8,7 @@ use Rattle.tc_phases.proofs.Removals.{found-left}
 use Rattle.tc_phases.proofs.phases.answer.Goals as goal
 
 pub returns-clause-phase : goal.returns-clause-phase
-returns-clause-phase c =
+returns-clause-phase g c =
     let old = c.args.bag.now in
     let t = c.in_ok-tuple.tuple in
     let there : tuple_at c.args.age old.now ≡ Some t = sym c.in-Some.ensures ∙ ap Some (sym c.in_ok-tuple.ensures) in

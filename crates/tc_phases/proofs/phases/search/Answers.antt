@@ -9,7 +9,7 @@ use Rattle.tc_phases.proofs.Removals.{found-left}
 use Rattle.tc_phases.proofs.phases.search.Goals as goal
 
 pub returns-clause-search : goal.returns-clause-search
-returns-clause-search c =
+returns-clause-search g c =
     let old = c.args.bag.now in
     let template = c.args.template.now in
     let t = c.in_ok-tuple.tuple in

@@ -1,0 +1,4 @@
+use Rattle.bench_react.proofs.bodies.run.Given as goal
+
+abbrev pub ghosts-again : goal.ghosts-again
+ghosts-again a = record { name = a.blank.name; parts = 1 }
