@@ -13,6 +13,7 @@ invariant_of-result c =
     (IsTuple-pattern c.args.pattern c.into_term.ensures.pattern (omega (arith, c.if-vars-gt0.false, c.vars.ensures.count)))
 
 pub returns-clause-some : goal.returns-clause-some
-returns-clause-some c =
-    (c.into_term.ensures.term,
-    IsTuple-pattern c.args.pattern c.into_term.ensures.pattern (omega (arith, c.if-vars-gt0.false, c.vars.ensures.count)))
+returns-clause-some c = (
+  c.into_term.ensures.term,
+  IsTuple-pattern c.args.pattern c.into_term.ensures.pattern (omega (arith, c.if-vars-gt0.false, c.vars.ensures.count)),
+)
