@@ -1,11 +1,11 @@
 -- The steps of goals that were done one after another, and of one more.
-use Rattle.std.proofs.Common.{◌≡◌, ◌≤◌, ◌<◌, ◌+◌, ◌*◌, ℕ, zero, suc, ◌⊎◌, inl, inr, Bool, true, false, cond, Option, Some, None, List, [], ◌∷◌, ◌++◌, take, length, get_or, refl, sym, ap, ap₂, subst, ◌∙◌, append_assoc, arith}
+use Rattle.std.proofs.Common.{◌≡◌, ◌≤◌, ◌<◌, ◌+◌, ◌*◌, ℕ, zero, suc, ◌⊎◌, inl, inr, true, false, cond, Some, List, [], ◌∷◌, ◌++◌, take, length, get_or, refl, sym, ap, ap₂, subst, ◌∙◌, append_assoc, arith}
 use Rattle.std.proofs.lemmas.List.{append-nil, take_more}
 use Rattle.tc_term.specs.Tree.{Tree}
 use Rattle.tc_term.specs.TreeView.{tree_of}
 use Rattle.tc_steps.specs.Tops.{agreeing}
 use Rattle.tc_model.specs.Choices.{Choice}
-use Rattle.tc_model.specs.Goals.{Scene, Moment, Move, Nothing, Equates, Puts, Takes, Reads, Does, IsStep, Leads, moved}
+use Rattle.tc_model.specs.Goals.{Scene, Moment, Move, Nothing, Equates, Puts, Takes, Reads, Does, Leads, moved}
 use Rattle.tc_model.specs.Reactions.{Rule}
 use Rattle.tc_model.specs.Tuples.{after_effect, after_effects}
 use Rattle.tc_model.specs.declared.goals.Goal.{Goal}
@@ -18,7 +18,7 @@ use Rattle.tc_model.specs.declared.items.Effect.TheVariants.{Put, Took, Read}
 use Rattle.tc_model.specs.declared.items.Item.{Item}
 use Rattle.tc_model.specs.declared.items.Item.TheVariants.{Fired, Failed}
 use Rattle.tc_model.proofs.Following.{body-tuples}
-use Rattle.tc_body.specs.Costs.{sought, search_steps, goal_steps, has_effect, behind, after_goal, goals_steps, reached, body_steps}
+use Rattle.tc_body.specs.Costs.{sought, search_steps, goal_steps, has_effect, behind, after_goal, goals_steps, body_steps}
 
 -- a goal has these effects: one or none
 abbrev IsOwn : Goal → List Effect → Type 0
