@@ -1,3 +1,4 @@
 pub mod Steps
 pub mod Leading
 pub mod Outcomes
+pub mod Costs

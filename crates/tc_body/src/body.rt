@@ -1,5 +1,5 @@
 //! The goals of a body, one after another.
-ghost use Rattle.std.specs.Prelude.{◌≡◌, ◌≤◌, ◌+◌, IfOk, OnErr, IfSome, IfNone};
+ghost use Rattle.std.specs.Prelude.{◌≡◌, ◌≤◌, ◌+◌, take, IfOk, OnErr, IfSome, IfNone};
 ghost use Rattle.tc_model.specs.Bodies.{IsBody, IsFired, IsFailed};
 ghost use Rattle.tc_model.specs.Choices.{TheFirst};
 ghost use Rattle.tc_model.specs.Tuples.{after_effects};
@@ -7,6 +7,7 @@ ghost use Rattle.tc_model.specs.Items.{pick_of, clause_of};
 ghost use Rattle.tc_model.specs.Triggers.{raises};
 ghost use Rattle.tc_model.specs.declared.limits.TheConstants.{MOST_GOALS};
 ghost use Rattle.tc_bag.specs.Stock.{tuples_of, AddsYounger};
+ghost use Rattle.tc_body.specs.Costs.{body_steps, goals_steps};
 ghost use Rattle.tc_body.specs.Left.{IsLeft};
 
 use crate::events::events_of;
@@ -24,6 +25,8 @@ use tc_unify::Store;
 ///
 /// The item names the reaction by `pick` and `clause`; the events are those of its effects. The
 /// store is made anew in the memory that it has, and what it holds before does not count.
+///
+/// Its steps are counted: a look at a tuple, and a try to make two terms equal.
 pub fn execute<L: Ledger>(
     alloc: Global,
     store: &mut Store,
@@ -45,6 +48,9 @@ pub fn execute<L: Ledger>(
     ensures saved { bag.new.saved ≡ bag.old.saved }
     ensures adds { AddsYounger bag.old bag.new }
     ensures next { bag.new.next ≤ bag.old.next + MOST_GOALS }
+    ensures counted { IfOk result
+        (λ x. steps.new ≤ steps.old + body_steps r.now x.0 (tuples_of bag.old.now)) }
+    ensures rises { steps.old ≤ steps.new }
 {
     bag.mark()?;
     match run_goals(alloc, store, r, e, context, bag, steps) {
@@ -110,6 +116,12 @@ pub fn run_goals<L: Ledger>(
     ensures saved { bag.new.saved ≡ bag.old.saved }
     ensures adds { AddsYounger bag.old bag.new }
     ensures next { bag.new.next ≤ bag.old.next + MOST_GOALS }
+    ensures counted { IfOk result (λ x. IfNone x.0 (steps.new
+        ≤ steps.old + (1 + goals_steps r.now.goals x.1.items (tuples_of bag.old.now)))) }
+    ensures counted_failed { IfOk result (λ x. IfSome x.0 (λ goal. steps.new
+        ≤ steps.old + (1 + goals_steps (take goal r.now.goals) x.1.items
+        (tuples_of bag.old.now)))) }
+    ensures rises { steps.old ≤ steps.new }
 {
     let mut effects = Vec::new(alloc);
     let goals = r.goals();

@@ -1,13 +1,15 @@
 //! One goal of a body.
-ghost use Rattle.std.specs.Prelude.{◌≡◌, ◌≤◌, ◌<◌, ◌+◌, ◌++◌, ◌∷◌, [], length};
+ghost use Rattle.std.specs.Prelude.{◌≡◌, ◌≤◌, ◌<◌, ◌+◌, ◌*◌, ◌++◌, ◌∷◌, [], length};
 ghost use Rattle.std.specs.Prelude.{IfOk, OnOk, IsTrue, false, All};
 ghost use Rattle.tc_term.specs.TreeView.{tree_of};
 ghost use Rattle.tc_term.specs.Variables.{var_bound};
 ghost use Rattle.tc_term.specs.Equations.{Solvable};
 ghost use Rattle.tc_model.specs.Goals.{IsStuck};
 ghost use Rattle.tc_model.specs.Within.{terms_of, HasVarsBelow};
-ghost use Rattle.tc_bag.specs.Stock.{AddsYounger};
+ghost use Rattle.tc_steps.specs.Tops.{agreeing};
+ghost use Rattle.tc_bag.specs.Stock.{AddsYounger, tuples_of};
 ghost use Rattle.tc_goals.specs.Moments.{scene};
+ghost use Rattle.tc_body.specs.Costs.{goal_steps};
 ghost use Rattle.tc_body.specs.Moments.{moment_of, IsDone};
 ghost use Rattle.tc_body.specs.Moments.{HasPut, HasNoValue, HasTaken, HasRead, HasNoMatch};
 
@@ -60,6 +62,8 @@ pub fn step<L: Ledger>(
     ensures saved { bag.new.saved ≡ bag.old.saved }
     ensures adds { AddsYounger bag.old bag.new }
     ensures next { bag.new.next ≤ bag.old.next + 1 }
+    ensures counted { steps.new ≤ steps.old + goal_steps goal.now (tuples_of bag.old.now) }
+    ensures rises { steps.old ≤ steps.new }
 {
     match goal {
         Goal::OutR(t) => put(alloc, t, on, store, bag, effects),
@@ -121,6 +125,9 @@ fn take_oldest<L: Ledger>(
     ensures saved { bag.new.saved ≡ bag.old.saved }
     ensures adds { AddsYounger bag.old bag.new }
     ensures next { bag.new.next ≡ bag.old.next }
+    ensures tried { steps.new
+        ≤ steps.old + 2 * agreeing (tree_of t.now) (tuples_of bag.old.now) }
+    ensures rises { steps.old ≤ steps.new }
 {
     let key = Key::of(alloc, t)?;
     let Some((age, tuple)) = oldest_match(store, t, &key, bag, steps)? else {
@@ -150,6 +157,9 @@ fn read_oldest<L: Ledger>(
     ensures effects { IfOk result (λ y. y ≡ false → effects.new.items ≡ effects.old.items) }
     ensures vars { store.new.vars ≡ store.old.vars }
     ensures solvable { Solvable store.new.vars store.new.pairs }
+    ensures tried { steps.new
+        ≤ steps.old + 2 * agreeing (tree_of t.now) (tuples_of bag.now.now) }
+    ensures rises { steps.old ≤ steps.new }
 {
     let key = Key::of(alloc, t)?;
     let Some((_, tuple)) = oldest_match(store, t, &key, bag, steps)? else {
@@ -199,6 +209,9 @@ fn is_absent<L: Ledger>(
         → HasNoMatch store.old (tree_of t.now) bag.now → ⊥) }
     ensures vars { store.new.vars ≡ store.old.vars }
     ensures solvable { Solvable store.new.vars store.new.pairs }
+    ensures tried { steps.new
+        ≤ steps.old + 2 * agreeing (tree_of t.now) (tuples_of bag.now.now) }
+    ensures rises { steps.old ≤ steps.new }
 {
     let key = Key::of(alloc, t)?;
     match oldest_match(store, t, &key, bag, steps)? {

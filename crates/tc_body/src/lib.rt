@@ -4,7 +4,9 @@
 //! event triggers, or how a centre serves a call.
 //!
 //! ```text
-//! let done = execute(alloc, &mut store, &reaction, 1, clause, &event, &context, &mut bag)?;
+//! let done = execute(
+//!     alloc, &mut store, &reaction, 1, clause, &event, &context, &mut bag, &mut steps,
+//! )?;
 //! let (item, events) = done;
 //! ```
 #![tactic(auto)]
@@ -16,5 +18,5 @@ mod laws;
 
 pub use body::{execute, run_goals};
 pub use goal::step;
-pub use laws::body_has_an_outcome;
+pub use laws::{body_has_an_outcome, only_match_is_found_in_four_steps};
 pub use tc_lists::NoMemory;

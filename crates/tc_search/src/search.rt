@@ -1,5 +1,6 @@
 //! Searches in a bag, under the equations of a store and for a template alone.
-ghost use Rattle.std.specs.Prelude.{◌≡◌, ◌≤◌, ◌+◌, ◌*◌, [], false, IsTrue, IfOk, IfSome, IfNone, OnErr};
+ghost use Rattle.std.specs.Prelude.{◌≡◌, ◌≤◌, ◌+◌, ◌*◌, [], false, IsTrue};
+ghost use Rattle.std.specs.Prelude.{IfOk, IfSome, IfNone, OnErr};
 ghost use Rattle.tc_lists.specs.Firsts.{NoneOf};
 ghost use Rattle.tc_term.specs.Equations.{Solvable, Matches, with_pair};
 ghost use Rattle.tc_term.specs.TreeView.{tree_of};
