@@ -21,10 +21,10 @@ pub loop-age-smaller : goal.loop-age-smaller
 loop-age-smaller g c = omega (arith, below g c, c.in-Some.ensures.found.has.0)
 
 -- the requests so far, with the next candidate
-far : (g : given.Over) (c : goal.Joined-oldest_asking g)
+further : (g : given.Over) (c : goal.Joined-oldest_asking g)
     → IsSoFar c.args.bag.now.now c.args.waiters.now.requests.now c.args.known.requests c.match-oldest_asking.next c.match-oldest_asking.count
     (c.in-Some.age + 1)
-far g c =
+further g c =
     let rows = c.args.bag.now.now in
     let requests = c.args.waiters.now.requests.now in
     let most = c.args.known.requests in
@@ -36,20 +36,20 @@ far g c =
           let place = w.in-Some-oldest_asking.place in
           subst (λ n. IsSoFar rows requests most n c.match-oldest_asking.count (age + 1)) (sym w.next-is)
           (subst (λ k. IsSoFar rows requests most (Some (place, age)) k (age + 1)) (sym w.count-is)
-          (far-found rows requests most c.loop-age.next c.loop-age.count c.loop-age.from far g c.args.bag.now.next this
+          (far-found rows requests most c.loop-age.next c.loop-age.count c.loop-age.from far c.args.bag.now.next this
           c.in-Some.ensures.rises c.in-Some.ensures.found place w.in-Some-oldest_asking.ensures.inside
           w.in-Some-oldest_asking.ensures.found))
       | in_default-oldest_asking w ↦
           subst (λ n. IsSoFar rows requests most n c.match-oldest_asking.count (age + 1)) (sym w.next-is)
           (subst (λ k. IsSoFar rows requests most c.loop-age.next k (age + 1)) (sym w.count-is)
-          (far-none rows requests most c.loop-age.next c.loop-age.count c.loop-age.from far g c.args.bag.now.next this
+          (far-none rows requests most c.loop-age.next c.loop-age.count c.loop-age.from far c.args.bag.now.next this
           c.in-Some.ensures.rises c.in-Some.ensures.found w.in_default-oldest_asking.ensures.none))
     ]
 
 pub loop-age-preserved : goal.loop-age-preserved
 loop-age-preserved g c = record {
-  far = far g c;
-  rises = omega (arith, c.loop-age.invariant.rises, c.in-Some.ensures.steps_rise, c.match-oldest_asking.ensures.rises);
+  far = further g c;
+  rises = omega (arith, c.loop-age.invariant.rises, c.in-Some.ensures.steps_rise, c.oldest_asking.ensures.rises);
 }
 
 pub returns-clause-found : goal.returns-clause-found
