@@ -6,7 +6,7 @@ use Rattle.tc_centre.proofs.Given.{read-stands, read-answer, tuple-wanted, tuple
 use Rattle.tc_centre.proofs.operations.give_tuple.Goals as goal
 
 pub regime-regime-requires : goal.regime-regime-requires
-regime-regime-requires c =
+regime-regime-requires g c =
     let old = c.args.held.now in
     request-agent (origin_of old.founding) old.history.items old.spec old.bag.now old.bag.next old.pending.now c.requires.run
     c.args.place c.index-list-place.result
@@ -14,20 +14,20 @@ regime-regime-requires c =
     c.index-list-place.is c.list.ensures)
 
 pub answer-requires-clause-wants : goal.answer-requires-clause-wants
-answer-requires-clause-wants c =
+answer-requires-clause-wants g c =
     let r = c.index-list-place.result in
     tuple-wanted c.args.held.now.bag.now r.wants r.template c.args.age
     (read-answer c.args.held.now c.args.place (Some c.args.age) c.requires.next c.list.result.now r c.index-list-place.is c.list.ensures)
 
 pub answer-requires-clause-oldest : goal.answer-requires-clause-oldest
-answer-requires-clause-oldest c =
+answer-requires-clause-oldest g c =
     let r = c.index-list-place.result in
     let oldest = tuple-oldest c.args.held.now.bag.now r.wants r.template c.args.age
     (read-answer c.args.held.now c.args.place (Some c.args.age) c.requires.next c.list.result.now r c.index-list-place.is c.list.ensures) in
     record { template = r.template; tuple = oldest.tuple; found = oldest.found }
 
 pub returns-in-Whole-clause-gives : goal.returns-in-Whole-clause-gives
-returns-in-Whole-clause-gives c =
+returns-in-Whole-clause-gives g c =
     let old = c.args.held.now in
     let r = c.index-list-place.result in
     let told = c.in_ok-tuple.ensures in
@@ -38,7 +38,7 @@ returns-in-Whole-clause-gives c =
     told.tuple told.phase told.next told.adds c.in-Whole.is
 
 pub returns-in-Over-clause-gives : goal.returns-in-Over-clause-gives
-returns-in-Over-clause-gives c =
+returns-in-Over-clause-gives g c =
     let old = c.args.held.now in
     let r = c.index-list-place.result in
     let told = c.in_ok-tuple.ensures in

@@ -6,7 +6,7 @@ use Rattle.tc_centre.proofs.Given.{read-stands, read-answer, tells}
 use Rattle.tc_centre.proofs.operations.tell_absence.Goals as goal
 
 pub regime-regime-requires : goal.regime-regime-requires
-regime-regime-requires c =
+regime-regime-requires g c =
     let old = c.args.held.now in
     request-agent (origin_of old.founding) old.history.items old.spec old.bag.now old.bag.next old.pending.now c.requires.run
     c.args.place c.index-list-place.result
@@ -14,7 +14,7 @@ regime-regime-requires c =
     c.index-list-place.is c.list.ensures)
 
 pub returns-in-Whole-clause-gives : goal.returns-in-Whole-clause-gives
-returns-in-Whole-clause-gives c =
+returns-in-Whole-clause-gives g c =
     let old = c.args.held.now in
     let r = c.index-list-place.result in
     let told = c.in_ok-cascade.ensures in
@@ -25,7 +25,7 @@ returns-in-Whole-clause-gives c =
     told.phase told.next told.adds c.in-Whole.is
 
 pub returns-in-Over-clause-gives : goal.returns-in-Over-clause-gives
-returns-in-Over-clause-gives c =
+returns-in-Over-clause-gives g c =
     let old = c.args.held.now in
     let r = c.index-list-place.result in
     let told = c.in_ok-cascade.ensures in

@@ -7,7 +7,7 @@ use Rattle.tc_centre.proofs.Known.{begun-kept, known-more}
 use Rattle.tc_centre.proofs.serving.answer_all.Goals as goal
 
 pub loop-place-preserved : goal.loop-place-preserved
-loop-place-preserved c =
+loop-place-preserved g c =
     let old = c.loop-place.held in
     let new = c.answer_one.new.held in
     let told = c.in_ok-answer_one.ensures in

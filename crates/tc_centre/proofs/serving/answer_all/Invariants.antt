@@ -3,7 +3,7 @@ use Rattle.tc_centre.specs.Held.{HoldsRun, KeepsHeld, KeepsTyped, Knows, Answers
 use Rattle.tc_centre.proofs.serving.answer_all.Given as goal
 
 abbrev pub invariant-loop-place : goal.invariant-loop-place
-invariant-loop-place l = record {
+invariant-loop-place g l = record {
   run : HoldsRun l.held;
   known : Knows l.known l.held;
   answers : Answers l.initial.held.history.items l.held.history.items;
@@ -13,4 +13,4 @@ invariant-loop-place l = record {
 }
 
 abbrev pub decreases-loop-place : goal.decreases-loop-place
-decreases-loop-place l = length l.held.pending.now
+decreases-loop-place g l = length l.held.pending.now

@@ -17,13 +17,13 @@ removed old mid new place same is =
     ap (λ (w : Waiting). w.now) is ∙ ap (λ (w : Waiting). remove w.now place) same
 
 pub remove-requires : goal.remove-requires
-remove-requires c =
+remove-requires g c =
     let requests = c.args.held.now.pending.now in
     subst (λ (w : Waiting). c.args.place < length w.now) (sym c.in_ok-id.ensures.requests)
     (slice_get_within requests c.args.place c.requires.next.request c.requires.next.stands)
 
 pub returns-clause-run : goal.returns-clause-run
-returns-clause-run c =
+returns-clause-run g c =
     let old = c.args.held.now in
     let new = c.answer.new.held in
     let gives = c.in_ok-id.ensures.gives in
@@ -41,11 +41,11 @@ returns-clause-run c =
     gives.next))
 
 pub returns-clause-requests : goal.returns-clause-requests
-returns-clause-requests c =
+returns-clause-requests g c =
     removed c.args.held.now.pending c.answer.new.held.pending c.remove.new.self c.args.place c.answer.ensures.requests c.remove.ensures
 
 pub returns-clause-fewer : goal.returns-clause-fewer
-returns-clause-fewer c =
+returns-clause-fewer g c =
     let requests = c.args.held.now.pending.now in
     let inside : c.args.place < length requests =
     slice_get_within requests c.args.place c.requires.next.request c.requires.next.stands in
@@ -54,7 +54,7 @@ returns-clause-fewer c =
     omega (arith, one_less, ap length gone)
 
 pub returns-clause-typed : goal.returns-clause-typed
-returns-clause-typed c all =
+returns-clause-typed g c all =
     typed-push c.answer.new.held.history.items c.push.new.self.items (Gave c.in_ok-id.id c.in_ok-id.outcome c.in_ok-id.items)
     c.in_ok-push.ensures.items tt
     (subst (All IsTypedCall) (sym c.answer.ensures.keeps.history) all)

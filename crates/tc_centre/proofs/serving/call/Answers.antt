@@ -10,7 +10,7 @@ use Rattle.tc_centre.proofs.Known.{known-still}
 use Rattle.tc_centre.proofs.serving.call.Goals as goal
 
 pub returns-clause-run : goal.returns-clause-run
-returns-clause-run c =
+returns-clause-run g c =
     let old = c.args.held.now in
     let new = c.perform.new.held in
     let done = c.in_ok-outcome.ensures.done in
@@ -25,12 +25,12 @@ returns-clause-run c =
     ∙ ap (λ op. old.history.items ++ Called c.args.id op c.in_ok-outcome.outcome c.in_ok-outcome.items ∷ []) c.into_op-op.ensures))
 
 pub returns-clause-known : goal.returns-clause-known
-returns-clause-known c =
+returns-clause-known g c =
     known-still c.args.held.now c.perform.new.held c.requires.may.rest.quiescent c.in_ok-outcome.ensures.done.keeps
     c.requires.marked c.perform.ensures.keeps.bag
 
 pub returns-clause-typed : goal.returns-clause-typed
-returns-clause-typed c all =
+returns-clause-typed g c all =
     typed-push c.perform.new.held.history.items c.push.new.self.items
     (Called c.args.id c.into_op-op.result c.in_ok-outcome.outcome c.in_ok-outcome.items) c.in_ok-push.ensures.items
     (c.typed_id.ensures, c.typed.ensures, c.typed-2.ensures)

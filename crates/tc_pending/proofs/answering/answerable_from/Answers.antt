@@ -6,7 +6,7 @@ use Rattle.tc_pending.proofs.Next.{none_further, none_at_all}
 use Rattle.tc_pending.proofs.answering.answerable_from.Goals as goal
 
 pub loop-at-preserved : goal.loop-at-preserved
-loop-at-preserved c =
+loop-at-preserved g c =
     let inside : c.loop-at.at < length c.args.requests.now = omega (arith, c.loop-at-test.true) in
     record {
       none = none_further (IsAnswerable (tuples_of c.args.bag.now.now)) c.args.requests.now c.loop-at.at c.index-requests-at.result
@@ -21,7 +21,7 @@ loop-at-preserved c =
     }
 
 pub returns-in-Some-clause-counted : goal.returns-in-Some-clause-counted
-returns-in-Some-clause-counted c =
+returns-in-Some-clause-counted g c =
     omega (
       arith,
       c.loop-at.invariant.counted,
@@ -31,5 +31,5 @@ returns-in-Some-clause-counted c =
     )
 
 pub returns-clause-none : goal.returns-clause-none
-returns-clause-none c =
+returns-clause-none g c =
     none_at_all c.args.bag.now.now c.args.requests.now c.loop-at.at (omega (arith, c.loop-at-test.false)) c.loop-at.invariant.none

@@ -6,7 +6,7 @@ use Rattle.tc_pending.specs.Costs.{requests_steps}
 use Rattle.tc_pending.proofs.answering.answerable_from.Given as goal
 
 abbrev pub invariant-loop-at : goal.invariant-loop-at
-invariant-loop-at l = record {
+invariant-loop-at g l = record {
   none : NoneOf (IsAnswerable (tuples_of l.bag.now)) (take l.at l.requests);
   counted : l.steps + requests_steps (tuples_of l.bag.now) (drop l.at l.requests)
       ≤ l.initial.steps + requests_steps (tuples_of l.bag.now) (drop l.place l.requests);

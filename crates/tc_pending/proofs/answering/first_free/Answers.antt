@@ -7,7 +7,7 @@ use Rattle.tc_pending.proofs.Wanting.{NoneOf-fewer}
 use Rattle.tc_pending.proofs.answering.first_free.Goals as goal
 
 pub loop-place-preserved : goal.loop-place-preserved
-loop-place-preserved c =
+loop-place-preserved g c =
     record {
       none = none_further (IsFree (tuples_of c.args.bag.now.now)) c.args.requests.now c.loop-place.place c.index-requests-place.result
           (omega (arith, c.loop-place-test.true, c.requires)) c.index-requests-place.is c.loop-place.invariant.none
@@ -16,6 +16,6 @@ loop-place-preserved c =
     }
 
 pub returns-clause-none : goal.returns-clause-none
-returns-clause-none c =
+returns-clause-none g c =
     NoneOf-fewer (IsFree (tuples_of c.args.bag.now.now)) c.args.requests.now c.args.count c.loop-place.place
     (omega (arith, c.loop-place-test.false)) c.loop-place.invariant.none

@@ -5,7 +5,7 @@ use Rattle.tc_pending.specs.Answers.{IsFree}
 use Rattle.tc_pending.proofs.answering.first_free.Given as goal
 
 abbrev pub invariant-loop-place : goal.invariant-loop-place
-invariant-loop-place l = record {
+invariant-loop-place g l = record {
   none : NoneOf (IsFree (tuples_of l.bag.now)) (take l.place l.requests);
   rises : l.initial.steps ≤ l.steps;
 }

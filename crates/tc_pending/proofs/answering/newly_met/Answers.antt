@@ -4,26 +4,27 @@ use Rattle.tc_bag.specs.Keys.{IsOfKey}
 use Rattle.tc_bag.specs.Stock.{Row, row}
 use Rattle.tc_search.proofs.Passing.{candidate_below}
 use Rattle.tc_pending.proofs.Newly.{IsSoFar, far-found, far-none, far-next, far-inside, far-no, none-met}
+use Rattle.tc_pending.proofs.answering.newly_met.Given as given
 use Rattle.tc_pending.proofs.answering.newly_met.Goals as goal
 use Rattle.tc_pending.proofs.answering.newly_met.Goals.{in-Some-oldest_asking, in_default-oldest_asking}
 
 -- the candidate's age
-below : (c : goal.Joined-oldest_asking) → c.in-Some.age < c.args.bag.now.next
-below c =
+below : (g : given.Over) (c : goal.Joined-oldest_asking g) → c.in-Some.age < c.args.bag.now.next
+below g c =
     candidate_below (IsOfKey Any) c.loop-age.from c.args.bag.now.next c.args.bag.now.now (row c.in-Some.age c.in-Some.tuple.now)
     c.in-Some.ensures.rises c.in-Some.ensures.found
 
 pub overflow_add-from : goal.overflow_add-from
-overflow_add-from c = omega (arith, below c, c.in-Some.ensures.limit)
+overflow_add-from g c = omega (arith, below g c, c.in-Some.ensures.limit)
 
 pub loop-age-smaller : goal.loop-age-smaller
-loop-age-smaller c = omega (arith, below c, c.in-Some.ensures.found.has.0)
+loop-age-smaller g c = omega (arith, below g c, c.in-Some.ensures.found.has.0)
 
 -- the requests so far, with the next candidate
-far : (c : goal.Joined-oldest_asking)
+further : (g : given.Over) (c : goal.Joined-oldest_asking g)
     → IsSoFar c.args.bag.now.now c.args.waiters.now.requests.now c.args.known.requests c.match-oldest_asking.next c.match-oldest_asking.count
     (c.in-Some.age + 1)
-far c =
+further g c =
     let rows = c.args.bag.now.now in
     let requests = c.args.waiters.now.requests.now in
     let most = c.args.known.requests in
@@ -46,25 +47,25 @@ far c =
     ]
 
 pub loop-age-preserved : goal.loop-age-preserved
-loop-age-preserved c = record {
-  far = far c;
-  rises = omega (arith, c.loop-age.invariant.rises, c.in-Some.ensures.steps_rise, c.match-oldest_asking.ensures.rises);
+loop-age-preserved g c = record {
+  far = further g c;
+  rises = omega (arith, c.loop-age.invariant.rises, c.in-Some.ensures.steps_rise, c.oldest_asking.ensures.rises);
 }
 
 pub returns-clause-found : goal.returns-clause-found
-returns-clause-found c =
+returns-clause-found g c =
     far-next c.args.bag.now.now c.args.waiters.now.requests.now c.args.known.requests c.loop-age.next c.loop-age.count c.loop-age.from
     c.loop-age.invariant.far
     (none-met c.args.bag.now.now c.args.waiters.now.requests.now c.loop-age.count c.loop-age.from c.loop-age.invariant.far.known
     c.in_default.ensures.none)
 
 pub returns-clause-inside : goal.returns-clause-inside
-returns-clause-inside c =
+returns-clause-inside g c =
     far-inside c.args.bag.now.now c.args.waiters.now.requests.now c.args.known.requests c.loop-age.next c.loop-age.count c.loop-age.from
     c.loop-age.invariant.far
 
 pub returns-clause-none : goal.returns-clause-none
-returns-clause-none c =
+returns-clause-none g c =
     far-no c.args.bag.now.now c.args.waiters.now.requests.now c.args.known.requests c.loop-age.next c.loop-age.count c.loop-age.from
     c.loop-age.invariant.far
     (none-met c.args.bag.now.now c.args.waiters.now.requests.now c.loop-age.count c.loop-age.from c.loop-age.invariant.far.known

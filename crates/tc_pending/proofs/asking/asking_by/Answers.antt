@@ -6,12 +6,12 @@ use Rattle.tc_pending.proofs.Lookups.{none-up, none-further}
 use Rattle.tc_pending.proofs.asking.asking_by.Goals as goal
 
 pub returns-then-is_asking-clause-none : goal.returns-then-is_asking-clause-none
-returns-then-is_asking-clause-none c =
+returns-then-is_asking-clause-none g c =
     none-up (Asks c.args.wanted.now) c.args.waiters.now.requests.now c.args.waiters.now.codes.now c.requires.indexed.codes c.args.code c.loop-place.at
     c.loop-place.invariant.none c.in-Some.place c.in-Some.ensures.found
 
 pub loop-place-preserved : goal.loop-place-preserved
-loop-place-preserved c =
+loop-place-preserved g c =
     let requests = c.args.waiters.now.requests.now in
     let place = c.in-Some.place in
     let r = c.index-requests-place.result in
@@ -27,6 +27,6 @@ loop-place-preserved c =
     }
 
 pub returns-clause-none : goal.returns-clause-none
-returns-clause-none c =
+returns-clause-none g c =
     none-up (Asks c.args.wanted.now) c.args.waiters.now.requests.now c.args.waiters.now.codes.now c.requires.indexed.codes c.args.code c.loop-place.at
     c.loop-place.invariant.none c.args.count c.in_default.ensures.none

@@ -7,18 +7,18 @@ use Rattle.tc_pending.proofs.Lookups.{NoneSuch-less, none-of}
 use Rattle.tc_pending.proofs.asking.looked_up.Goals as goal
 
 pub asking_by-same-requires : goal.asking_by-same-requires
-asking_by-same-requires c = record {
+asking_by-same-requires g c = record {
   indexed = AreIndexed-fewer c.args.waiters.now c.args.count c.asking_by-any.result c.asking_by-any.ensures.inside c.requires.indexed;
 }
 
 pub asking_by-requires : goal.asking_by-requires
-asking_by-requires c = record {
+asking_by-requires g c = record {
   indexed = AreIndexed-fewer c.args.waiters.now c.args.count c.asking_by-same.result
       (omega (arith, c.asking_by-same.ensures.inside, c.asking_by-any.ensures.inside)) c.requires.indexed;
 }
 
 pub returns-clause-asks : goal.returns-clause-asks
-returns-clause-asks c = λ inside.
+returns-clause-asks g c = λ inside.
     let Such = IsSuch (Asks c.args.wanted.now) c.args.waiters.now.requests.now in
     let any = c.asking_by-any in
     let same = c.asking_by-same in
@@ -35,7 +35,7 @@ returns-clause-asks c = λ inside.
     (cases_lt whole.result same.result)
 
 pub returns-clause-none : goal.returns-clause-none
-returns-clause-none c =
+returns-clause-none g c =
     let wanted = c.args.wanted.now in
     let requests = c.args.waiters.now.requests.now in
     let place = c.asking_by.result in

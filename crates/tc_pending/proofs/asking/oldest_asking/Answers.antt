@@ -7,7 +7,7 @@ use Rattle.tc_pending.proofs.Lookups.{oldest}
 use Rattle.tc_pending.proofs.asking.oldest_asking.Goals as goal
 
 pub looked_up-place-requires-clause-indexed : goal.looked_up-place-requires-clause-indexed
-looked_up-place-requires-clause-indexed c =
+looked_up-place-requires-clause-indexed g c =
     let waiters = c.args.waiters.now in
     let filed = c.requires.lent.filed in
     record {
@@ -20,12 +20,12 @@ looked_up-place-requires-clause-indexed c =
     }
 
 pub returns-then-place-start-clause-found : goal.returns-then-place-start-clause-found
-returns-then-place-start-clause-found c =
+returns-then-place-start-clause-found g c =
     oldest (AsksFor (tuples_in c.args.left) c.args.tuple.now) c.args.waiters.now.requests.now c.looked_up-place.result
     (c.looked_up-place.ensures.asks c.if-place-start.true) c.looked_up-place.ensures.none
 
 pub gone_through-requires-clause-none : goal.gone_through-requires-clause-none
-gone_through-requires-clause-none c =
+gone_through-requires-clause-none g c =
     let all : c.looked_up-place.result ≡ c.min-start.result = omega arith in
     subst (λ n. NoneOf (AsksFor (tuples_in c.args.left) c.args.tuple.now) (take n c.args.waiters.now.requests.now)) all
     c.looked_up-place.ensures.none

@@ -16,7 +16,7 @@ none-found Q R (Some x) b apart some none is =
     (λ yes. absurd (true≢false (sym yes ∙ not_true b (sym is))), λ q. absurd (apart x some q))
 
 pub returns : goal.returns
-returns c =
+returns g c =
     let ts = tuples_of c.args.bag.now.now in
     none-found (NoneMatches ts c.args.template.now) _ c.oldest_match_of.result c.is_none.result
     (λ m found none. none m.1.now (IsFirst-contains (IsMatch c.args.template.now) ts m.1.now found.first) found.first.has)

@@ -6,25 +6,25 @@ use Rattle.tc_replay.proofs.Told.{not_false, not_true}
 use Rattle.tc_replay.proofs.goal.is_stuck.Goals as goal
 
 pub returns-in-OutR-clause-moves : goal.returns-in-OutR-clause-moves
-returns-in-OutR-clause-moves c =
+returns-in-OutR-clause-moves g c =
     let scene : Scene = record { vars = c.args.vars; event = c.args.e.now; setting = c.args.context.now } in
     rw c.in-OutR.is (put_moves scene None c.args.store.now c.args.bag.now c.requires.width c.requires.solvable c.in-OutR.t c.has_no_value.result c.has_no_value.ensures.some)
 
 pub returns-in-InR-clause-moves : goal.returns-in-InR-clause-moves
-returns-in-InR-clause-moves c =
+returns-in-InR-clause-moves g c =
     let scene : Scene = record { vars = c.args.vars; event = c.args.e.now; setting = c.args.context.now } in
     either_moves scene None c.args.store.now c.args.bag.now c.requires.width c.requires.solvable c.args.goal.now c.in-InR.t
     c.is_absent-in-InR.result c.in-InR.is c.is_absent-in-InR.ensures.some
 
 pub returns-in_ok-is_absent-in-NoR-clause-moves : goal.returns-in_ok-is_absent-in-NoR-clause-moves
-returns-in_ok-is_absent-in-NoR-clause-moves c =
+returns-in_ok-is_absent-in-NoR-clause-moves g c =
     let scene : Scene = record { vars = c.args.vars; event = c.args.e.now; setting = c.args.context.now } in
     rw c.in-NoR.is
     (λ is. absent_moves scene None c.args.store.now c.args.bag.now c.requires.width c.requires.solvable c.in-NoR.t
     (c.in_ok-is_absent-in-NoR.ensures.none (not_false c.in_ok-is_absent-in-NoR.field-0 is)))
 
 pub returns-in_ok-succeeds-in_default : goal.returns-in_ok-succeeds-in_default
-returns-in_ok-succeeds-in_default c =
+returns-in_ok-succeeds-in_default g c =
     let scene : Scene = record { vars = c.args.vars; event = c.args.e.now; setting = c.args.context.now } in
     record {
       stuck = λ is es move step.

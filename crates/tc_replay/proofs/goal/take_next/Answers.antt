@@ -9,19 +9,19 @@ use Rattle.tc_replay.proofs.Told.{told_none, told_is, told_same, took_one, IfNon
 use Rattle.tc_replay.proofs.goal.take_next.Goals as goal
 
 pub returns-in_default-clause-none : goal.returns-in_default-clause-none
-returns-in_default-clause-none c = λ _ u told. absurd (told_none c.args.next (Took u) c.in_default.not-Some told)
+returns-in_default-clause-none g c = λ _ u told. absurd (told_none c.args.next (Took u) c.in_default.not-Some told)
 
 pub returns-in_default-effect-clause-none : goal.returns-in_default-effect-clause-none
-returns-in_default-effect-clause-none c = λ _ u told. absurd (c.in_default-effect.not-Took u (told_same c.args.next c.in-Some.effect (Took u) c.in-Some.is told))
+returns-in_default-effect-clause-none g c = λ _ u told. absurd (c.in_default-effect.not-Took u (told_same c.args.next c.in-Some.effect (Took u) c.in-Some.is told))
 
 pub returns-in_default-2-clause-none : goal.returns-in_default-2-clause-none
-returns-in_default-2-clause-none c = λ _ u told.
+returns-in_default-2-clause-none g c = λ _ u told.
     let never = IfNone-not c.in_ok-age.field-0 (MeetsNot c.args.store.now (tree_of c.args.t.now) c.in-Took.tuple c.args.bag.now) c.in_default-2.not-Some c.in_ok-age.ensures.none in
     subst (λ x. MeetsNot c.args.store.now (tree_of c.args.t.now) x c.args.bag.now)
     (took_one c.in-Some.effect.now c.in-Took.tuple u c.in-Took.is (told_same c.args.next c.in-Some.effect (Took u) c.in-Some.is told)) never
 
 pub returns-clause-taken : goal.returns-clause-taken
-returns-clause-taken c = λ _.
+returns-clause-taken g c = λ _.
     record {
       tuple = c.in-Took.tuple;
       told = told_is c.args.next c.in-Some.effect (Took c.in-Took.tuple) c.in-Some.is c.in-Took.is;
@@ -32,7 +32,7 @@ returns-clause-taken c = λ _.
     }
 
 pub returns-clause-adds : goal.returns-clause-adds
-returns-clause-adds c = record {
+returns-clause-adds g c = record {
   rises = omega (arith, ap (λ (s : Stock). s.next) c.take.ensures);
   added = λ r there older. without-none c.in-Some-2.age c.args.bag.now.now r
       (subst (λ (s : Stock). Contains s.now r) c.take.ensures there);

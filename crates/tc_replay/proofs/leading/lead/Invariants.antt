@@ -7,7 +7,7 @@ use Rattle.tc_replay.proofs.leading.lead.Given as goal
 
 -- the goals before this one lead here alone, with the first effects
 abbrev pub invariant-loop-goal : goal.invariant-loop-goal
-invariant-loop-goal l = record {
+invariant-loop-goal g l = record {
   there : LeadsThere (scene l.vars l.e l.context) (take l.goal-index l.goals)
       (moment l.initial.store (tuples_of l.initial.bag.now) []) (moment l.store (tuples_of l.bag.now) (take l.done l.recorded)) l.recorded;
   within : l.done ≤ length l.recorded;

@@ -7,13 +7,14 @@ use Rattle.tc_bag.specs.Lent.{lent_tree}
 use Rattle.tc_bag.specs.Stock.{Row}
 use Rattle.tc_search.proofs.Passing.{candidate_below, passed_more, passed_all, passed_none}
 use Rattle.tc_replay.proofs.Equal.{Equals, equal_likes, equal_found, equal_none}
+use Rattle.tc_replay.proofs.meeting.age_of.Given as given
 use Rattle.tc_replay.proofs.meeting.age_of.Goals as goal
 
 pub loop-age-init : goal.loop-age-init
-loop-age-init c = passed_none (Equals c.args.tuple.now) c.args.bag.now.now
+loop-age-init g c = passed_none (Equals c.args.tuple.now) c.args.bag.now.now
 
 pub returns-then-eq-clause-found : goal.returns-then-eq-clause-found
-returns-then-eq-clause-found c =
+returns-then-eq-clause-found g c =
     let row : Row = record { age = c.in-Some.age; tuple = c.in-Some.other.now } in
     let Q = IsLike (key_of (tree_of c.term-term.result.now)) (lent_tree c.known_first-first.result) in
     let same : c.in-Some.other.now ≡ c.args.tuple.now =
@@ -25,7 +26,7 @@ returns-then-eq-clause-found c =
     c.loop-age.invariant c.in-Some.ensures.found same
 
 pub loop-age-preserved : goal.loop-age-preserved
-loop-age-preserved c =
+loop-age-preserved g c =
     let row : Row = record { age = c.in-Some.age; tuple = c.in-Some.other.now } in
     let Q = IsLike (key_of (tree_of c.term-term.result.now)) (lent_tree c.known_first-first.result) in
     passed_more (Equals c.args.tuple.now) Q c.loop-age.start c.args.bag.now.next c.args.bag.now.now row c.in-Some.ensures.rises
@@ -38,19 +39,19 @@ loop-age-preserved c =
     ∙ (sym c.eq.ensures ∙ c.if-eq.false)))
 
 -- the candidate's age
-below : (c : goal.Else-eq) → c.in-Some.age < c.args.bag.now.next
-below c =
+below : (g : given.Over) (c : goal.Else-eq g) → c.in-Some.age < c.args.bag.now.next
+below g c =
     candidate_below (IsLike (key_of (tree_of c.term-term.result.now)) (lent_tree c.known_first-first.result)) c.loop-age.start c.args.bag.now.next c.args.bag.now.now
     (record { age = c.in-Some.age; tuple = c.in-Some.other.now }) c.in-Some.ensures.rises c.in-Some.ensures.found
 
 pub overflow_add-start : goal.overflow_add-start
-overflow_add-start c = omega (arith, below c, c.in-Some.ensures.limit)
+overflow_add-start g c = omega (arith, below g c, c.in-Some.ensures.limit)
 
 pub loop-age-smaller : goal.loop-age-smaller
-loop-age-smaller c = omega (arith, below c, c.in-Some.ensures.found.has.0)
+loop-age-smaller g c = omega (arith, below g c, c.in-Some.ensures.found.has.0)
 
 pub returns-clause-none : goal.returns-clause-none
-returns-clause-none c =
+returns-clause-none g c =
     equal_none c.args.tuple.now _
     (passed_all (Equals c.args.tuple.now) (IsLike (key_of (tree_of c.term-term.result.now)) (lent_tree c.known_first-first.result)) c.loop-age.start c.args.bag.now.now
     (equal_likes c.args.tuple.now (key_of (tree_of c.term-term.result.now)) (lent_tree c.known_first-first.result) c.args.bag.now.now

@@ -5,7 +5,7 @@ use Rattle.tc_model.specs.declared.calls.Request.{Request}
 use Rattle.test_hard_searches.proofs.requests.next.Goals as goal
 
 pub next_answerable-requires-clause-known : goal.next_answerable-requires-clause-known
-next_answerable-requires-clause-known c =
+next_answerable-requires-clause-known g c =
     let requests = c.args.pending.now.now in
     let all : All (λ (r : Request). WantsTuple r.wants) requests =
     subst (All (λ (r : Request). WantsTuple r.wants)) c.list.ensures (c.want_tuples.ensures c.if-not-want_tuples.false) in

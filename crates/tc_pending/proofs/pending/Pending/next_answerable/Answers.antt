@@ -10,7 +10,7 @@ use Rattle.tc_pending.proofs.Filed.{IsFiled-at, AreFiled-now}
 use Rattle.tc_pending.proofs.pending.Pending.next_answerable.Goals as goal
 
 pub newly_answerable-requires-clause-lent : goal.newly_answerable-requires-clause-lent
-newly_answerable-requires-clause-lent c =
+newly_answerable-requires-clause-lent g c =
     let p = c.self.inside in
     let coded = c.deref-2.ensures.value ∙ c.self.invariant.coded in
     let kept = AreFiled-now p.index p.filed p.absences p.requests.items p.serials.items p.changes.items c.self.invariant.filed in
@@ -22,13 +22,13 @@ newly_answerable-requires-clause-lent c =
     }
 
 pub answerable_from-requires-clause-none : goal.answerable_from-requires-clause-none
-answerable_from-requires-clause-none c =
+answerable_from-requires-clause-none g c =
     subst (λ rs. NoneOf (IsAnswerable (tuples_of c.args.bag.now.now)) (take c.args.known.requests rs))
     (c.deref.ensures.value ∙ sym c.deref-4.ensures.value)
     c.in_default.ensures.none
 
 pub returns-clause-none : goal.returns-clause-none
-returns-clause-none c =
+returns-clause-none g c =
     let tuples = tuples_of c.args.bag.now.now in
     subst (λ (w : Waiting). IfNone c.answerable_from.result (NoneOf (IsAnswerable tuples) w.now)) c.self.view_is
     (subst (λ rs. IfNone c.answerable_from.result (NoneOf (IsAnswerable tuples) rs)) c.deref-4.ensures.value

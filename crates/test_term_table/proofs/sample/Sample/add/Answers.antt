@@ -5,7 +5,7 @@ use Rattle.tc_term.specs.Variables.{raised}
 use Rattle.test_term_table.proofs.sample.Sample.add.Goals as goal
 
 pub returns : goal.returns
-returns c =
+returns g c =
     pairs_kept c.args.self.now.store c.add.new.self c.args.self.now.store.pairs c.in_ok-add.field-0
     (raised c.args.s.shift (tree_of c.args.s.term.now)) (raised c.args.t.shift (tree_of c.args.t.term.now)) refl
     c.in_ok-add.ensures.added c.in_ok-add.ensures.unchanged
