@@ -24,6 +24,12 @@ unprinted text kept after sink is =
     subst (λ bytes. HandsOn text (record { sink = sink; kept = kept }) (record { sink = sink; kept = bytes }) (Err NoMemory))
     (sym is) (no_memory text (record { sink = sink; kept = kept }))
 
+-- the same, as it is told
+pub unprinted_as : (text kept after : List ℕ) (sink : SinkState) (told : Result (Unit {0}) SinkFault) → told ≡ Err NoMemory → after ≡ kept
+    → HandsOn text (record { sink = sink; kept = kept }) (record { sink = sink; kept = after }) told
+unprinted_as text kept after sink told is same =
+    subst (HandsOn text (record { sink = sink; kept = kept }) (record { sink = sink; kept = after })) (sym is) (unprinted text kept after sink same)
+
 module _ {X : Type 0} (heading : List ℕ) (line : X → List ℕ) (xs : List X) where
   -- the heading and the lines of the first elements
   abbrev pub begun : ℕ → List ℕ

@@ -20,7 +20,7 @@ use tc_model::Entry;
 use tc_term::Name;
 
 /// Hands on the first line.
-#[tactic(auto, using(tc_io::proofs::Flows::no_memory, tc_io::proofs::Flows::kept_first))]
+#[tactic(auto, using(tc_io::proofs::Flows::kept_first))]
 pub fn write_version<K: Sink>(sink: &mut K, kept: &mut Vec<u8>) -> Result<(), SinkFault>
     ensures { HandsOn (version_text Two)
         (flow K.taken K.write_faults K.sure sink.old kept.old.items)
@@ -75,7 +75,7 @@ pub fn write_log<K: Sink>(
 }
 
 /// Hands on the last line, and writes all that is kept.
-#[tactic(auto, using(tc_io::proofs::Flows::no_memory, tc_io::proofs::Flows::kept_first))]
+#[tactic(auto, using(tc_io::proofs::Flows::kept_first))]
 pub fn write_end<K: Sink>(blocked: bool, sink: &mut K, kept: &mut Vec<u8>) -> Result<(), SinkFault>
     ensures hands { HandsOn (end_text blocked)
         (flow K.taken K.write_faults K.sure sink.old kept.old.items)

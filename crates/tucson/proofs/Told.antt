@@ -6,7 +6,7 @@ use Rattle.tc_io.specs.Sinks.{SinkState, appended}
 use Rattle.tc_io.specs.declared.sinks.SinkFault.{SinkFault}
 use Rattle.tc_io.specs.declared.sinks.SinkFault.TheVariants as fault
 use Rattle.tc_io.specs.Flow.{Flow, HandsOn}
-use Rattle.tc_io.proofs.Flows.{appended-nil}
+use Rattle.tc_io.proofs.Flows.{all_handed, appended-nil, front_taken}
 use Rattle.tucson.specs.Ending.{IsFault, Writes}
 use Rattle.tucson.specs.declared.status.Status.{Status}
 use Rattle.tucson.specs.declared.status.Status.TheVariants.{Ended, WriteFault, Refused, Blocked, No, ReadFault, NoMemory, Usage, NetFault}
@@ -42,7 +42,7 @@ module _ (text : List ℕ) (old new : SinkState) (kept_old kept : List ℕ) (res
   told_whole status sure none_left done =
       let whole = from_none text old new kept_old kept result (Ok tt) none done handed in
       writes_whole status text old new sure
-      (sym (appended-nil new.taken) ∙ ap (appended new.taken) (sym none_left) ∙ whole.all ∙ ap (λ t. appended t text) (appended-nil old.taken))
+      (sym (appended-nil new.taken) ∙ ap (appended new.taken) (sym none_left) ∙ all_handed text (with_kept old []) (with_kept new kept) whole ∙ ap (λ t. appended t text) (appended-nil old.taken))
 
   pub told_failed : (status : Status) → result ≡ Err fault.Failed → Writes status text old new WriteFault
   told_failed status failed =
@@ -50,10 +50,10 @@ module _ (text : List ℕ) (old new : SinkState) (kept_old kept : List ℕ) (res
       record {
         rises = amid.counted.failed refl;
         unsure = false_from_ne_true old.sure (λ sure. amid.sure sure refl);
-        taken = amid.front;
+        taken = front_taken text (with_kept old []) (with_kept new kept) (Err fault.Failed) amid;
       }
 
   pub told_memory : (status : Status) → result ≡ Err fault.NoMemory → Writes status text old new NoMemory
   told_memory status lacked =
       let amid = from_none text old new kept_old kept result (Err fault.NoMemory) none lacked handed in
-      amid.front
+      front_taken text (with_kept old []) (with_kept new kept) (Err fault.NoMemory) amid
