@@ -7,7 +7,7 @@ ghost use Rattle.tc_histline.specs.Words.{atom_at, quote_at, template_at, tuple_
 
 use std::alloc::Global;
 use tc_lists::{NoMemory, Seq, behind};
-use tc_read::{name_at, read_canonical, read_quoted};
+use tc_read::{name_at, read_quoted, read_template};
 use tc_term::{Ground, Name, Pattern};
 
 // What is read at the front, and what stands behind it, unless memory runs out.
@@ -17,10 +17,7 @@ pub(crate) type Read<'a, T> = Result<Option<(T, &'a [u8])>, NoMemory>;
 pub(crate) fn template<'a>(alloc: Global, bytes: &'a [u8]) -> Read<'a, Pattern>
     ensures { IfOk result (λ r. seen r ≡ template_at bytes.now) }
 {
-    let Some((template, place)) = read_canonical(alloc, bytes, 0)? else {
-        return Ok(None);
-    };
-    Ok(Some((template, rest_from(bytes, place))))
+    read_template(alloc, bytes)
 }
 
 // The tuple at the front.
@@ -30,9 +27,9 @@ pub(crate) fn tuple<'a>(alloc: Global, bytes: &'a [u8]) -> Read<'a, Ground>
     let Some((template, rest)) = template(alloc, bytes)? else {
         return Ok(None);
     };
-    match Ground::of(template.into_term()) {
-        Ok(tuple) => Ok(Some((tuple, rest))),
-        Err(_) => Ok(None),
+    match Ground::of_pattern(template) {
+        Some(tuple) => Ok(Some((tuple, rest))),
+        None => Ok(None),
     }
 }
 
