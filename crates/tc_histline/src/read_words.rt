@@ -14,6 +14,7 @@ use tc_term::{Ground, Name, Pattern};
 pub(crate) type Read<'a, T> = Result<Option<(T, &'a [u8])>, NoMemory>;
 
 // The template at the front.
+#[inline(always)]
 pub(crate) fn template<'a>(alloc: Global, bytes: &'a [u8]) -> Read<'a, Pattern>
     ensures { IfOk result (λ r. seen r ≡ template_at bytes.now) }
 {
@@ -21,6 +22,7 @@ pub(crate) fn template<'a>(alloc: Global, bytes: &'a [u8]) -> Read<'a, Pattern>
 }
 
 // The tuple at the front.
+#[inline(always)]
 pub(crate) fn tuple<'a>(alloc: Global, bytes: &'a [u8]) -> Read<'a, Ground>
     ensures { IfOk result (λ r. seen r ≡ tuple_at bytes.now) }
 {
@@ -44,6 +46,7 @@ pub(crate) fn quote<'a>(alloc: Global, bytes: &'a [u8]) -> Read<'a, Seq<u8>>
 }
 
 // The template between two words.
+#[inline(always)]
 pub(crate) fn template_in<'a>(
     alloc: Global,
     first: &[u8],
@@ -65,6 +68,7 @@ pub(crate) fn template_in<'a>(
 }
 
 // The tuple between two words.
+#[inline(always)]
 pub(crate) fn tuple_in<'a>(
     alloc: Global,
     first: &[u8],
@@ -86,6 +90,7 @@ pub(crate) fn tuple_in<'a>(
 }
 
 // The name of an atom between two words.
+#[inline(always)]
 pub(crate) fn atom_in<'a>(
     alloc: Global,
     first: &[u8],
@@ -107,6 +112,7 @@ pub(crate) fn atom_in<'a>(
 }
 
 // The text in quotes between two words.
+#[inline(always)]
 pub(crate) fn quote_in<'a>(
     alloc: Global,
     first: &[u8],
@@ -128,6 +134,7 @@ pub(crate) fn quote_in<'a>(
 }
 
 // The tuple behind a word.
+#[inline(always)]
 pub(crate) fn tuple_behind<'a>(alloc: Global, word: &[u8], bytes: &'a [u8]) -> Read<'a, Ground>
     ensures { IfOk result (λ r. seen r ≡ behind (after word.now bytes.now) tuple_at) }
 {
@@ -138,6 +145,7 @@ pub(crate) fn tuple_behind<'a>(alloc: Global, word: &[u8], bytes: &'a [u8]) -> R
 }
 
 // The text in quotes behind a word.
+#[inline(always)]
 pub(crate) fn quote_behind<'a>(alloc: Global, word: &[u8], bytes: &'a [u8]) -> Read<'a, Seq<u8>>
     ensures { IfOk result (λ r. seen r ≡ behind (after word.now bytes.now) quote_at) }
 {
