@@ -9,11 +9,6 @@ use Rattle.tc_lists.specs.Texts.{after}
 use Rattle.tc_lists.proofs.AtFront.{behind-takes, or_else-takes, word_for-takes}
 use Rattle.tc_lists.proofs.Parts.{drop_behind}
 use Rattle.tc_lists.proofs.Prefixes.{append-same}
-use Rattle.tc_term.specs.Ground.{HasTupleCause}
-use Rattle.tc_term.specs.TreeView.{tree_of}
-use Rattle.tc_term.specs.declared.terms.Term.{Term}
-use Rattle.tc_term.specs.declared.tuple.NotTuple.{NotTuple}
-use Rattle.tc_term.specs.declared.tuple.NotTuple.TheVariants.{TooBig, NotGround}
 use Rattle.tc_term.specs.Tree.{Tree, IsTuple, is_ground}
 use Rattle.tc_term.specs.Text.{Alone, atom_text, canonical, is_name, is_nil, name_text, quoted, quoted_byte, text_in, text_of}
 use Rattle.tc_term.specs.Variables.{IsPattern, renumbered}
@@ -23,9 +18,9 @@ use Rattle.tc_read.proofs.AtFront.{Stands, IsStanding, LeavesAtMost, canonical_a
 use Rattle.tc_read.proofs.QuotedFront.{quoted_at-takes, quoted_at-there}
 use Rattle.tc_read.proofs.Taken.{IsNameAt, name_at-took, plain_text, quoted_text}
 use Rattle.tc_read.specs.Written.{IsQuotedAt}
-use Rattle.tc_read.specs.Canonical.{EndsTerm, IsCanonicalAt, IsLongestCanonicalAt}
-use Rattle.tc_read.specs.Front.{Read, canonical_at, name_at, quoted_at}
-use Rattle.tc_histline.specs.Words.{without_room, template_at, if_ground, tuple_at, quote_at, unless_nil, atom_at}
+use Rattle.tc_read.specs.Canonical.{EndsTerm, IsLongestCanonicalAt}
+use Rattle.tc_read.specs.Front.{Read, canonical_at, name_at, quoted_at, without_room}
+use Rattle.tc_histline.specs.Words.{template_at, if_ground, tuple_at, quote_at, unless_nil, atom_at}
 
 -- templates
 
@@ -111,30 +106,7 @@ pub quote_at-found : (bytes text : List ℕ) (place : ℕ) → IsQuotedAt bytes 
 quote_at-found bytes text place at =
     ap quote_at at.stands ∙ (quote_at-again text at.rest ∙ ap (λ r. Some (text, r)) (sym (drop_behind bytes (quoted text) at.rest place at.stands at.place)))
 
-pub template_at-none : (bytes : List ℕ) → ((p : Tree) (place : ℕ) → IsCanonicalAt bytes 0 p place → ⊥) → template_at bytes ≡ None
-template_at-none bytes none = by (template_at bytes) (template_at-takes bytes)
-  where
-    by : (found : Front Tree) → Takes IsPattern canonical bytes found → found ≡ None
-    by None takes = refl
-    by (Some (p, rest)) takes = absurd (none p (length (canonical p)) (record {
-      pattern = takes.0;
-      rest = rest;
-      stands = takes.1;
-      place = omega (arith, ap length takes.1, length-append (canonical p) rest);
-    }))
-
-pub template_at-found : (bytes : List ℕ) (p : Tree) (place : ℕ) → IsLongestCanonicalAt bytes 0 p place → template_at bytes ≡ Some (p, drop place bytes)
-template_at-found bytes p place longest =
-    let at = longest.stands in
-    longest-read bytes p at.rest place longest at.stands at.place
-    ∙ ap (λ r. Some (p, r)) (sym (drop_behind bytes (canonical p) at.rest place at.stands at.place))
-
--- a template that is no tuple has variables
-pub if_ground-none : (t : Term) (why : NotTuple) (rest : List ℕ) → IsPattern (tree_of t) → HasTupleCause t why → if_ground (Some (tree_of t, rest)) ≡ None
-if_ground-none t (TooBig u) rest pattern cause =
-    let fits = pattern.template.fits in absurd (cause.1 (record { nodes = fits.nodes; depth = fits.depth; name_bytes = fits.name_bytes }))
-if_ground-none t (NotGround u) rest pattern cause = ap (λ b. if b then Some (tree_of t, rest) else None) cause.2
-
+-- a tuple is a template without variables
 pub if_ground-some : (t : Tree) (rest : List ℕ) → IsTuple t → if_ground (Some (t, rest)) ≡ Some (t, rest)
 if_ground-some t rest tuple = ap (λ b. if b then Some (t, rest) else None) tuple.ground
 

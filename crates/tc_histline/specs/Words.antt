@@ -4,12 +4,7 @@ use Rattle.tc_lists.specs.AtFront.{Front, behind, or_else, word_for}
 use Rattle.tc_lists.specs.Texts.{after}
 use Rattle.tc_term.specs.Text.{is_nil}
 use Rattle.tc_term.specs.Tree.{Tree, is_ground}
-use Rattle.tc_read.specs.Front.{Read, canonical_at, name_at, quoted_at}
-
--- a term, whatever room is left
-abbrev pub without_room : Read Tree → Front Tree
-without_room None = None
-without_room (Some (t, left, rest)) = Some (t, rest)
+use Rattle.tc_read.specs.Front.{canonical_at, name_at, quoted_at, without_room}
 
 -- a template
 abbrev pub template_at : List ℕ → Front Tree

@@ -7,32 +7,31 @@ ghost use Rattle.tc_histline.specs.Words.{atom_at, quote_at, template_at, tuple_
 
 use std::alloc::Global;
 use tc_lists::{NoMemory, Seq, behind};
-use tc_read::{name_at, read_canonical, read_quoted};
+use tc_read::{name_at, read_quoted, read_template};
 use tc_term::{Ground, Name, Pattern};
 
 // What is read at the front, and what stands behind it, unless memory runs out.
 pub(crate) type Read<'a, T> = Result<Option<(T, &'a [u8])>, NoMemory>;
 
 // The template at the front.
+#[inline(always)]
 pub(crate) fn template<'a>(alloc: Global, bytes: &'a [u8]) -> Read<'a, Pattern>
     ensures { IfOk result (λ r. seen r ≡ template_at bytes.now) }
 {
-    let Some((template, place)) = read_canonical(alloc, bytes, 0)? else {
-        return Ok(None);
-    };
-    Ok(Some((template, rest_from(bytes, place))))
+    read_template(alloc, bytes)
 }
 
 // The tuple at the front.
+#[inline(always)]
 pub(crate) fn tuple<'a>(alloc: Global, bytes: &'a [u8]) -> Read<'a, Ground>
     ensures { IfOk result (λ r. seen r ≡ tuple_at bytes.now) }
 {
     let Some((template, rest)) = template(alloc, bytes)? else {
         return Ok(None);
     };
-    match Ground::of(template.into_term()) {
-        Ok(tuple) => Ok(Some((tuple, rest))),
-        Err(_) => Ok(None),
+    match Ground::of_pattern(template) {
+        Some(tuple) => Ok(Some((tuple, rest))),
+        None => Ok(None),
     }
 }
 
@@ -47,6 +46,7 @@ pub(crate) fn quote<'a>(alloc: Global, bytes: &'a [u8]) -> Read<'a, Seq<u8>>
 }
 
 // The template between two words.
+#[inline(always)]
 pub(crate) fn template_in<'a>(
     alloc: Global,
     first: &[u8],
@@ -68,6 +68,7 @@ pub(crate) fn template_in<'a>(
 }
 
 // The tuple between two words.
+#[inline(always)]
 pub(crate) fn tuple_in<'a>(
     alloc: Global,
     first: &[u8],
@@ -89,6 +90,7 @@ pub(crate) fn tuple_in<'a>(
 }
 
 // The name of an atom between two words.
+#[inline(always)]
 pub(crate) fn atom_in<'a>(
     alloc: Global,
     first: &[u8],
@@ -110,6 +112,7 @@ pub(crate) fn atom_in<'a>(
 }
 
 // The text in quotes between two words.
+#[inline(always)]
 pub(crate) fn quote_in<'a>(
     alloc: Global,
     first: &[u8],
@@ -131,6 +134,7 @@ pub(crate) fn quote_in<'a>(
 }
 
 // The tuple behind a word.
+#[inline(always)]
 pub(crate) fn tuple_behind<'a>(alloc: Global, word: &[u8], bytes: &'a [u8]) -> Read<'a, Ground>
     ensures { IfOk result (λ r. seen r ≡ behind (after word.now bytes.now) tuple_at) }
 {
@@ -141,6 +145,7 @@ pub(crate) fn tuple_behind<'a>(alloc: Global, word: &[u8], bytes: &'a [u8]) -> R
 }
 
 // The text in quotes behind a word.
+#[inline(always)]
 pub(crate) fn quote_behind<'a>(alloc: Global, word: &[u8], bytes: &'a [u8]) -> Read<'a, Seq<u8>>
     ensures { IfOk result (λ r. seen r ≡ behind (after word.now bytes.now) quote_at) }
 {
