@@ -5,6 +5,7 @@ use Rattle.std.specs.Global.{Global}
 use Rattle.std.specs.Option.{is_none}
 use Rattle.std.proofs.lemmas.Bool.{cases_Bool, cases_eq, cases_lt, or_parts, true≢false}
 use Rattle.std.proofs.lemmas.List.{append-nil, length-set, map-set}
+use Rattle.std.proofs.Math.Seq.{map-set_same}
 use Rattle.std.proofs.lemmas.Option.{none-some, same_Some, get_or_from_slice_get, slice_get_read, slice_get_within, slice_get-get_or}
 use Rattle.tc_centre.specs.Centre.{Centre}
 use Rattle.tc_desk.specs.Agreeing.{Agrees, AgreesRow, NamesCentre}
@@ -32,7 +33,7 @@ use Rattle.tc_model.specs.declared.outcomes.Outcome.TheVariants as outcome
 use Rattle.tc_model.specs.declared.outcomes.Reply.{Reply}
 use Rattle.tc_turn.specs.Passes.{PassState}
 use Rattle.tc_site.specs.Desks.{AgentState, IsDesk, WaitsAt, desk_of, is_held}
-use Rattle.tc_site.specs.Settling.{AreNamed, AreSettled, IsSettled, IsSettledRow, PendsAlone, settled_by}
+use Rattle.tc_site.specs.Settling.{AreNamed, AreSettled, AreSettledBelow, IsSettled, IsSettledRow, PendsAlone, settled_by}
 use Rattle.tc_site.specs.Sites.{AllAgree, PendsBehind, core_histories, core_origins}
 use Rattle.tc_site.specs.declared.waiting.WaitingAt.{WaitingAt}
 use Rattle.tc_site.proofs.Sweeps.{Swept, swept-all, swept-step}
@@ -299,6 +300,20 @@ module _ (names : List (List ℕ)) (cores : List Centre) where
     whole = swept.whole;
     each = λ k old new was now. swept-all SettledLog olds (rows_of logs) agent swept past k old new was now;
   }
+
+  -- or none from this one on is, whose log stays
+  pub settled-part : (olds : List (List LogRow)) (logs : List (Vec LogRow Global)) (agent : ℕ) (old new : Vec LogRow Global)
+      → new.items ≡ (get_or logs agent old).items → Swept SettledLog olds (rows_of logs) agent
+      → AreSettledBelow names (core_histories cores) olds (rows_of (set logs agent new))
+  settled-part olds logs agent old new same swept =
+      subst (λ ls. AreSettledBelow names (core_histories cores) olds ls)
+      (sym (map-set_same (λ (v : Vec LogRow Global). v.items) logs agent new old same))
+      (record {
+        agents = agent;
+        whole = swept.whole;
+        first = λ k was now below at there. swept.done k was now below at there;
+        others = λ k was now from at there. same_Some now was (sym there ∙ swept.same k from ∙ at);
+      })
 
 -- what is settled
 module _ (origins : List Origin) (names : List (List ℕ)) (histories : List (List Entry)) (whole : length histories ≡ length names) (agent : ℕ) (old new : List LogRow)

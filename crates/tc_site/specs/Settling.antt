@@ -1,5 +1,5 @@
 -- Logs that are settled: each pending row has the reply that its request has got by now.
-use Rattle.std.specs.Prelude.{◌≡◌, ◌≢◌, ◌+◌, ◌^◌, ◌<◌, ℕ, List, AllPairs, length, Option, Some}
+use Rattle.std.specs.Prelude.{◌≡◌, ◌≢◌, ◌+◌, ◌^◌, ◌<◌, ◌≤◌, ℕ, List, AllPairs, length, Option, Some}
 use Rattle.std.specs.Prelude.{None, slice_get}
 use Rattle.tc_centre.specs.Centre.{Centre}
 use Rattle.tc_desk.specs.Desks.{replied}
@@ -53,3 +53,14 @@ pub record AreSettled (names : List (List ℕ)) (histories : List (List Entry))
   pub whole : length news ≡ length olds
   pub each : (agent : ℕ) (old new : List LogRow) → slice_get olds agent ≡ Some old
       → slice_get news agent ≡ Some new → IsSettled names histories agent old new
+
+-- the logs of the first agents are settled, and each other one is as it was
+pub record AreSettledBelow (names : List (List ℕ)) (histories : List (List Entry))
+    (olds news : List (List LogRow)) : Type 0 where
+  pub agents : ℕ
+  pub whole : length news ≡ length olds
+  pub first : (agent : ℕ) (old new : List LogRow) → agent < agents
+      → slice_get olds agent ≡ Some old → slice_get news agent ≡ Some new
+      → IsSettled names histories agent old new
+  pub others : (agent : ℕ) (old new : List LogRow) → agents ≤ agent
+      → slice_get olds agent ≡ Some old → slice_get news agent ≡ Some new → new ≡ old

@@ -1,8 +1,10 @@
 //! How logs are settled: a pending row gets the reply that its request has got by now.
 ghost use Rattle.std.specs.Prelude.{◌≡◌, ◌<◌, ◌^◌, false, All, length, IfNone, IfSome, OnOk};
+ghost use Rattle.std.specs.Prelude.{OnErr};
 ghost use Rattle.tc_desk.specs.Agreeing.{Agrees};
 ghost use Rattle.tc_desk.specs.Logs.{any_pending, rows_of};
-ghost use Rattle.tc_site.specs.Settling.{AreNamed, AreSettled, IsSettled, PendsAlone};
+ghost use Rattle.tc_site.specs.Settling.{AreNamed, AreSettled, AreSettledBelow};
+ghost use Rattle.tc_site.specs.Settling.{IsSettled, PendsAlone};
 ghost use Rattle.tc_site.specs.Sites.{AllAgree, PendsBehind, core_histories, core_origins};
 
 use crate::judging::place_of;
@@ -16,13 +18,16 @@ use tc_term::Name;
 
 impl Closed {
     /// Gives each pending row the reply that its request has got by now, if it has got one. The
-    /// names are those of the centres. Where memory ends, some rows may have theirs.
+    /// names are those of the centres. Where memory ends, the first agents' rows have theirs.
     pub fn settle(&mut self, alloc: Global, names: &[Name]) -> Result<(), NoMemory>
         requires named { AreNamed names.now self.old.cores.items }
         requires few { length self.old.logs.items < 2 ^ 32 }
         requires agree { AllAgree names.now self.old.cores.items (rows_of self.old.logs.items) }
         requires pend { All PendsBehind (rows_of self.old.logs.items) }
         ensures settled { OnOk result (AreSettled names.now (core_histories self.old.cores.items)
+            (rows_of self.old.logs.items) (rows_of self.new.logs.items)) }
+        ensures part { OnErr result (AreSettledBelow names.now
+            (core_histories self.old.cores.items)
             (rows_of self.old.logs.items) (rows_of self.new.logs.items)) }
         ensures agree { AllAgree names.now self.new.cores.items (rows_of self.new.logs.items) }
         ensures cores { self.new.cores ≡ self.old.cores }
@@ -44,6 +49,8 @@ fn settle_all(
     requires pend { All PendsBehind (rows_of logs.old) }
     ensures settled { OnOk result
         (AreSettled names.now (core_histories cores.now) (rows_of logs.old) (rows_of logs.new)) }
+    ensures part { OnErr result (AreSettledBelow names.now (core_histories cores.now)
+        (rows_of logs.old) (rows_of logs.new)) }
     ensures agree { AllAgree names.now cores.now (rows_of logs.new) }
 {
     for agent in 0..logs.len() {
@@ -66,6 +73,7 @@ fn settle_log(
     requires pends { PendsBehind log.old.items }
     ensures settled { OnOk result
         (IsSettled names.now (core_histories cores.now) agent log.old.items log.new.items) }
+    ensures same { OnErr result (log.new.items ≡ log.old.items) }
     ensures agrees { Agrees (core_origins cores.now) names.now (core_histories cores.now) agent
         log.new.items }
 {

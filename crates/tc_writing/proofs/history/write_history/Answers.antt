@@ -1,10 +1,16 @@
 use Rattle.std.proofs.Common.{◌≡◌, Err, refl, rules}
 use Rattle.std.specs.List.{flat_map}
 use Rattle.tc_histline.specs.Text.{centre_heading, entry_text}
+use Rattle.tc_histtext.specs.Text.{history_text}
 use Rattle.tc_io.proofs.Flows.{amid}
 use Rattle.tc_io.specs.declared.sinks.SinkFault.TheVariants.{NoMemory}
-use Rattle.tc_writing.proofs.Lines.{line-amid, line-handed, printed, unprinted}
+use Rattle.tc_writing.proofs.Lines.{line-amid, line-handed, printed, unprinted, unprinted_as}
 use Rattle.tc_writing.proofs.history.write_history.Goals as goal
+
+pub returns-in_err-print_heading : goal.returns-in_err-print_heading
+returns-in_err-print_heading g c =
+    let told : c.from_residual.result ≡ Err NoMemory = search rules in
+    unprinted_as (history_text c.args.agents.now c.args.centre.now c.args.history.now) _ _ _ _ told c.in_err-print_heading.ensures.same
 
 pub returns-in_err-spill : goal.returns-in_err-spill
 returns-in_err-spill g c =
