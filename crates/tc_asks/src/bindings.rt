@@ -33,7 +33,7 @@ impl Model for Bindings {
 }
 
 impl Bindings {
-    ghost use Rattle.std.specs.Prelude.{◌≡◌, ◌++◌, ◌∷◌, [], ℕ, List, Option};
+    ghost use Rattle.std.specs.Prelude.{◌≡◌, ◌<◌, ◌++◌, ◌∷◌, [], ℕ, List, Option};
     ghost use Rattle.std.specs.Prelude.{Some, IfOk, OnErr, OnOk};
     ghost use Rattle.tc_desk.specs.Asks.{AreValues, with_values};
     ghost use Rattle.tc_term.specs.Equations.{Equation};

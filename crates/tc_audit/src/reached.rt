@@ -1,6 +1,6 @@
 //! What a history has led to: tuples, clauses and requests that wait; and what is known of them
 //! since no request could be answered.
-ghost use Rattle.std.specs.Prelude.{◌≡◌, ◌↔◌, ◌≤◌, [], length, IfOk, IsTrue, OnOk};
+ghost use Rattle.std.specs.Prelude.{◌≡◌, ◌↔◌, ◌≤◌, ◌<◌, [], length, IfOk, IsTrue, OnOk};
 ghost use Rattle.tc_bag.specs.Stock.{tuples_of};
 ghost use Rattle.tc_model.specs.State.{IsQuiescent, opening};
 ghost use Rattle.tc_audit.specs.Beginnings.{origin_in};

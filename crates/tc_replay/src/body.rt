@@ -1,5 +1,6 @@
 //! The body of a reaction, beside the item that is recorded of it.
-ghost use Rattle.std.specs.Prelude.{◌≡◌, ◌≤◌, ◌+◌, ◌↔◌, ◌∷◌, [], false, IfOk, OnOk, OnErr, IsTrue};
+ghost use Rattle.std.specs.Prelude.{◌≡◌, ◌≤◌, ◌<◌, ◌+◌, ◌↔◌, ◌∷◌, [], false, IfOk, OnOk, OnErr};
+ghost use Rattle.std.specs.Prelude.{IsTrue};
 ghost use Rattle.tc_term.specs.Equations.{Solvable};
 ghost use Rattle.tc_term.specs.Variables.{raised, var_bound};
 ghost use Rattle.tc_unify.specs.Met.{met};

@@ -1,6 +1,6 @@
 //! One item of a cascade: the triggered reaction that it tells, tried.
-ghost use Rattle.std.specs.Prelude.{◌≡◌, ◌≤◌, ◌+◌, ◌∷◌, [], false, map, IfOk, IfSome, IfNone};
-ghost use Rattle.std.specs.Prelude.{OnOk, IsTrue};
+ghost use Rattle.std.specs.Prelude.{◌≡◌, ◌≤◌, ◌<◌, ◌+◌, ◌∷◌, [], false, map, IfOk, IfSome};
+ghost use Rattle.std.specs.Prelude.{IfNone, OnOk, IsTrue};
 ghost use Rattle.tc_model.specs.Cascades.{IsTried, Wave};
 ghost use Rattle.tc_model.specs.Choices.{AnyOne};
 ghost use Rattle.tc_model.specs.Events.{event_of};

@@ -1,5 +1,5 @@
 //! Lists of requests that are hard to search.
-ghost use Rattle.std.specs.Prelude.{All, IsTrue};
+ghost use Rattle.std.specs.Prelude.{◌≡◌, ◌<◌, All, IsTrue};
 ghost use Rattle.tc_model.specs.State.{WantsTuple};
 
 use crate::fault::Fault;

@@ -1,4 +1,6 @@
 //! Terms, and bags and keys of them.
+ghost use Rattle.std.specs.Prelude.{◌≡◌, ◌<◌};
+
 use crate::fault::Fault;
 use std::alloc::Global;
 use std::marker::Brand;

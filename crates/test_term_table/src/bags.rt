@@ -9,6 +9,8 @@
 //! | `oldest(T)` | tells the age of the oldest tuple that the template matches |
 //! | `next(T,N)` | tells the age of the oldest tuple of the template's key, from age N on |
 //! | `next(T,U,N)` | the same of those whose first argument is U |
+ghost use Rattle.std.specs.Prelude.{◌≡◌, ◌<◌};
+
 use crate::answers::{append_term, append_truth};
 use crate::terms::{template_of, tuple_of};
 use anyhow::anyhow;
