@@ -56,6 +56,24 @@ pub fn is_done<L: Ledger>(
     ensures room { bag.new.next ≤ bag.old.next + 1 }
 {
     let mut steps = Steps::<L>::none(blank);
+    acts(alloc, act, bag, &mut steps)
+}
+
+// The same, counted.
+fn acts<L: Ledger>(
+    alloc: Global,
+    act: &Act,
+    bag: &mut Bag,
+    steps: &mut Steps<L>,
+) -> Result<bool, NoMemory>
+    requires { bag.old.next < u64.MAX }
+    ensures exact { IfOk result (λ y. IsTrue y ↔ CanAct act.now (tuples_of bag.old.now)) }
+    ensures tuples { IfOk result (λ y. IsTrue y
+        → tuples_of bag.new.now ≡ after_act act.now (tuples_of bag.old.now)) }
+    ensures saved { bag.new.saved ≡ bag.old.saved }
+    ensures adds { AddsYounger bag.old bag.new }
+    ensures room { bag.new.next ≤ bag.old.next + 1 }
+{
     match act {
         Act::Put(tuple) => {
             bag.add(tuple.copy(alloc)?)?;
@@ -63,17 +81,17 @@ pub fn is_done<L: Ledger>(
         }
         Act::Ask(_) => Ok(true),
         Act::Take(template, tuple) => {
-            let Some(age) = chosen(template, tuple, bag, &mut steps) else {
+            let Some(age) = chosen(template, tuple, bag, steps) else {
                 return Ok(false);
             };
             bag.take(age);
             Ok(true)
         }
         Act::Read(template, tuple) | Act::Refute(template, tuple) => {
-            Ok(chosen(template, tuple, bag, &mut steps).is_some())
+            Ok(chosen(template, tuple, bag, steps).is_some())
         }
-        Act::Miss(template) => Ok(is_missed(template, bag, &mut steps)),
-        Act::Confirm(template) => Ok(is_missed(template, bag, &mut steps)),
+        Act::Miss(template) => Ok(is_missed(template, bag, steps)),
+        Act::Confirm(template) => Ok(is_missed(template, bag, steps)),
     }
 }
 

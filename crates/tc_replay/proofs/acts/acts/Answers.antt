@@ -1,7 +1,7 @@
 use Rattle.std.proofs.Common.{Contains, ap, subst, arith}
 use Rattle.tc_bag.specs.Stock.{Stock}
 use Rattle.tc_bag.proofs.Additions.{without-none}
-use Rattle.tc_replay.proofs.acts.is_done.Goals as goal
+use Rattle.tc_replay.proofs.acts.acts.Goals as goal
 
 pub returns-in-Some-clause-adds : goal.returns-in-Some-clause-adds
 returns-in-Some-clause-adds g c = record {
