@@ -1,4 +1,4 @@
-use Rattle.std.proofs.Common.{◌≡◌, ◌<◌, ◌++◌, ◌∷◌, [], ℕ, ap, sym, subst, length, ◌∙◌, arith}
+use Rattle.std.proofs.Common.{◌≡◌, ◌<◌, ◌++◌, ◌∷◌, [], ℕ, ap, sym, subst, length, append-nil, ◌∙◌, arith}
 use Rattle.std.specs.List.{All, remove}
 use Rattle.tc_pending.specs.Waiting.{Waiting}
 use Rattle.std.proofs.lemmas.List.Edits.{length-remove}
@@ -58,3 +58,14 @@ returns-clause-typed g c all =
     typed-push c.answer.new.held.history.items c.push.new.self.items (Gave c.in_ok-id.id c.in_ok-id.outcome c.in_ok-id.items)
     c.in_ok-push.ensures.items tt
     (subst (All IsTypedCall) (sym c.answer.ensures.keeps.history) all)
+
+pub returns-in_err-push-clause-keeps : goal.returns-in_err-push-clause-keeps
+returns-in_err-push-clause-keeps g c = record {
+  founding = c.answer.ensures.keeps.founding;
+  bag = c.answer.ensures.keeps.bag;
+  pending = ap (λ (w : Waiting). w.saved) c.remove.ensures ∙ c.answer.ensures.keeps.pending;
+  longer = record {
+    more = [];
+    history = c.in_err-push.ensures.items ∙ c.answer.ensures.keeps.history ∙ sym (append-nil c.args.held.now.history.items);
+  };
+}

@@ -12,8 +12,8 @@ returns-in-Some-clause-answer g c =
     (c.len-before.ensures ∙ c.args.held.now.history.ok.0)
     ∙ sym c.in_ok-reply.ensures ∙ c.in-Some.is
 
-pub returns-in-None-clause-answer : goal.returns-in-None-clause-answer
-returns-in-None-clause-answer g c =
+pub returns-clause-answer : goal.returns-clause-answer
+returns-clause-answer g c =
     new-reply c.args.held.now.history.items c.call.new.held.history.items c.answer_all.new.held.history.items c.deref.result.now
     c.args.id (op_of c.args.op) c.len-before.result c.requires.may.next.number
     c.in_ok-call.ensures.called c.in_ok-answer_all.ensures.answers c.deref.ensures.value
