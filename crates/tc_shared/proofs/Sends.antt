@@ -15,6 +15,9 @@ use Rattle.tc_bag.proofs.slots.Mark.TheSendSync as bagmark
 use Rattle.tc_bag.specs.contracts.slots.Place.{the_row as place, the_field as place_field}
 use Rattle.tc_bag.specs.contracts.places.Places.{the_row as places}
 use Rattle.tc_bag.specs.contracts.rows.Rows.{the_row as rows}
+use Rattle.tc_bag.specs.contracts.held.Held.{the_row as held}
+use Rattle.slab.proofs.Slab.TheSendSync as slab
+use Rattle.slab.proofs.Entry.TheSendSync as slabentry
 use Rattle.tc_bag.specs.contracts.bag.Bag.{the_row as bag}
 use Rattle.tc_unify.proofs.links.Links.TheSendSync as links
 use Rattle.tc_unify.proofs.nodes.Arena.TheSendSync as arena
@@ -118,14 +121,17 @@ place_send = search (sendable, crosses, ground_send) depth 60
 pub place_field_send : IsSend place_field.row
 place_field_send = search (sendable, crosses, ground_send) depth 60
 
-pub places_send : IsSend places
-places_send = search (sendable, crosses, place_send, place_field_send, global.the_send, galloc.the_frees) depth 60
-
 pub rows_send : IsSend rows
-rows_send = search (sendable, crosses, places_send, bagindex.the_send, bagindex.the_field_send) depth 60
+rows_send = search (sendable, crosses, ground_send, slab.the_send, slabentry.the_send, slabentry.the_field_send, global.the_send, galloc.the_frees) depth 60
+
+pub places_send : IsSend places
+places_send = search (sendable, crosses, place_send, place_field_send, rows_send, global.the_send, galloc.the_frees) depth 60
+
+pub held_send : IsSend held
+held_send = search (sendable, crosses, places_send, bagindex.the_send, bagindex.the_field_send) depth 60
 
 pub bag_send : IsSend bag
-bag_send = search (sendable, crosses, rows_send, bagmark.the_field_send) depth 60
+bag_send = search (sendable, crosses, held_send, bagmark.the_field_send) depth 60
 
 ruleset of_heaps = (of_terms, args_send, term_send, term_field_send, global.the_send, galloc.the_frees)
 
