@@ -13,6 +13,7 @@ pub struct Budget {
 
 impl Budget {
     /// What a whole template may take.
+    #[inline(always)]
     pub fn whole() -> Budget
         ensures { result ≡ whole }
     {
@@ -23,6 +24,7 @@ impl Budget {
     }
 
     /// What is left behind a node whose name has so many bytes, if there is room for it.
+    #[inline(always)]
     pub fn paid(self, size: usize) -> Option<Budget>
         ensures { result ≡ paid size self }
     {
@@ -39,6 +41,7 @@ impl Budget {
     }
 
     /// What is left behind a variable of this number, if it has come before or is the next.
+    #[inline(always)]
     pub fn numbered(self, number: usize) -> Option<Budget>
         ensures { result ≡ numbered number self }
     {

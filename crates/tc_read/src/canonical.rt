@@ -27,6 +27,7 @@ use tc_term::{Args, MOST_DEPTH, Name, NotPattern, Pattern, Term};
 type Read<'a, T> = Result<Front<'a, T>, NoMemory>;
 
 /// Whether a compound of this name and these arguments is a list cell.
+#[inline(always)]
 fn is_cell(name: &Name, args: &Args) -> bool
     ensures { result ≡ is_cell name.now args.now }
 {
@@ -34,6 +35,7 @@ fn is_cell(name: &Name, args: &Args) -> bool
 }
 
 /// Whether the term is no list.
+#[inline(always)]
 fn is_barred(term: &Term) -> bool
     ensures { result ≡ is_barred (tree_of term.now) }
 {
@@ -134,6 +136,7 @@ fn element<'a>(alloc: Global, depth: usize, budget: Budget, bytes: &'a [u8]) -> 
 }
 
 /// The list of this element and this tail.
+#[inline(always)]
 fn cell(alloc: Global, first: Term, last: Term) -> Result<Term, NoMemory>
     ensures { IfOk result (λ r. tree_of r
         ≡ Compound (codes ".") (More (tree_of first) (Last (tree_of last)))) }
@@ -220,6 +223,7 @@ fn behind<'a>(alloc: Global, depth: usize, budget: Budget, bytes: &'a [u8]) -> R
 }
 
 /// The name at the front as an atom.
+#[inline(always)]
 fn head<'a>(alloc: Global, bytes: &'a [u8]) -> Read<'a, Term>
     ensures { IfOk result (λ r. term_seen r ≡ head (name_at most_name_bytes bytes.now)) }
 {
@@ -230,6 +234,7 @@ fn head<'a>(alloc: Global, bytes: &'a [u8]) -> Read<'a, Term>
 }
 
 /// The template at the front, as a term, with what stands behind it.
+#[inline(always)]
 fn at_front<'a>(alloc: Global, bytes: &'a [u8]) -> Read<'a, Term>
     ensures { IfOk result (λ r. term_seen r ≡ canonical_at bytes.now) }
 {
@@ -270,6 +275,7 @@ pub fn read_canonical(
 /// The same at the front: the template and what stands behind it.
 ///
 /// What is read is known to be a template, with so many variables, and isn't walked again.
+#[inline(always)]
 pub fn read_template<'a>(
     alloc: Global,
     bytes: &'a [u8],

@@ -5,6 +5,7 @@ ghost use Rattle.tc_term.specs.Layouts.{ClosesBlock, Layout, NoPiece, Piece, ToB
 ghost use Rattle.tc_term.specs.Layouts.{ToLineEnd, is_blank};
 
 /// The first byte and the others.
+#[inline(always)]
 pub fn next_byte(text: &[u8]) -> Option<(u8, &[u8])>
     ensures { MatchOption result (text.now ≡ []) (λ r. text.now ≡ r.0 ∷ r.1.now) }
 {

@@ -15,6 +15,7 @@ use tc_term::{Name, Term};
 pub type Front<'a, T> = Option<(T, Budget, &'a [u8])>;
 
 /// A term without arguments, where there is room for it.
+#[inline(always)]
 fn leaf<'a>(left: Option<Budget>, term: Term, rest: &'a [u8]) -> Front<'a, Term>
     ensures { term_seen result ≡ leaf left (tree_of term) rest.now }
 {
@@ -25,6 +26,7 @@ fn leaf<'a>(left: Option<Budget>, term: Term, rest: &'a [u8]) -> Front<'a, Term>
 }
 
 /// What is left behind a variable of this number.
+#[inline(always)]
 fn behind_variable(budget: Budget, number: usize) -> Option<Budget>
     ensures { result ≡ then_in (numbered number budget) (paid 0) }
 {
@@ -32,6 +34,7 @@ fn behind_variable(budget: Budget, number: usize) -> Option<Budget>
 }
 
 /// The variable whose number stands at the front.
+#[inline(always)]
 pub fn variable<'a>(budget: Budget, bytes: &'a [u8]) -> Front<'a, Term>
     ensures { term_seen result ≡ variable budget (number_at 255 bytes.now) }
 {
@@ -41,6 +44,7 @@ pub fn variable<'a>(budget: Budget, bytes: &'a [u8]) -> Front<'a, Term>
 }
 
 /// The number at the front.
+#[inline(always)]
 pub fn number<'a>(budget: Budget, bytes: &'a [u8]) -> Front<'a, Term>
     ensures { term_seen result ≡ number budget (integer_at bytes.now) }
 {
@@ -49,6 +53,7 @@ pub fn number<'a>(budget: Budget, bytes: &'a [u8]) -> Front<'a, Term>
 }
 
 /// The empty list, whose last byte stands before the rest.
+#[inline(always)]
 pub fn nil<'a>(alloc: Global, budget: Budget, rest: &'a [u8]) -> Result<Front<'a, Term>, NoMemory>
     ensures { IfOk result (λ r. term_seen r ≡ nil budget rest.now) }
 {
@@ -56,6 +61,7 @@ pub fn nil<'a>(alloc: Global, budget: Budget, rest: &'a [u8]) -> Result<Front<'a
 }
 
 /// The atom of this name, unless it is the empty list.
+#[inline(always)]
 pub fn atom<'a>(name: Name, budget: Budget, rest: &'a [u8]) -> Front<'a, Term>
     ensures { term_seen result ≡ atom name budget rest.now }
 {

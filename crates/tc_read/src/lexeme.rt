@@ -55,6 +55,7 @@ pub fn punctuation(byte: u8) -> Option<Mark>
 }
 
 /// How many word bytes stand at the front.
+#[inline(always)]
 pub fn word_length(text: &[u8]) -> usize
     ensures length { result ≡ prefix_len is_word text.now }
     ensures within { result ≤ length text.now }

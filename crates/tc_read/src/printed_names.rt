@@ -32,6 +32,7 @@ fn quoted_name<'a>(alloc: Global, bytes: &'a [u8]) -> ReadName<'a>
 ///
 /// A plain one has at most so many bytes; one in quotes is any that can't be written plainly. `[]` is
 /// none.
+#[inline(always)]
 pub fn name_at<'a>(alloc: Global, bytes: &'a [u8], limit: usize) -> ReadName<'a>
     ensures { IfOk result (λ r. seen r ≡ name_at limit bytes.now) }
 {

@@ -95,6 +95,7 @@ pub fn read_term(alloc: Global, text: &[u8]) -> Result<Pattern, ReadFault>
 }
 
 /// The text from this place on.
+#[inline(always)]
 pub fn rest_from(text: &[u8], from: usize) -> &[u8]
     requires { from ≤ length text.now }
     ensures { result.now ≡ drop from text.now }

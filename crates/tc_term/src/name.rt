@@ -46,6 +46,7 @@ impl Model for Name {
 
 impl Name {
     /// The name of these bytes, which are copied. Up to 14 take no memory.
+    #[inline(always)]
     pub fn new(alloc: Global, bytes: &[u8]) -> Result<Name, NoMemory>
         ensures { IfOk result (λ name. name ≡ bytes.now) }
     {
@@ -67,6 +68,7 @@ impl Name {
     }
 
     // The name of so few bytes.
+    #[inline(always)]
     fn short(bytes: &[u8]) -> Name
         requires { length bytes.now ≤ 14 }
         ensures { result ≡ bytes.now }

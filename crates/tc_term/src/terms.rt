@@ -113,6 +113,7 @@ impl Args {
     }
 
     /// This one argument.
+    #[inline(always)]
     pub fn one(alloc: Global, x: Term) -> Result<Args, NoMemory>
         ensures { IfOk result (λ args. args ≡ trees_of (x ∷ [])) }
     {
@@ -121,6 +122,7 @@ impl Args {
     }
 
     /// These two arguments.
+    #[inline(always)]
     pub fn two(alloc: Global, x: Term, y: Term) -> Result<Args, NoMemory>
         ensures { IfOk result (λ args. args ≡ trees_of (x ∷ y ∷ [])) }
     {
