@@ -176,6 +176,7 @@ fn read_oldest<L: Ledger>(
 }
 
 // Adds an effect. With the first, room is made for all that these goals may have.
+#[inline(always)]
 fn record(effects: &mut Vec<Effect>, effect: Effect, goals: &[Goal]) -> Result<(), NoMemory>
     ensures recorded { OnOk result (effects.new.items ≡ effects.old.items ++ effect ∷ []) }
     ensures same { OnErr result (effects.new.items ≡ effects.old.items) }
