@@ -17,11 +17,16 @@
 //! ```
 //!
 //! beside `flag.store(1, SeqCst); bell.ring();` in another thread.
+//!
+//! A roll is for who doesn't sleep, but goes round among many: it says for whom something may have
+//! happened, so that nobody else has to be asked.
 #![tactic(auto)]
 
 mod bell;
 mod bells;
+mod roll;
 
 pub use bell::Bell;
 pub use bells::Bells;
+pub use roll::Roll;
 pub use tc_lists::NoMemory;

@@ -14,5 +14,5 @@ mod actor;
 mod crowd;
 
 pub use actor::{Actor, Step};
-pub use crowd::drive;
+pub use crowd::{drive, drive_called};
 pub use tc_lists::NoMemory;
