@@ -176,13 +176,13 @@ module _ {D B : Type 0} (state : D → DeskState) (bond : D → B) (is_sound : D
       let within : i ≤ length now = let long = ap length s.is ∙ length-append s.after s.rest in omega (arith, long, s.long) in
       swept-all names old now (length now) moved (swept-skip names old now i (length now) moved same s within (omega arith)) (omega arith)
 
-module _ {D B : Type 0} (state : D → DeskState) (bond : D → B) (is_sound : D → Type 0) where
-  -- a step moves at most once
-  pub moves-few : (h : Step) → moves_of h ≤ 1
-  moves-few step.Moved = omega arith
-  moves-few step.Blocked = omega arith
-  moves-few step.Ended = omega arith
+-- a step moves at most once
+pub moves-few : (h : Step) → moves_of h ≤ 1
+moves-few step.Moved = omega arith
+moves-few step.Blocked = omega arith
+moves-few step.Ended = omega arith
 
+module _ {D B : Type 0} (state : D → DeskState) (bond : D → B) (is_sound : D → Type 0) where
   -- how often an agent may still move, once it has made a step
   pub step-left : (h : Step) (c e : Client D) → left_of state e ≤ left_of state c → (h ≡ step.Moved → left_of state e < left_of state c)
       → left_of state e + moves_of h ≤ left_of state c

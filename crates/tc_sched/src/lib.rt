@@ -8,6 +8,8 @@
 //! drive(rt, &mut actors, alloc, &names, 4, &NoGate)?;
 //! // every actor has ended, or its last row is pending
 //! ```
+//!
+//! `drive_called` does the same and is told by a roll whose looks are worth a turn.
 #![tactic(auto)]
 
 mod actor;
