@@ -22,7 +22,7 @@ has-pending log row is =
     any_passes_from_place (λ (r : LogRow). is_pending r.result) log is.stands.0 row at (ap is_pending is.pending)
 
 -- where a look found the row still pending, it is
-pub pub still-pending : (d e : DeskState) → Looks d seen.StillPending e → any_pending e.log ≡ true
+pub still-pending : (d e : DeskState) → Looks d seen.StillPending e → any_pending e.log ≡ true
 still-pending d e looks = ap any_pending looks.0 ∙ has-pending d.log looks.2.row looks.2.is
 
 module _ {D B : Type 0} (state : D → DeskState) (bond : D → B) (is_sound : D → Type 0) where

@@ -211,11 +211,7 @@ fn step_called<R: Wait, D: Desk, G: Gate>(
 }
 
 // The place of the first actor from `place` on that is called. Without a roll each is.
-fn next_called<D: Desk>(
-    actors: &[Actor<D>],
-    roll: Option<&Roll>,
-    place: usize,
-) -> Option<usize>
+fn next_called<D: Desk>(actors: &[Actor<D>], roll: Option<&Roll>, place: usize) -> Option<usize>
     ensures { IfSome result (λ called. (place ≤ called) × (called < length actors.now)) }
 {
     let first = actors.get(place)?.agent() as usize;

@@ -41,7 +41,15 @@ pub(crate) fn drive_all<R: Threads + Wait + Sync, G: Gate + Sync>(
         AreLeft ⟦<Roles as Warden>⟧.permits site.now agents.items r.1.items) }
 {
     let (agents, mut crew) = at_desks(alloc, site, kits, agents)?;
-    drive_called(rt, &mut crew, alloc, names, workers, gate, Some(site.roll()))?;
+    drive_called(
+        rt,
+        &mut crew,
+        alloc,
+        names,
+        workers,
+        gate,
+        Some(site.roll()),
+    )?;
     end_all(alloc, crew, agents)
 }
 
