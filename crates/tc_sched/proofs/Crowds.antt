@@ -1,8 +1,6 @@
 -- Many agents, as they make steps.
-use Rattle.std.proofs.Common.{◌≡◌, ℕ, ◌+◌, ◌-◌, ◌*◌, ◌<◌, ◌≤◌, inl, inr, List, [], ◌∷◌, ◌++◌, true, All, Some, length, get_or, refl, sym, ap, ◌∙◌, subst, arith, length-append, append_assoc, append-nil}
-use Rattle.std.proofs.Math.ListN.{set}
-use Rattle.std.proofs.Math.Seq.{get_or-append_seam, set-append_seam}
-use Rattle.std.proofs.lemmas.List.Elements.{All-nil, All-cons, All-head, All-tail, All-push}
+use Rattle.std.proofs.Common.{◌≡◌, ℕ, ◌+◌, ◌-◌, ◌*◌, ◌<◌, ◌≤◌, List, [], ◌∷◌, ◌++◌, true, All, Some, length, get_or, refl, sym, ap, ◌∙◌, subst, arith}
+use Rattle.std.proofs.lemmas.List.Elements.{All-nil, All-cons, All-head, All-tail}
 use Rattle.std.proofs.lemmas.List.Sums.{sum_by-append}
 use Rattle.std.proofs.lemmas.Map.Keys.{any_passes_from_place}
 use Rattle.std.proofs.lemmas.Option.{slice_get-get_or}
@@ -11,9 +9,7 @@ use Rattle.tc_desk.specs.Logs.{any_pending, is_pending}
 use Rattle.tc_desk.specs.declared.desks.Seen.TheVariants as seen
 use Rattle.tc_desk.specs.declared.rows.LogRow.{LogRow}
 use Rattle.tc_sched.specs.Clients.{Client}
-use Rattle.tc_sched.specs.Steps.{AllWent, ArePlaced, HasEnded, IsReady, Moves, Rests, Settles, Steps, Went, left_in, left_of, moves_of}
-use Rattle.tc_sched.specs.declared.actor.Step.{Step}
-use Rattle.tc_sched.specs.declared.actor.Step.TheVariants as step
+use Rattle.tc_sched.specs.Steps.{AllWent, ArePlaced, IsReady, Moves, Settles, Went, left_in, left_of}
 
 -- a log with a pending row
 pub has-pending : (log : List LogRow) (row : LogRow) → IsPendingRow log row → any_pending log ≡ true

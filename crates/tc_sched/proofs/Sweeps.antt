@@ -9,10 +9,10 @@ use Rattle.std.proofs.lemmas.List.Elements.{All-cons, All-drop, All-head, All-ni
 use Rattle.tc_desk.specs.Desks.{DeskState}
 use Rattle.tc_desk.specs.Logs.{any_pending}
 use Rattle.tc_sched.specs.Clients.{Client}
-use Rattle.tc_sched.specs.Steps.{HasEnded, IsReady, Rests, Stays, Steps, Waits, Went, left_in, left_of, moves_of, turns_of}
+use Rattle.tc_sched.specs.Steps.{IsReady, Rests, Stays, Waits, Went, left_in, left_of, moves_of, turns_of}
 use Rattle.tc_sched.specs.declared.actor.Step.{Step}
 use Rattle.tc_sched.specs.declared.actor.Step.TheVariants as step
-use Rattle.tc_sched.proofs.Crowds.{left-append, left-push, ready-after, ready-less, still-pending, went-more, went-on, went-same}
+use Rattle.tc_sched.proofs.Crowds.{left-append, left-push, ready-after, ready-less, went-more, went-on, went-same}
 
 -- what holds of the items of two lists, place by place
 AllZip-append : {X Y : Type 0} (R : X → Y → Type 0) (xs vs : List X) (ys ws : List Y) → AllZip R xs ys → AllZip R vs ws → AllZip R (xs ++ vs) (ys ++ ws)
@@ -184,24 +184,6 @@ moves-few step.Blocked = omega arith
 moves-few step.Ended = omega arith
 
 module _ {D B : Type 0} (state : D → DeskState) (bond : D → B) (is_sound : D → Type 0) where
-  -- how often an agent may still move, once it has made a step
-  pub step-left : (h : Step) (c e : Client D) → left_of state e ≤ left_of state c → (h ≡ step.Moved → left_of state e < left_of state c)
-      → left_of state e + moves_of h ≤ left_of state c
-  step-left step.Moved c e le less = let l = less refl in omega (arith, l)
-  step-left step.Blocked c e le less = omega (arith, le)
-  step-left step.Ended c e le less = omega (arith, le)
-
-  -- an agent that didn't move is as it was, or waits; and it has ended, or waits
-  pub step-stays : (h : Step) (c e : Client D) → Steps state c h e → moves_of h ≡ 0 → Stays state c e
-  step-stays step.Moved c e st none = absurd (omega (arith, none))
-  step-stays step.Blocked c e st none = inr (still-pending (state c.desk) (state e.desk) st)
-  step-stays step.Ended c e st none = inl st.1
-
-  pub step-rests : (h : Step) (c e : Client D) → Steps state c h e → moves_of h ≡ 0 → Rests state e
-  step-rests step.Moved c e st none = absurd (omega (arith, none))
-  step-rests step.Blocked c e st none = inr (still-pending (state c.desk) (state e.desk) st)
-  step-rests step.Ended c e st none = inl (subst (HasEnded state) (sym st.1) st.0)
-
   -- where all rest, they do so whatever they were
   pub all-rest : (cs es : List (Client D)) → AllZip (λ (c e : Client D). Rests state e) cs es → All (Rests state) es
   all-rest cs es zip = AllZip-right (Rests state) cs es zip
@@ -209,16 +191,9 @@ module _ {D B : Type 0} (state : D → DeskState) (bond : D → B) (is_sound : D
   pub waits-turns : (c : Client D) → Waits state c → turns_of state c ≡ 0
   waits-turns c waits = ap (λ (b : Bool). if b then 0 else 1) waits
 
-  pub idle-turns : (c : Client D) → any_pending (state c.desk).log ≡ false → turns_of state c ≡ 1
-  idle-turns c idle = ap (λ (b : Bool). if b then 0 else 1) idle
-
   few-turns : (b : Bool) → (if b then 0 else 1) ≤ 1
   few-turns true = omega arith
   few-turns false = omega arith
-
-  -- an agent that waits makes no step
-  pub waits-went : (names : List (List ℕ)) (c : Client D) → IsReady state (turns_of state c) names c → Went state bond is_sound (turns_of state c) c c
-  waits-went names c r = went-same state bond is_sound (turns_of state c) (turns_of state c) names c r
 
   -- an agent that didn't move in the first pass can go on in the second
   second-ready : (names : List (List ℕ)) (c d : Client D) → IsReady state 1 names c → Went state bond is_sound 1 c d → Stays state c d

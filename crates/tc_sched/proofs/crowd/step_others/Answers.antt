@@ -1,4 +1,4 @@
-use Rattle.std.proofs.Common.{◌≡◌, ◌≤◌, ◌+◌, ℕ, sym, arith, subst}
+use Rattle.std.proofs.Common.{◌≤◌, ◌+◌, ℕ, sym, arith, subst}
 use Rattle.std.proofs.Math.ListN.{set}
 use Rattle.tc_sched.specs.Clients.{Client}
 use Rattle.tc_sched.specs.Steps.{IsReady, Rests, Went, left_of, moves_of, turns_of}
