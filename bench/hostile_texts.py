@@ -1,4 +1,7 @@
-"""Texts for `verify` and `audit` that are made to be slow or large, as verify.py measures them."""
+"""Texts for `verify` and `audit` that are made to be slow or large, as verify.py measures them.
+
+Most have no rows: an audit goes through all histories, and then tells the first entry without a row.
+"""
 import dataclasses
 
 from hostile import scripts, small, times
@@ -162,7 +165,7 @@ class Hostile:
     """Inputs of one kind; `lines` makes the one of a share, and `told` begins what is said of it."""
     name: str
     lines: object
-    told: str = "yes"
+    told: str = "no agent a0 1"
     word: str = "audit"
 
 

@@ -251,6 +251,7 @@ impl Bag {
     }
 
     /// Puts a tuple behind the others, with the next age. Where memory ends it is handed back.
+    #[inline(always)]
     pub fn put(&mut self, tuple: Ground) -> Result<(), PutFault>
         requires { self.old.next < u64.MAX }
         ensures put { OnOk result (self.new ≡ with_tuple self.old tuple) }
@@ -298,6 +299,7 @@ impl Bag {
 
     /// Sets a mark. It takes memory for two numbers, however many tuples there are; only after an
     /// `undo` for which memory ended also for the index, and then the time of all tuples.
+    #[inline(always)]
     pub fn mark(&mut self) -> Result<(), NoMemory>
         ensures marked { OnOk result (self.new ≡ marked self.old) }
         ensures same { OnErr result (self.new ≡ self.old) }
@@ -330,6 +332,7 @@ impl Bag {
     ///
     /// Takes O(log tuples) time for each tuple that was taken since, where it is the only mark, and
     /// else no time.
+    #[inline(always)]
     pub fn keep(&mut self)
         ensures rows { self.new.now ≡ self.old.now }
         ensures next { self.new.next ≡ self.old.next }

@@ -17,6 +17,7 @@ pub(crate) struct Codes {
 }
 
 /// The codes of a tuple.
+#[inline(always)]
 pub(crate) fn codes_of(t: &Term) -> Codes
     ensures { result ≡ codes_of (tree_of t.now) }
 {

@@ -23,6 +23,7 @@ impl Key {
     ghost use Rattle.tc_bag.specs.Keys.{key_of, IsOfKey};
 
     /// The key of a term.
+    #[inline(always)]
     pub fn of(alloc: Global, t: &Term) -> Result<Key, NoMemory>
         requires { Fits (tree_of t.now) }
         ensures { IfOk result (λ key. key ≡ key_of (tree_of t.now)) }
@@ -70,6 +71,7 @@ impl<'n> Lent<'n> {
     ghost use Rattle.tc_bag.specs.Keys.{key_of, IsOfKey};
 
     /// The key of a term.
+    #[inline(always)]
     pub(crate) fn of(t: &'n Term) -> Lent<'n>
         requires { Fits (tree_of t.now) }
         ensures { lent_key result ≡ key_of (tree_of t.now) }

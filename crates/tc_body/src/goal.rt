@@ -1,6 +1,6 @@
 //! One goal of a body.
 ghost use Rattle.std.specs.Prelude.{◌≡◌, ◌≤◌, ◌<◌, ◌+◌, ◌*◌, ◌++◌, ◌∷◌, [], length};
-ghost use Rattle.std.specs.Prelude.{IfOk, OnOk, IsTrue, false, All};
+ghost use Rattle.std.specs.Prelude.{IfOk, OnOk, OnErr, IsTrue, false, All};
 ghost use Rattle.tc_term.specs.TreeView.{tree_of};
 ghost use Rattle.tc_term.specs.Variables.{var_bound};
 ghost use Rattle.tc_term.specs.Equations.{Solvable};
@@ -28,7 +28,8 @@ use tc_unify::{Part, Store};
 ///
 /// Where it could, the equations, the tuples and the effects are those after its step, by the
 /// oldest tuple that matches. Where it could not, it has no step by any tuple, the effects are as
-/// before, and the equations and the tuples may have changed: the body has failed.
+/// before, and the equations and the tuples may have changed: the body has failed. Where memory
+/// ends, the effects are as before too.
 ///
 /// With the first effect, room is made for all that the goals from this one on may have.
 pub fn step<L: Ledger>(
@@ -55,6 +56,7 @@ pub fn step<L: Ledger>(
         → IsStuck (scene vars e.now context.now) goal.now
         (moment_of store.old bag.old effects.old.items)) }
     ensures effects { IfOk result (λ y. y ≡ false → effects.new.items ≡ effects.old.items) }
+    ensures effects_kept { OnErr result (effects.new.items ≡ effects.old.items) }
 
     // After each answer:
     ensures vars { store.new.vars ≡ store.old.vars }
@@ -89,6 +91,7 @@ fn put(
         → HasPut store.now (tree_of t.now) bag.old bag.new effects.old.items effects.new.items) }
     ensures none { IfOk result (λ y. y ≡ false → HasNoValue store.now (tree_of t.now)) }
     ensures effects { IfOk result (λ y. y ≡ false → effects.new.items ≡ effects.old.items) }
+    ensures effects_kept { OnErr result (effects.new.items ≡ effects.old.items) }
     ensures saved { bag.new.saved ≡ bag.old.saved }
     ensures adds { AddsYounger bag.old bag.new }
     ensures next { bag.new.next ≤ bag.old.next + 1 }
@@ -97,8 +100,9 @@ fn put(
     let Some(value) = store.value(part)? else {
         return Ok(false);
     };
-    record(effects, Effect::Put(value.copy(alloc)?), on)?;
+    let effect = Effect::Put(value.copy(alloc)?);
     bag.add(value)?;
+    record(effects, effect, on)?;
     Ok(true)
 }
 
@@ -120,6 +124,7 @@ fn take_oldest<L: Ledger>(
     ensures none { IfOk result (λ y. y ≡ false
         → HasNoMatch store.old (tree_of t.now) bag.old) }
     ensures effects { IfOk result (λ y. y ≡ false → effects.new.items ≡ effects.old.items) }
+    ensures effects_kept { OnErr result (effects.new.items ≡ effects.old.items) }
     ensures vars { store.new.vars ≡ store.old.vars }
     ensures solvable { Solvable store.new.vars store.new.pairs }
     ensures saved { bag.new.saved ≡ bag.old.saved }
@@ -155,6 +160,7 @@ fn read_oldest<L: Ledger>(
     ensures none { IfOk result (λ y. y ≡ false
         → HasNoMatch store.old (tree_of t.now) bag.now) }
     ensures effects { IfOk result (λ y. y ≡ false → effects.new.items ≡ effects.old.items) }
+    ensures effects_kept { OnErr result (effects.new.items ≡ effects.old.items) }
     ensures vars { store.new.vars ≡ store.old.vars }
     ensures solvable { Solvable store.new.vars store.new.pairs }
     ensures tried { steps.new
@@ -170,8 +176,10 @@ fn read_oldest<L: Ledger>(
 }
 
 // Adds an effect. With the first, room is made for all that these goals may have.
+#[inline(always)]
 fn record(effects: &mut Vec<Effect>, effect: Effect, goals: &[Goal]) -> Result<(), NoMemory>
-    ensures { OnOk result (effects.new.items ≡ effects.old.items ++ effect ∷ []) }
+    ensures recorded { OnOk result (effects.new.items ≡ effects.old.items ++ effect ∷ []) }
+    ensures same { OnErr result (effects.new.items ≡ effects.old.items) }
 {
     if effects.is_empty() {
         effects.reserve_exact(most_effects(goals))?;

@@ -11,3 +11,4 @@ pub mod TypedStates
 pub mod TypedRuns
 pub mod Removals
 pub mod Written
+pub mod FirstFaults

@@ -1,5 +1,6 @@
 -- Why a centre can't begin so.
-use Rattle.std.specs.Prelude.{◌≢◌, ◌≤◌, ◌<◌, ◌^◌, All, AllPairs, length}
+use Rattle.std.specs.Prelude.{◌≢◌, ◌≤◌, ◌<◌, ◌^◌, List, [], ◌∷◌, All, AllPairs, length}
+use Rattle.tc_lists.specs.Firsts.{IsFirst}
 use Rattle.tc_model.specs.State.{Origin, IsName}
 use Rattle.tc_model.specs.declared.limits.TheConstants.{MOST_BUDGET, MOST_TUPLES}
 use Rattle.tc_model.specs.declared.origins.OriginFault.{OriginFault}
@@ -15,3 +16,11 @@ IsBroken origin AgentName = All IsName origin.agents → ⊥
 IsBroken origin SameNames = AllPairs ◌≢◌ origin.agents → ⊥
 IsBroken origin Budget = 1 ≤ origin.budget → origin.budget ≤ MOST_BUDGET → ⊥
 IsBroken origin TupleCount = length origin.tuples ≤ MOST_TUPLES → ⊥
+
+-- the faults, in the order in which they are told
+abbrev pub ordered_faults : List OriginFault
+ordered_faults = CentreName ∷ AgentCount ∷ AgentName ∷ SameNames ∷ Budget ∷ TupleCount ∷ []
+
+-- the fault is the first in this order whose condition does not hold
+abbrev pub IsFirstBroken : Origin → OriginFault → Type 0
+IsFirstBroken origin fault = IsFirst (IsBroken origin) ordered_faults fault

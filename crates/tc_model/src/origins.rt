@@ -2,7 +2,7 @@
 ghost use Rattle.std.specs.Prelude.{◌≡◌, ◌≢◌, true, false, All, AllPairs, OnOk, IfErr};
 ghost use Rattle.tc_term.specs.Tree.{IsTuple};
 ghost use Rattle.tc_model.specs.State.{IsName, IsOrigin, origin_from};
-ghost use Rattle.tc_model.specs.Origins.{IsBroken};
+ghost use Rattle.tc_model.specs.Origins.{IsFirstBroken};
 
 use crate::limits::{MOST_BUDGET, MOST_NAME_BYTES, MOST_TUPLES};
 use crate::reactions::Clauses;
@@ -29,7 +29,8 @@ pub enum OriginFault {
 /// Whether a centre may begin with these: its name, its agents' names, the budget of its reactions,
 /// its tuples and its clauses.
 ///
-/// No memory is taken. Each two agents' names are compared, and each tuple is gone past.
+/// Where several conditions don't hold, the first is told. No memory is taken. Each two agents'
+/// names are compared, and each tuple is gone past.
 pub fn check_origin(
     name: &Name,
     agents: &[Name],
@@ -40,7 +41,7 @@ pub fn check_origin(
     ensures may { OnOk result
         (IsOrigin (origin_from name.now agents.now budget tuples.now clauses.now)) }
     ensures fault { IfErr result
-        (IsBroken (origin_from name.now agents.now budget tuples.now clauses.now)) }
+        (IsFirstBroken (origin_from name.now agents.now budget tuples.now clauses.now)) }
 {
     if !is_name(name.bytes()) {
         return Err(OriginFault::CentreName);

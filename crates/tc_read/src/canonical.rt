@@ -2,16 +2,16 @@
 //!
 //! The next byte decides what stands there. Only where a whole term doesn't stand at the place may
 //! its name alone, so the reader goes back once at most.
-ghost use Rattle.std.specs.Prelude.{◌≡◌, ◌≤◌, IfNone, IfOk, IfSome, codes, length, ℕ};
+ghost use Rattle.std.specs.Prelude.{◌≡◌, ◌≤◌, [], ◌∷◌, IfNone, IfOk, IfSome, codes, length, ℕ};
 ghost use Rattle.tc_lists.specs.Seen.{seen};
 ghost use Rattle.tc_term.specs.Limits.{most_name_bytes};
 ghost use Rattle.tc_term.specs.Text.{Alone, Behind};
 ghost use Rattle.tc_term.specs.Tree.{Compound, Last, More, Tree};
 ghost use Rattle.tc_term.specs.TreeView.{tree_of};
 ghost use Rattle.tc_read.specs.Canonical.{IsCanonicalAt, IsLongestCanonicalAt};
-ghost use Rattle.tc_read.specs.Front.{arguments, barred, called, canonical_at, element, head};
-ghost use Rattle.tc_read.specs.Front.{is_barred, is_cell, list, name_at, named, node, reads, tail};
-ghost use Rattle.tc_read.specs.Front.{without_room};
+ghost use Rattle.tc_read.specs.Front.{arguments, barred, before, called, canonical_at, element};
+ghost use Rattle.tc_read.specs.Front.{head, is_barred, is_cell, list, name_at, named, node};
+ghost use Rattle.tc_read.specs.Front.{reads, tail, without_room};
 ghost use Rattle.tc_read.specs.Seen.{arguments_seen, term_seen};
 
 use crate::budget::Budget;
@@ -70,17 +70,84 @@ fn called<'a>(
     Ok(Some((Term::Comp(name, args), left, rest)))
 }
 
-/// Arguments, up to and with the closing bracket.
+/// Arguments, up to and with the closing bracket. No vector is made for one or two.
 #[cycle(canonical)]
 fn arguments<'a>(alloc: Global, depth: usize, budget: Budget, bytes: &'a [u8]) -> Read<'a, Args>
     ensures { IfOk result
         (λ r. arguments_seen r
         ≡ arguments (reads depth Alone) budget.room.nodes budget bytes.now) }
 {
-    let mut terms = Vec::new(alloc);
+    let most = budget.room.nodes;
+    if most == 0 {
+        return Ok(None);
+    }
+    let Some((first, left, after)) = alone(alloc, depth, budget, bytes)? else {
+        return Ok(None);
+    };
+    match next_byte(after) {
+        Some((b')', rest)) => Ok(Some((Args::one(alloc, first)?, left, rest))),
+        Some((b',', rest)) => from_second(alloc, depth, most - 1, first, left, rest),
+        _ => Ok(None),
+    }
+}
+
+/// These two terms, with room for as many more.
+fn pair(alloc: Global, first: Term, second: Term) -> Result<Vec<Term>, NoMemory>
+    ensures { IfOk result (λ terms. terms.items ≡ first ∷ second ∷ []) }
+{
+    let mut terms = Vec::with_capacity(alloc, 4)?;
+    terms.push(first)?;
+    terms.push(second)?;
+    Ok(terms)
+}
+
+/// Arguments from the second on, at most so many.
+#[cycle(canonical)]
+fn from_second<'a>(
+    alloc: Global,
+    depth: usize,
+    most: usize,
+    first: Term,
+    budget: Budget,
+    bytes: &'a [u8],
+) -> Read<'a, Args>
+    ensures { IfOk result
+        (λ r. arguments_seen r
+        ≡ before (tree_of first) (arguments (reads depth Alone) most budget bytes.now)) }
+{
+    if most == 0 {
+        return Ok(None);
+    }
+    let Some((second, left, after)) = alone(alloc, depth, budget, bytes)? else {
+        return Ok(None);
+    };
+    match next_byte(after) {
+        Some((b')', rest)) => Ok(Some((Args::two(alloc, first, second)?, left, rest))),
+        Some((b',', rest)) => from_third(alloc, depth, most - 1, first, second, left, rest),
+        _ => Ok(None),
+    }
+}
+
+/// Arguments from the third on, at most so many.
+#[cycle(canonical)]
+fn from_third<'a>(
+    alloc: Global,
+    depth: usize,
+    most: usize,
+    first: Term,
+    second: Term,
+    budget: Budget,
+    bytes: &'a [u8],
+) -> Read<'a, Args>
+    ensures { IfOk result
+        (λ r. arguments_seen r
+        ≡ before (tree_of first) (before (tree_of second)
+        (arguments (reads depth Alone) most budget bytes.now))) }
+{
+    let mut terms = pair(alloc, first, second)?;
     let mut left = budget;
     let mut rest = bytes;
-    for _ in 0..budget.room.nodes {
+    for _ in 0..most {
         let Some((term, budget, after)) = alone(alloc, depth, left, rest)? else {
             return Ok(None);
         };

@@ -94,6 +94,10 @@ pub fn is_stuck<L: Ledger>(
     ensures moves { IfOk result (λ y. y ≡ false → (es : List Effect)
         → IsStuck (scene vars e.now context.now) goal.now
         (moment store.old (tuples_of bag.now.now) es) → ⊥) }
+
+    // After each answer:
+    ensures vars { store.new.vars ≡ store.old.vars }
+    ensures solvable { Solvable store.new.vars store.new.pairs }
 {
     match goal {
         Goal::OutR(t) => has_no_value(t, store),

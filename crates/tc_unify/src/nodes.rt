@@ -62,6 +62,7 @@ pub(crate) struct Spine {
 
 impl Arena {
     /// A node for an atom, whose name is copied where it is not short.
+    #[inline(always)]
     pub(crate) fn push_atom(&mut self, name: &[u8]) -> Result<usize, NoMemory>
         requires { IsArena self.old }
         ensures pushed { IfOk result (λ node. IsHeadFor self.new node (Atomic name.now)) }

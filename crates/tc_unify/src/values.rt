@@ -71,6 +71,7 @@ pub(crate) fn part_value(
 }
 
 // The value of a node, within so many levels and the room, which it takes.
+#[inline(always)]
 fn node_value(
     alloc: Global,
     arena: &Arena,
@@ -116,6 +117,7 @@ fn node_value(
 }
 
 // The atom of this name, or the compound with these arguments.
+#[inline(always)]
 fn with_arguments(alloc: Global, name: Name, arguments: Vec<Term>) -> Result<Term, NoMemory>
     ensures { IfOk result
         (λ t. tree_of t ≡ applied_over tree_of (Atomic name) arguments.items) }
@@ -129,6 +131,7 @@ fn with_arguments(alloc: Global, name: Name, arguments: Vec<Term>) -> Result<Ter
 }
 
 /// The tuple of a ground term of such a size.
+#[inline(always)]
 pub(crate) fn tuple_of(term: Term) -> Ground
     requires ground { IsTrue (is_ground (tree_of term)) }
     requires small { IsWithin (tree_of term) most_depth whole }

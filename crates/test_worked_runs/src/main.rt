@@ -10,6 +10,7 @@
 //! | `%also N ..` | `run --workers N` ends with the same status and text, for each N |
 //! | `%logs N ..` | it ends with the same status and logs, the lines from the first `agent` on |
 //! | `%repeat N TEXT` | here TEXT stands N times, a line each, with its number for each `#` |
+//! | `%bytes BYTES` | here these bytes stand, in which `\n` is an LF, and `\0` a zero byte |
 //! | `%read PIECE N` | a read gives PIECE bytes at most, and the Nth fails |
 //! | `%write PIECE N` | a write takes PIECE bytes at most, and the Nth fails |
 //! | `%link BYTES` | the door's next connection gives these bytes, in which `\n` is an LF |

@@ -101,6 +101,8 @@ impl<'t> Row<'t> {
             self.shown = Part::Logs;
         } else if let Some(repeated) = line.strip_prefix(b"%repeat ") {
             repeat(repeated, &mut self.input)?;
+        } else if let Some(bytes) = line.strip_prefix(b"%bytes ") {
+            append_bytes(bytes, 1, &mut self.input)?;
         } else {
             append_line(line, &mut self.input)?;
         }

@@ -15,5 +15,5 @@ returns-clause-put c = λ _. record {
   value = c.in-Some.value;
   is = value_is c.args.store.now (tree_of c.args.t.now) c.in-Some.value c.in_ok-value.field-0 c.in-Some.is c.in_ok-value.ensures.found;
   put = c.in_ok-add.ensures.put;
-  recorded = rw c.in_ok-copy.ensures at c.in_ok-record.ensures;
+  recorded = rw c.in_ok-copy.ensures at c.in_ok-record.ensures.recorded;
 }

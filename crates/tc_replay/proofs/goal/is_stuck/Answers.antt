@@ -23,13 +23,14 @@ returns-in_ok-is_absent-in-NoR-clause-moves g c =
     (λ is. absent_moves scene None c.args.store.now c.args.bag.now c.requires.width c.requires.solvable c.in-NoR.t
     (c.in_ok-is_absent-in-NoR.ensures.none (not_false c.in_ok-is_absent-in-NoR.field-0 is)))
 
-pub returns-in_ok-succeeds-in_default : goal.returns-in_ok-succeeds-in_default
-returns-in_ok-succeeds-in_default g c =
+pub returns-in_ok-succeeds-in_default-clause-stuck : goal.returns-in_ok-succeeds-in_default-clause-stuck
+returns-in_ok-succeeds-in_default-clause-stuck g c =
+    λ is es move step.
+    c.in_ok-succeeds-in_default.ensures.stuck (not_true c.in_ok-succeeds-in_default.field-0 is) (tuples_of c.args.bag.now.now) es move step
+
+pub returns-in_ok-succeeds-in_default-clause-moves : goal.returns-in_ok-succeeds-in_default-clause-moves
+returns-in_ok-succeeds-in_default-clause-moves g c =
     let scene : Scene = record { vars = c.args.vars; event = c.args.e.now; setting = c.args.context.now } in
-    record {
-      stuck = λ is es move step.
-          c.in_ok-succeeds-in_default.ensures.stuck (not_true c.in_ok-succeeds-in_default.field-0 is) (tuples_of c.args.bag.now.now) es move step;
-      moves = λ is. free_moves scene None c.args.store.now c.args.bag.now c.requires.width c.requires.solvable
-          c.args.goal.now c.succeeds.new.store
-          (c.in_ok-succeeds-in_default.ensures.done (not_false c.in_ok-succeeds-in_default.field-0 is));
-    }
+    λ is. free_moves scene None c.args.store.now c.args.bag.now c.requires.width c.requires.solvable
+    c.args.goal.now c.succeeds.new.store
+    (c.in_ok-succeeds-in_default.ensures.done (not_false c.in_ok-succeeds-in_default.field-0 is))
