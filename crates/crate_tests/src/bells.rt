@@ -5,7 +5,7 @@ use std::sync::atomic::AtomicU64;
 use std::sync::atomic::Ordering::SeqCst;
 use std::test::Fail;
 use std::thread::{Threads, join};
-use tc_bells::{Bell, Bells};
+use tc_bells::{Bell, Bells, Roll};
 
 fn await_flag<R: Wait>(rt: &R, bell: &Bell, flag: &AtomicU64) {
     for _ in rt.forever() {
@@ -80,5 +80,28 @@ fn all_bells_ring(rt: HostRuntime) -> Result<(), Fail> {
         }
     }
     assert_eq!(rt; rung, 3);
+    Ok(())
+}
+
+#[test]
+fn a_roll_is_gone_through_from_call_to_call(rt: HostRuntime) -> Result<(), Fail> {
+    let roll = Roll::new(rt.alloc(), 200)?;
+    assert_eq!(rt; roll.next(0, 200), Some(0));
+    assert_eq!(rt; roll.next(70, 200), Some(70));
+    for number in 0..200 {
+        roll.strike(number);
+    }
+    assert_eq!(rt; roll.next(0, 200), None);
+    roll.call(63);
+    roll.call(64);
+    roll.call(190);
+    roll.call(5000);
+    assert_eq!(rt; roll.next(0, 200), Some(63));
+    assert_eq!(rt; roll.next(64, 200), Some(64));
+    assert_eq!(rt; roll.next(65, 200), Some(190));
+    assert_eq!(rt; roll.next(65, 190), None);
+    assert_eq!(rt; roll.next(191, 200), None);
+    roll.call_all();
+    assert_eq!(rt; roll.next(7, 8), Some(7));
     Ok(())
 }

@@ -24,23 +24,35 @@ use Rattle.tc_lists.proofs.Sets.{slice_get-set_other, slice_get-set_same}
 pub record EndedBelow (n : ℕ) (c : Configuration) (hs : List (List Entry)) (logs : List (List LogRow)) : Type 0 where
   pub each : (k : ℕ) (a : AgentConf) (log : List LogRow) → k < n → slice_get c.agents k ≡ Some a → slice_get logs k ≡ Some log → IsEnded hs k a log
 
--- a sweep up to an agent
-pub record Sweeping (c : Configuration) (start : List (List LogRow)) (n : ℕ) (cores : List Centre) (logs : List (List LogRow))
+-- a sweep up to an agent; it tells who has ended where it goes through all
+pub record Sweeping (Whole : Type 0) (c : Configuration) (start : List (List LogRow)) (n : ℕ) (cores : List Centre) (logs : List (List LogRow))
     (clients : List Client) (moved : Bool) : Type 0 where
   pub goes : Goes c cores logs
   pub are : AreClients c.agents logs clients
   pub most : left_in c.agents logs ≤ left_in c.agents start
   pub less : moved ≡ true → left_in c.agents logs < left_in c.agents start
-  pub ended : moved ≡ false → EndedBelow n c (histories c cores) logs
+  pub ended : Whole → moved ≡ false → EndedBelow n c (histories c cores) logs
 
-pub Sweeping-none : (c : Configuration) (cores : List Centre) (logs : List (List LogRow)) (clients : List Client) → Goes c cores logs
-    → AreClients c.agents logs clients → Sweeping c logs 0 cores logs clients false
-Sweeping-none c cores logs clients goes are = record {
+pub Sweeping-none : (Whole : Type 0) (c : Configuration) (cores : List Centre) (logs : List (List LogRow)) (clients : List Client) → Goes c cores logs
+    → AreClients c.agents logs clients → Sweeping Whole c logs 0 cores logs clients false
+Sweeping-none Whole c cores logs clients goes are = record {
   goes = goes;
   are = are;
   most = omega arith;
   less = λ moved. absurd (cc);
-  ended = λ still. record { each = λ k a log below. absurd (omega (arith, below)) };
+  ended = λ whole still. record { each = λ k a log below. absurd (omega (arith, below)) };
+}
+
+-- agents are passed over, where it doesn't go through all
+pub Sweeping-skip : (Whole : Type 0) (c : Configuration) (start : List (List LogRow)) (n m : ℕ) (cores : List Centre) (logs : List (List LogRow))
+    (clients : List Client) (moved : Bool) → Sweeping Whole c start n cores logs clients moved → (Whole → m ≡ n)
+    → Sweeping Whole c start m cores logs clients moved
+Sweeping-skip Whole c start n m cores logs clients moved so same = record {
+  goes = so.goes;
+  are = so.are;
+  most = so.most;
+  less = so.less;
+  ended = λ whole still. subst (λ k. EndedBelow k c (histories c cores) logs) (sym (same whole)) (so.ended whole still);
 }
 
 -- an agent's part of a run that may go on
@@ -116,31 +128,31 @@ module _ (c : Configuration) (cores : List Centre) (logs : List (List LogRow)) (
   }
 
   -- the step moved
-  pub Sweeping-moved : (start : List (List LogRow)) (clients : List Client) (client' : Client) (moved : Bool) → k < length clients
-      → Sweeping c start k cores logs clients moved → Touches k cores new → GoesOn c k a new log' → IsClient k a.scripts log' client'
-      → Moves c k a cores new log log' true → Sweeping c start (k + 1) new (set logs k log') (set clients k client') true
-  Sweeping-moved start clients client' moved within so touches on is less =
+  pub Sweeping-moved : (Whole : Type 0) (start : List (List LogRow)) (clients : List Client) (client' : Client) (moved : Bool) → k < length clients
+      → Sweeping Whole c start k cores logs clients moved → Touches k cores new → GoesOn c k a new log' → IsClient k a.scripts log' client'
+      → Moves c k a cores new log log' true → Sweeping Whole c start (k + 1) new (set logs k log') (set clients k client') true
+  Sweeping-moved Whole start clients client' moved within so touches on is less =
       let fallen = left_in-set c.agents logs k a log log' stands at less in
       record {
         goes = Goes-step so.goes touches on;
         are = AreClients-step clients client' within so.are is;
         most = omega (arith, fallen, so.most);
         less = λ yes. omega (arith, fallen, so.most);
-        ended = λ still. absurd (cc);
+        ended = λ whole still. absurd (cc);
       }
 
   -- the step didn't move
-  pub Sweeping-still : (start : List (List LogRow)) (clients : List Client) (client' : Client) (moved : Bool) → k < length clients
-      → Sweeping c start k cores logs clients moved → Touches k cores new → GoesOn c k a new log' → IsClient k a.scripts log' client'
-      → Moves c k a cores new log log' false → Sweeping c start (k + 1) new (set logs k log') (set clients k client') moved
-  Sweeping-still start clients client' moved within so touches on is still =
+  pub Sweeping-still : (Whole : Type 0) (start : List (List LogRow)) (clients : List Client) (client' : Client) (moved : Bool) → k < length clients
+      → Sweeping Whole c start k cores logs clients moved → Touches k cores new → GoesOn c k a new log' → IsClient k a.scripts log' client'
+      → Moves c k a cores new log log' false → Sweeping Whole c start (k + 1) new (set logs k log') (set clients k client') moved
+  Sweeping-still Whole start clients client' moved within so touches on is still =
       let kept : set logs k log' ≡ logs = ap (set logs k) (still.1 ∙ sym (get_or_from_slice_get logs k log log at)) ∙ set-get_or logs k log in
       record {
         goes = Goes-step so.goes touches on;
         are = AreClients-step clients client' within so.are is;
         most = subst (λ ls. left_in c.agents ls ≤ left_in c.agents start) (sym kept) so.most;
         less = λ yes. subst (λ ls. left_in c.agents ls < left_in c.agents start) (sym kept) (so.less yes);
-        ended = λ no. record {
+        ended = λ whole no. record {
           each = λ j b l below who what.
               ⊎_elim
               (λ (here : j ≡ k).
@@ -151,16 +163,16 @@ module _ (c : Configuration) (cores : List Centre) (logs : List (List LogRow)) (
               (subst (λ x. IsEnded (histories c new) k x l) same-agent (subst (IsEnded (histories c new) k a) same-log still.2)))
               (λ (apart : j ≡ k → ⊥).
               subst (λ xs. IsEnded (histories c xs) j b l) (sym still.0)
-              ((so.ended no).each j b l (omega (arith, below, apart)) who (ap (λ ls. slice_get ls j) (sym kept) ∙ what)))
+              ((so.ended whole no).each j b l (omega (arith, below, apart)) who (ap (λ ls. slice_get ls j) (sym kept) ∙ what)))
               (cases_eq j k);
         };
       }
 
 -- a sweep in which none has moved is the last
-pub IsGood-still : (c : Configuration) (start logs : List (List LogRow)) (cores : List Centre) (clients : List Client) (n : ℕ) (moved : Bool) → length c.agents ≤ n
-    → Sweeping c start n cores logs clients moved → moved ≡ false → IsGood TheFirst c (histories c cores) logs
-IsGood-still c start logs cores clients n moved all so still = record {
+pub IsGood-still : (Whole : Type 0) (c : Configuration) (start logs : List (List LogRow)) (cores : List Centre) (clients : List Client) (n : ℕ) (moved : Bool) → length c.agents ≤ n
+    → Sweeping Whole c start n cores logs clients moved → Whole → moved ≡ false → IsGood TheFirst c (histories c cores) logs
+IsGood-still Whole c start logs cores clients n moved all so whole still = record {
   going = so.goes.going;
   ended = λ k a log who what.
-      let within = slice_get_within c.agents k a who in (so.ended still).each k a log (omega (arith, within, all)) who what;
+      let within = slice_get_within c.agents k a who in (so.ended whole still).each k a log (omega (arith, within, all)) who what;
 }

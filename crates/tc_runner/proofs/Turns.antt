@@ -30,8 +30,8 @@ rows-at c cores logs k l goes inside =
     slice_get-map_at (λ (v : Vec LogRow Global). v.items) logs k (get_or logs k l)
     (slice_get-get_or logs k l (omega (arith, inside, whole, length-map logs (λ (v : Vec LogRow Global). v.items))))
 
-module _ (c : Configuration) (start : List (List LogRow)) (k : ℕ) (cores : List Centre) (logs : List (Vec LogRow Global)) (clients : List Client) (moved : Bool)
-    (so : Sweeping c start k cores (rows_of logs) clients moved) (agents : List AgentConf) (are : agents ≡ c.agents) (inside : k < length agents)
+module _ (Whole : Type 0) (c : Configuration) (start : List (List LogRow)) (k : ℕ) (cores : List Centre) (logs : List (Vec LogRow Global)) (clients : List Client) (moved : Bool)
+    (so : Sweeping Whole c start k cores (rows_of logs) clients moved) (agents : List AgentConf) (are : agents ≡ c.agents) (inside : k < length agents)
     (a : AgentConf) (read : a ≡ get_or agents k a) (l : Vec LogRow Global) (r : Client) where
   abbrev log : Vec LogRow Global
   log = get_or logs k l
@@ -82,14 +82,14 @@ module _ (c : Configuration) (start : List (List LogRow)) (k : ℕ) (cores : Lis
         (AreClients-step c cores (rows_of logs) k a log.items stands at new log'.items clients client' wide-clients so.are own-fits)
 
     pub turned-moved : Moves c (get_or clients k r).agent a cores new (get_or logs k l).items log'.items true
-        → Sweeping c start (k + 1) new (rows_of (set logs k log')) (set clients k client') true
+        → Sweeping Whole c start (k + 1) new (rows_of (set logs k log')) (set clients k client') true
     turned-moved moves =
-        subst (λ ls. Sweeping c start (k + 1) new ls (set clients k client') true) (sym rows-set)
-        (Sweeping-moved c cores (rows_of logs) k a log.items stands at new log'.items start clients client' moved wide-clients so own-touches own-goes own-fits moves)
+        subst (λ ls. Sweeping Whole c start (k + 1) new ls (set clients k client') true) (sym rows-set)
+        (Sweeping-moved c cores (rows_of logs) k a log.items stands at new log'.items Whole start clients client' moved wide-clients so own-touches own-goes own-fits moves)
 
     pub turned-still : Moves c (get_or clients k r).agent a cores new (get_or logs k l).items log'.items false
-        → Sweeping c start (k + 1) new (rows_of (set logs k log')) (set clients k client') moved
+        → Sweeping Whole c start (k + 1) new (rows_of (set logs k log')) (set clients k client') moved
     turned-still moves =
-        subst (λ ls. Sweeping c start (k + 1) new ls (set clients k client') moved) (sym rows-set)
-        (Sweeping-still c cores (rows_of logs) k a log.items stands at new log'.items start clients client' moved wide-clients so own-touches own-goes own-fits
+        subst (λ ls. Sweeping Whole c start (k + 1) new ls (set clients k client') moved) (sym rows-set)
+        (Sweeping-still c cores (rows_of logs) k a log.items stands at new log'.items Whole start clients client' moved wide-clients so own-touches own-goes own-fits
         (subst (λ j. Moves c j a cores new log.items log'.items false) is.agent_is moves))

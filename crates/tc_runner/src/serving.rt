@@ -11,13 +11,15 @@ ghost use Rattle.tc_runner.specs.Results.{Changes, refusal_of, result_of};
 
 use std::alloc::Global;
 use tc_asks::{OperandFault, op_of};
+use tc_bells::Roll;
 use tc_centre::{Answer, Core, TurnFault};
 use tc_desk::{LogResult, Refusal};
 use tc_lists::NoMemory;
-use tc_model::{Ask, CallId};
+use tc_model::{Ask, CallId, Entry};
 use tc_policy::Roles;
 
-/// What an ask of an agent of this role comes to at the centre of this place.
+/// What an ask of an agent of this role comes to at the centre of this place. The agents whose
+/// requests are answered then are called on the roll.
 pub(crate) fn serve(
     alloc: Global,
     roles: &Roles,
@@ -26,6 +28,7 @@ pub(crate) fn serve(
     core: &mut Core,
     id: CallId,
     ask: Ask,
+    roll: &Roll,
 ) -> Result<LogResult, NoMemory>
     requires { IsNext core.old.origin core.old.history id }
     ensures result { IfOk result
@@ -37,11 +40,17 @@ pub(crate) fn serve(
     if roles.permits(role, place, ask.primitive()).is_none() {
         return Ok(LogResult::Refused(Refusal::Denied));
     }
-    call(alloc, core, id, ask)
+    call(alloc, core, id, ask, roll)
 }
 
 // What an ask comes to that is permitted.
-fn call(alloc: Global, core: &mut Core, id: CallId, ask: Ask) -> Result<LogResult, NoMemory>
+fn call(
+    alloc: Global,
+    core: &mut Core,
+    id: CallId,
+    ask: Ask,
+    roll: &Roll,
+) -> Result<LogResult, NoMemory>
     requires { IsNext core.old.origin core.old.history id }
     ensures result { IfOk result (IsServedAs core.old.origin core.new.history id ask) }
     ensures change { IfOk result (λ r. Changes id core.old core.new (is_served r)) }
@@ -49,8 +58,22 @@ fn call(alloc: Global, core: &mut Core, id: CallId, ask: Ask) -> Result<LogResul
 {
     rests(core);
     match op_of(alloc, ask) {
-        Ok(op) => told(core.turn(alloc, id, op)),
+        Ok(op) => {
+            let known = core.history().len();
+            let answer = core.turn(alloc, id, op);
+            call_answered(roll, core.history(), known);
+            told(answer)
+        }
         Err(fault) => Ok(LogResult::Refused(refused(fault)?)),
+    }
+}
+
+// Calls the agents whose requests are answered by entries behind the first so many.
+fn call_answered(roll: &Roll, history: &[Entry], known: usize) {
+    for entry in history.get(known..).unwrap_or(&[]) {
+        if let Entry::Gave { id, .. } = entry {
+            roll.call(id.agent as usize);
+        }
     }
 }
 

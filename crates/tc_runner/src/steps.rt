@@ -13,6 +13,7 @@ use crate::plans::Plan;
 use crate::serving::serve;
 use std::alloc::Global;
 use tc_asks::{Next, asker_stays_fit};
+use tc_bells::Roll;
 use tc_centre::Core;
 use tc_config::AgentConf;
 use tc_desk::{Gate, LogResult, LogRow};
@@ -20,7 +21,8 @@ use tc_lists::NoMemory;
 use tc_model::{CallId, Reply};
 
 /// One step of an agent: a look whether its pending ask has a reply by now, or else its next ask.
-/// Whether it moved; an agent that didn't has ended, or waits.
+/// Whether it moved; an agent that didn't has ended, or waits. Those whose requests are answered are
+/// called on the roll.
 pub(crate) fn step<G: Gate>(
     alloc: Global,
     plan: &Plan,
@@ -29,6 +31,7 @@ pub(crate) fn step<G: Gate>(
     cores: &mut [Core],
     log: &mut Vec<LogRow>,
     gate: &G,
+    roll: &Roll,
 ) -> Result<bool, NoMemory>
     requires goes { GoesOn plan.now client.old.agent a.now cores.old log.old.items }
     requires client { IsClient client.old.agent a.now.scripts log.old.items client.old }
@@ -56,7 +59,7 @@ pub(crate) fn step<G: Gate>(
         return Ok(false);
     };
     gate.pass(client.agent, number + 1);
-    client.waits = ask(alloc, plan, a, client.agent, next, cores, log)?;
+    client.waits = ask(alloc, plan, a, client.agent, next, cores, log, roll)?;
     Ok(true)
 }
 
@@ -71,6 +74,7 @@ fn ask(
     next: Next,
     cores: &mut [Core],
     log: &mut Vec<LogRow>,
+    roll: &Roll,
 ) -> Result<Option<u32>, NoMemory>
     requires goes { GoesOn plan.now agent a.now cores.old log.old.items }
     requires settled { any_pending log.old.items ≡ false }
@@ -87,7 +91,7 @@ fn ask(
     log.reserve(1)?;
     let id = CallId { agent, number };
     let core = &mut cores[place as usize];
-    let result = serve(alloc, plan.roles(), a.role, place, core, id, next.ask)?;
+    let result = serve(alloc, plan.roles(), a.role, place, core, id, next.ask, roll)?;
     let waits = waits_at(&result, place);
     put(
         log,

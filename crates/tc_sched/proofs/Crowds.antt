@@ -1,8 +1,6 @@
 -- Many agents, as they make steps.
-use Rattle.std.proofs.Common.{◌≡◌, ℕ, ◌+◌, ◌-◌, ◌*◌, ◌<◌, ◌≤◌, inl, inr, List, [], ◌∷◌, ◌++◌, true, All, Some, length, get_or, refl, sym, ap, ◌∙◌, subst, arith, length-append, append_assoc, append-nil}
-use Rattle.std.proofs.Math.ListN.{set}
-use Rattle.std.proofs.Math.Seq.{get_or-append_seam, set-append_seam}
-use Rattle.std.proofs.lemmas.List.Elements.{All-nil, All-cons, All-head, All-tail, All-push}
+use Rattle.std.proofs.Common.{◌≡◌, ℕ, ◌+◌, ◌-◌, ◌*◌, ◌<◌, ◌≤◌, List, [], ◌∷◌, ◌++◌, true, All, Some, length, get_or, refl, sym, ap, ◌∙◌, subst, arith}
+use Rattle.std.proofs.lemmas.List.Elements.{All-nil, All-cons, All-head, All-tail}
 use Rattle.std.proofs.lemmas.List.Sums.{sum_by-append}
 use Rattle.std.proofs.lemmas.Map.Keys.{any_passes_from_place}
 use Rattle.std.proofs.lemmas.Option.{slice_get-get_or}
@@ -11,9 +9,7 @@ use Rattle.tc_desk.specs.Logs.{any_pending, is_pending}
 use Rattle.tc_desk.specs.declared.desks.Seen.TheVariants as seen
 use Rattle.tc_desk.specs.declared.rows.LogRow.{LogRow}
 use Rattle.tc_sched.specs.Clients.{Client}
-use Rattle.tc_sched.specs.Steps.{AllWent, ArePlaced, HasEnded, IsReady, Moves, Rests, Settles, Steps, Went, left_in, left_of, moves_of}
-use Rattle.tc_sched.specs.declared.actor.Step.{Step}
-use Rattle.tc_sched.specs.declared.actor.Step.TheVariants as step
+use Rattle.tc_sched.specs.Steps.{AllWent, ArePlaced, IsReady, Moves, Settles, Went, left_in, left_of}
 
 -- a log with a pending row
 pub has-pending : (log : List LogRow) (row : LogRow) → IsPendingRow log row → any_pending log ≡ true
@@ -25,12 +21,6 @@ has-pending log row is =
 pub still-pending : (d e : DeskState) → Looks d seen.StillPending e → any_pending e.log ≡ true
 still-pending d e looks = ap any_pending looks.0 ∙ has-pending d.log looks.2.row looks.2.is
 
--- a step moves at most once
-moves-few : (h : Step) → moves_of h ≤ 1
-moves-few step.Moved = omega arith
-moves-few step.Blocked = omega arith
-moves-few step.Ended = omega arith
-
 module _ {D B : Type 0} (state : D → DeskState) (bond : D → B) (is_sound : D → Type 0) where
   abbrev Go : ℕ → Client D → Client D → Type 0
   Go n c e = Went state bond is_sound n c e
@@ -41,7 +31,7 @@ module _ {D B : Type 0} (state : D → DeskState) (bond : D → B) (is_sound : D
   abbrev AllReady : ℕ → List (List ℕ) → List (Client D) → Type 0
   AllReady n names cs = All (IsReady state n names) cs
 
-  went-more : (n m : ℕ) (c e : Client D) → n ≤ m → Go n c e → Go m c e
+  pub went-more : (n m : ℕ) (c e : Client D) → n ≤ m → Go n c e → Go m c e
   went-more n m c e le w = record {
     bound = w.bound;
     agent = w.agent;
@@ -52,7 +42,7 @@ module _ {D B : Type 0} (state : D → DeskState) (bond : D → B) (is_sound : D
     left = w.left;
   }
 
-  went-same : (n m : ℕ) (names : List (List ℕ)) (c : Client D) → IsReady state m names c → Go n c c
+  pub went-same : (n m : ℕ) (names : List (List ℕ)) (c : Client D) → IsReady state m names c → Go n c c
   went-same n m names c r = record {
     bound = refl;
     agent = refl;
@@ -63,7 +53,7 @@ module _ {D B : Type 0} (state : D → DeskState) (bond : D → B) (is_sound : D
     left = omega arith;
   }
 
-  went-on : (n m : ℕ) (c d e : Client D) → Go n c d → Go m d e → Go (n + m) c e
+  pub went-on : (n m : ℕ) (c d e : Client D) → Go n c d → Go m d e → Go (n + m) c e
   went-on n m c d e v w = record {
     bound = w.bound ∙ v.bound;
     agent = w.agent ∙ v.agent;
@@ -83,7 +73,7 @@ module _ {D B : Type 0} (state : D → DeskState) (bond : D → B) (is_sound : D
     left = let a = v.left in let b = w.left in omega (arith, a, b);
   }
 
-  ready-less : (n m : ℕ) (names : List (List ℕ)) (c : Client D) → m ≤ n → IsReady state n names c → IsReady state m names c
+  pub ready-less : (n m : ℕ) (names : List (List ℕ)) (c : Client D) → m ≤ n → IsReady state n names c → IsReady state m names c
   ready-less n m names c le r = record {
     free = r.free;
     names = r.names;
@@ -91,7 +81,7 @@ module _ {D B : Type 0} (state : D → DeskState) (bond : D → B) (is_sound : D
     turns_left = λ k below. let t = r.turns_left k below in omega (arith, t, le);
   }
 
-  ready-after : (n m : ℕ) (names : List (List ℕ)) (c e : Client D) → IsReady state (n + m) names c → Go n c e → IsReady state m names e
+  pub ready-after : (n m : ℕ) (names : List (List ℕ)) (c e : Client D) → IsReady state (n + m) names c → Go n c e → IsReady state m names e
   ready-after n m names c e r w = record {
     free = w.kept.free;
     names = w.kept.names ∙ r.names;
@@ -143,7 +133,7 @@ module _ {D B : Type 0} (state : D → DeskState) (bond : D → B) (is_sound : D
   left-cons : (c : Client D) (cs : List (Client D)) → left_in state (c ∷ cs) ≡ left_of state c + left_in state cs
   left-cons c cs = let a = left-append (c ∷ []) cs in omega (arith, a)
 
-  left-push : (cs : List (Client D)) (c : Client D) → left_in state (cs ++ c ∷ []) ≡ left_in state cs + left_of state c
+  pub left-push : (cs : List (Client D)) (c : Client D) → left_in state (cs ++ c ∷ []) ≡ left_in state cs + left_of state c
   left-push cs c = let a = left-append cs (c ∷ []) in omega (arith, a)
 
   pub all-left : (n : ℕ) (cs es : List (Client D)) → AllGo n cs es → left_in state es ≤ left_in state cs
@@ -162,136 +152,6 @@ module _ {D B : Type 0} (state : D → DeskState) (bond : D → B) (is_sound : D
             (all-more _ _ cs es (omega (arith, a, b, x, y)) s.went)
             (all-more _ _ cs' es' (omega (arith, a, b, x, y)) t.went);
       }
-
-  -- the agents before a place have each made a step
-  pub record Swept (names : List (List ℕ)) (old now : List (Client D)) (i moved : ℕ) : Type 0 where
-    pub before : List (Client D)
-    pub after : List (Client D)
-    pub rest : List (Client D)
-    pub was : old ≡ before ++ rest
-    pub is : now ≡ after ++ rest
-    pub long : length after ≡ i
-    pub went : AllGo 1 before after
-    pub ready : AllReady 1 names rest
-    pub few : moved ≤ i
-    pub moves : left_in state after + moved ≤ left_in state before
-    pub rests : moved ≡ 0 → All (Rests state) after
-
-  pub swept-none : (names : List (List ℕ)) (old : List (Client D)) → AllReady 1 names old → Swept names old old 0 0
-  swept-none names old r = record {
-    before = [];
-    after = [];
-    rest = old;
-    was = refl;
-    is = refl;
-    long = refl;
-    went = tt;
-    ready = r;
-    few = omega arith;
-    moves = omega arith;
-    rests = λ e. All-nil (Rests state);
-  }
-
-  next-of : (names : List (List ℕ)) (after rest : List (Client D)) (x : Client D) → AllReady 1 names rest → x ≡ get_or (after ++ rest) (length after) x
-      → length after < length (after ++ rest) → IsReady state 1 names x
-  next-of names after [] x ready at below = absurd (let a = length-append after [] in omega (arith, a, below))
-  next-of names after (r ∷ rs) x ready at below =
-      subst (IsReady state 1 names) (sym (at ∙ get_or-append_seam after r rs x)) (All-head (IsReady state 1 names) r rs ready)
-
-  -- the agent that is next is ready
-  pub swept-next : (names : List (List ℕ)) (old now : List (Client D)) (i moved : ℕ) (x : Client D) → Swept names old now i moved
-      → x ≡ get_or now i x → i < length now → IsReady state 1 names x
-  swept-next names old now i moved x s at below =
-      let here : x ≡ get_or (s.after ++ s.rest) (length s.after) x =
-      at ∙ ap (λ (l : List (Client D)). get_or l i x) s.is ∙ ap (λ k. get_or (s.after ++ s.rest) k x) (sym s.long) in
-      let long = ap length s.is in
-      next-of names s.after s.rest x s.ready here (omega (arith, long, below, s.long))
-
-  moves-on : (moved : ℕ) (h : Step) (ta tb : ℕ) (c e : Client D) → ta + moved ≤ tb → left_of state e ≤ left_of state c
-      → (h ≡ step.Moved → left_of state e < left_of state c) → ta + left_of state e + (moved + moves_of h) ≤ tb + left_of state c
-  moves-on moved step.Moved ta tb c e m l less = let a = less refl in omega (arith, m, a)
-  moves-on moved step.Blocked ta tb c e m l less = omega (arith, m, l)
-  moves-on moved step.Ended ta tb c e m l less = omega (arith, m, l)
-
-  rests-on : (moved : ℕ) (h : Step) (after : List (Client D)) (c e : Client D) → (moved ≡ 0 → All (Rests state) after) → Steps state c h e
-      → moved + moves_of h ≡ 0 → All (Rests state) (after ++ e ∷ [])
-  rests-on moved step.Moved after c e m st x = absurd (omega (arith, x))
-  rests-on moved step.Blocked after c e m st x =
-      All-push (Rests state) after e (m (omega (arith, x))) (inr (still-pending (state c.desk) (state e.desk) st))
-  rests-on moved step.Ended after c e m st x =
-      All-push (Rests state) after e (m (omega (arith, x))) (inl (subst (HasEnded state) (sym st.1) st.0))
-
-  swept-at : (names : List (List ℕ)) (old before after rest : List (Client D)) (moved : ℕ) (x v : Client D) (h : Step)
-      → old ≡ before ++ rest → AllGo 1 before after → AllReady 1 names rest → moved ≤ length after → left_in state after + moved ≤ left_in state before → (moved ≡ 0 → All (Rests state) after)
-      → x ≡ get_or (after ++ rest) (length after) x → length after < length (after ++ rest) → Go 1 x v → Steps state x h v → (h ≡ step.Moved → left_of state v < left_of state x)
-      → Swept names old (set (after ++ rest) (length after) v) (length after + 1) (moved + moves_of h)
-  swept-at names old before after [] moved x v h was went ready few moves rests at below w st less = absurd (let a = length-append after [] in omega (arith, a, below))
-  swept-at names old before after (r ∷ rs) moved x v h was went ready few moves rests at below w st less =
-      let here : x ≡ r = at ∙ get_or-append_seam after r rs x in
-      let w' : Go 1 r v = subst (λ (y : Client D). Go 1 y v) here w in
-      let st' : Steps state r h v = subst (λ (y : Client D). Steps state y h v) here st in
-      let less' : h ≡ step.Moved → left_of state v < left_of state r = subst (λ (y : Client D). h ≡ step.Moved → left_of state v < left_of state y) here less in
-      let a = left-push before r in let b = left-push after v in record {
-        before = before ++ r ∷ [];
-        after = after ++ v ∷ [];
-        rest = rs;
-        was = was ∙ sym (append_assoc before (r ∷ []) rs);
-        is = set-append_seam after r rs v ∙ sym (append_assoc after (v ∷ []) rs);
-        long = length-append after (v ∷ []);
-        went = all-append 1 before after (r ∷ []) (v ∷ []) went (w', tt);
-        ready = All-tail (IsReady state 1 names) r rs ready;
-        few = let one = moves-few h in omega (arith, few, one);
-        moves = let m = moves-on moved h (left_in state after) (left_in state before) r v moves w'.left less' in omega (arith, a, b, m);
-        rests = rests-on moved h after r v rests st';
-      }
-
-  pub swept-step : (names : List (List ℕ)) (old now : List (Client D)) (i moved : ℕ) (x v : Client D) (h : Step) → Swept names old now i moved
-      → x ≡ get_or now i x → i < length now → Go 1 x v → Steps state x h v → (h ≡ step.Moved → left_of state v < left_of state x)
-      → Swept names old (set now i v) (i + 1) (moved + moves_of h)
-  swept-step names old now i moved x v h s at below w st less =
-      let P : List (Client D) → ℕ → Type 0 = λ l k. Swept names old (set l k v) (k + 1) (moved + moves_of h) in
-      subst (λ (l : List (Client D)). P l i) (sym s.is) (subst (λ k. P (s.after ++ s.rest) k) s.long
-      (swept-at names old s.before s.after s.rest moved x v h s.was s.went s.ready (subst (λ k. moved ≤ k) (sym s.long) s.few) s.moves s.rests
-      (subst (λ k. x ≡ get_or (s.after ++ s.rest) k x) (sym s.long) (subst (λ (l : List (Client D)). x ≡ get_or l i x) s.is at))
-      (subst (λ k. k < length (s.after ++ s.rest)) (sym s.long) (subst (λ (l : List (Client D)). i < length l) s.is below)) w st less))
-
-  failed-at : (names : List (List ℕ)) (old before after rest : List (Client D)) (x v : Client D)
-      → old ≡ before ++ rest → AllGo 1 before after → AllReady 1 names rest
-      → x ≡ get_or (after ++ rest) (length after) x → length after < length (after ++ rest) → Go 1 x v
-      → AllGo 1 old (set (after ++ rest) (length after) v)
-  failed-at names old before after [] x v was went ready at below w = absurd (let a = length-append after [] in omega (arith, a, below))
-  failed-at names old before after (r ∷ rs) x v was went ready at below w =
-      let w' : Go 1 r v = subst (λ (y : Client D). Go 1 y v) (at ∙ get_or-append_seam after r rs x) w in
-      subst (λ (l : List (Client D)). AllGo 1 old l) (sym (set-append_seam after r rs v))
-      (subst (λ (l : List (Client D)). AllGo 1 l (after ++ v ∷ rs)) (sym was)
-      (all-append 1 before after (r ∷ rs) (v ∷ rs) went (w', all-same 1 1 names rs (All-tail (IsReady state 1 names) r rs ready))))
-
-  -- memory has run out at an agent
-  pub swept-failed : (names : List (List ℕ)) (old now : List (Client D)) (i moved : ℕ) (x v : Client D) → Swept names old now i moved
-      → x ≡ get_or now i x → i < length now → Go 1 x v → AllGo 1 old (set now i v)
-  swept-failed names old now i moved x v s at below w =
-      let P : List (Client D) → ℕ → Type 0 = λ l k. AllGo 1 old (set l k v) in
-      subst (λ (l : List (Client D)). P l i) (sym s.is) (subst (λ k. P (s.after ++ s.rest) k) s.long
-      (failed-at names old s.before s.after s.rest x v s.was s.went s.ready
-      (subst (λ k. x ≡ get_or (s.after ++ s.rest) k x) (sym s.long) (subst (λ (l : List (Client D)). x ≡ get_or l i x) s.is at))
-      (subst (λ k. k < length (s.after ++ s.rest)) (sym s.long) (subst (λ (l : List (Client D)). i < length l) s.is below)) w))
-
-  rest-none : (after rest : List (Client D)) → length (after ++ rest) ≤ length after → rest ≡ []
-  rest-none after [] le = refl
-  rest-none after (r ∷ rs) le = absurd (let a = length-append after (r ∷ rs) in omega (arith, a, le))
-
-  -- all have made a step
-  pub record SweptAll (old now : List (Client D)) (moved : ℕ) : Type 0 where
-    pub went : AllGo 1 old now
-    pub moves : left_in state now + moved ≤ left_in state old
-    pub rests : moved ≡ 0 → All (Rests state) now
-
-  pub swept-all : (names : List (List ℕ)) (old now : List (Client D)) (i moved : ℕ) → Swept names old now i moved → length now ≤ i → SweptAll old now moved
-  swept-all names old now i moved s le =
-      let none : s.rest ≡ [] = rest-none s.after s.rest (subst (λ k. length (s.after ++ s.rest) ≤ k) (sym s.long) (subst (λ (l : List (Client D)). length l ≤ i) s.is le)) in
-      let was : old ≡ s.before = s.was ∙ (ap (λ (l : List (Client D)). s.before ++ l) none ∙ append-nil s.before) in
-      let is : now ≡ s.after = s.is ∙ (ap (λ (l : List (Client D)). s.after ++ l) none ∙ append-nil s.after) in
-      rw (was, is) record { went = s.went; moves = s.moves; rests = s.rests }
 
   -- so many sweeps were made, of which each moved an agent
   pub record Settling (names : List (List ℕ)) (cs es : List (Client D)) (made : ℕ) : Type 0 where

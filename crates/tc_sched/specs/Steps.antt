@@ -59,9 +59,25 @@ module _ {D : Type 0} (state : D → DeskState) where
     pub all : length (state c.desk).log ≡ length (steps_of c.scripts)
     pub idle : any_pending (state c.desk).log ≡ false
 
-  -- the agent has ended, or a row of it, which is its last, is pending
+  -- a row of the agent, which is its last, is pending
+  abbrev pub Waits : Client D → Type 0
+  Waits c = any_pending (state c.desk).log ≡ true
+
+  -- the agent has ended, or waits
   abbrev pub Rests : Client D → Type 0
-  Rests c = HasEnded c ⊎ (any_pending (state c.desk).log ≡ true)
+  Rests c = HasEnded c ⊎ Waits c
+
+  -- the agent is as it was, or waits now
+  abbrev pub Stays : Client D → Client D → Type 0
+  Stays c e = (e ≡ c) ⊎ Waits e
+
+  -- how many turns a step may take of an agent that takes none while it waits
+  abbrev pub turns_of : Client D → ℕ
+  turns_of c = if any_pending (state c.desk).log then 0 else 1
+
+  -- the agent can make a step, unless it waits
+  abbrev pub IsReadyIfIdle : List (List ℕ) → Client D → Type 0
+  IsReadyIfIdle centres c = IsReady (turns_of c) centres c
 
   -- what a step has done: the pending row got its reply, or else the next ask was made; a look
   -- found the row still pending; or there was nothing left to do
@@ -90,7 +106,11 @@ module _ {D B : Type 0} (state : D → DeskState) (bond : D → B) (is_sound : D
     pub sound : is_sound c.desk → is_sound e.desk
     pub left : left_of state e ≤ left_of state c
 
-  -- each agent did so
+  -- the agent is the same, and has taken at most a turn at each centre, and none if it waited
+  abbrev pub WentIfIdle : Client D → Client D → Type 0
+  WentIfIdle c e = Went (turns_of state c) c e
+
+  -- each agent is the same, and has taken at most so many turns at each centre
   abbrev pub AllWent : ℕ → List (Client D) → List (Client D) → Type 0
   AllWent turns cs es = AllZip (Went turns) cs es
 

@@ -77,6 +77,13 @@ impl<D: Desk> Actor<D> {
         (desk, scripts)
     }
 
+    /// The agent's place, from 0.
+    pub fn agent(&self) -> u32
+        ensures { result ≡ self.now.agent }
+    {
+        self.agent
+    }
+
     /// Looks once whether the last ask has its reply, if it is pending; else makes the next ask, if
     /// there is one. `names` are those of the desk's centres, among which each item's centre has
     /// its place. The gate is passed before an ask.
@@ -115,8 +122,8 @@ impl<D: Desk> Actor<D> {
         moved(called)
     }
 
-    // Whether the last ask is pending.
-    fn is_waiting(&self) -> bool
+    /// Whether the last ask is pending.
+    pub(crate) fn is_waiting(&self) -> bool
         ensures { result ≡ any_pending (D.state self.now.desk).log }
     {
         let log = self.desk.log();

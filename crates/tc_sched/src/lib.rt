@@ -8,11 +8,13 @@
 //! drive(rt, &mut actors, alloc, &names, 4, &NoGate)?;
 //! // every actor has ended, or its last row is pending
 //! ```
+//!
+//! `drive_called` does the same and is told by a roll whose looks are worth a turn.
 #![tactic(auto)]
 
 mod actor;
 mod crowd;
 
 pub use actor::{Actor, Step};
-pub use crowd::drive;
+pub use crowd::{drive, drive_called};
 pub use tc_lists::NoMemory;

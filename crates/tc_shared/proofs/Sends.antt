@@ -36,6 +36,7 @@ use Rattle.tc_centre.specs.contracts.holdings.Holdings.{the_row as holdings, the
 use Rattle.tc_centre.specs.contracts.centre.Core.{the_row as core}
 use Rattle.tc_unify.specs.contracts.store.Store.{the_row as store}
 use Rattle.tc_bells.proofs.bells.Bells.TheSendSync as bells
+use Rattle.tc_bells.proofs.roll.Roll.TheSendSync as roll
 use Rattle.tc_turn.proofs.turnstile.Turnstile.TheSendSync as turnstile
 use Rattle.tc_shared.specs.contracts.centre.SharedCentre.{the_row as shared}
 use Rattle.tc_model.specs.contracts.goals.Goal.{the_row as goal, the_field as goal_field}
@@ -178,4 +179,5 @@ pub core_send : IsSend core
 core_send = search (of_heaps, holdings_send, holdings_field_send) depth 60
 
 pub shared_sync : IsSync shared
-shared_sync = search (sendable, crosses, turnstile.the_sync, bells.the_sync, core_send, entry_send) depth 60
+shared_sync =
+    search (sendable, crosses, turnstile.the_sync, bells.the_sync, roll.the_send, roll.the_sync, global.the_send, galloc.the_frees, core_send, entry_send) depth 60

@@ -17,8 +17,8 @@ use crate::answers::{CallFault, LookFault, SharedPollFault, call_fault, poll_fau
 use crate::waking::{answered_since, rung, sleep, wake};
 use std::alloc::Global;
 use std::marker::Model;
-use std::sync::Wait;
-use tc_bells::Bells;
+use std::sync::{Arc, Wait};
+use tc_bells::{Bells, Roll};
 use tc_centre::{Answer, Core, Poll};
 use tc_lists::NoMemory;
 use tc_model::{CallId, Op, Reply};
@@ -38,6 +38,8 @@ pub type EndedPass = Ended<Core>;
 pub struct SharedCentre {
     turnstile: Turnstile<Core>,
     bells: Bells,
+    // On which agents are called once their requests are answered, if there is one.
+    roll: Option<Arc<Roll>>,
 }
 
 impl Model for SharedCentre {
@@ -92,11 +94,50 @@ impl SharedCentre {
             ≡ new_passes r.0.table core.origin turns 0 (length core.origin.agents)) }
         ensures fresh { IfOk result (λ r. All (IsFreshPassOf r.0) r.1.items) }
     {
+        SharedCentre::made(alloc, core, turns, None)
+    }
+
+    /// The same with a roll, on which it calls each agent whose request was answered.
+    pub fn with_roll(
+        alloc: Global,
+        core: Core,
+        turns: u32,
+        roll: Arc<Roll>,
+    ) -> Result<(SharedCentre, Vec<CentrePass>), NoMemory>
+        requires empty { core.history ≡ [] }
+        ensures centre { IfOk result (λ r. (r.0.origin ≡ core.origin)
+            × (r.0.passes ≡ length core.origin.agents)) }
+        ensures passes { IfOk result (λ r. r.1.items
+            ≡ new_passes r.0.table core.origin turns 0 (length core.origin.agents)) }
+        ensures fresh { IfOk result (λ r. All (IsFreshPassOf r.0) r.1.items) }
+    {
+        SharedCentre::made(alloc, core, turns, Some(roll))
+    }
+
+    // A centre, with a roll if there is one, and its passes.
+    fn made(
+        alloc: Global,
+        core: Core,
+        turns: u32,
+        roll: Option<Arc<Roll>>,
+    ) -> Result<(SharedCentre, Vec<CentrePass>), NoMemory>
+        requires empty { core.history ≡ [] }
+        ensures centre { IfOk result (λ r. (r.0.origin ≡ core.origin)
+            × (r.0.passes ≡ length core.origin.agents)) }
+        ensures passes { IfOk result (λ r. r.1.items
+            ≡ new_passes r.0.table core.origin turns 0 (length core.origin.agents)) }
+        ensures fresh { IfOk result (λ r. All (IsFreshPassOf r.0) r.1.items) }
+    {
         vouch(&core);
         let agents = number_of_agents(&core);
         let bells = Bells::new(alloc, agents as usize)?;
         let (turnstile, passes) = Turnstile::new(alloc, core, agents, turns)?;
-        Ok((SharedCentre { turnstile, bells }, passes))
+        let centre = SharedCentre {
+            turnstile,
+            bells,
+            roll,
+        };
+        Ok((centre, passes))
     }
 
     /// Makes a call of the pass's agent, in one turn.
@@ -135,7 +176,7 @@ impl SharedCentre {
         vouch(&held.value);
         let answered = answered_since(held.value.history(), known);
         self.turnstile.leave(pass, held);
-        wake(&self.bells, &answered);
+        wake(&self.bells, self.roll.as_deref(), &answered);
         match served {
             Ok(answer) => Ok(answer),
             Err(fault) => Err(call_fault(fault)),
@@ -315,6 +356,7 @@ impl SharedCentre {
         let SharedCentre {
             turnstile,
             bells: _,
+            roll: _,
         } = self;
         turnstile.close(ended)
     }

@@ -1,7 +1,7 @@
 //! Where agents sleep until their requests are answered. Nothing here is part of any claim: a bell
 //! that rings for no reason does no harm.
 use std::sync::Wait;
-use tc_bells::Bells;
+use tc_bells::{Bells, Roll};
 use tc_model::Entry;
 
 /// How often the agent's bell has rung.
@@ -62,19 +62,26 @@ fn note(answered: &mut Answered, agent: u32) {
     }
 }
 
-/// Wakes these agents, once the turn that has answered them was passed on.
+/// Wakes these agents, and calls them on the roll, once the turn that has answered them was passed
+/// on.
 ///
 /// No wake-up is lost: an agent reads how often its bell has rung before it looks, and again before
 /// it reads the count of entries, and the bell of an agent that is answered rings after that count
 /// has risen. So it sees the answer, or the bell rings behind what it has read and ends its sleep.
-pub(crate) fn wake(bells: &Bells, answered: &Answered) {
+pub(crate) fn wake(bells: &Bells, roll: Option<&Roll>, answered: &Answered) {
     if answered.are_more {
         bells.ring_all();
+        if let Some(roll) = roll {
+            roll.call_all();
+        }
         return;
     }
     for agent in answered.agents.get(..answered.count).unwrap_or(&[]) {
         if let Some(bell) = bells.get(*agent as usize) {
             bell.ring();
+        }
+        if let Some(roll) = roll {
+            roll.call(*agent as usize);
         }
     }
 }

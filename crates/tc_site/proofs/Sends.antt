@@ -5,6 +5,9 @@ use denote.Ref.{NamedLft}
 use denote.Struct.Declared.{shape}
 use denote.RattleType.{RattleType}
 use Rattle.std.proofs.Crossing.{crosses}
+use Rattle.std.below.std_heap.proofs.GlobalAllocator.TheSendSync as galloc
+use Rattle.std.proofs.alloc.Global.TheSendSync as global
+use Rattle.tc_bells.proofs.roll.Roll.TheSendSync as roll
 use Rattle.tc_desk.proofs.Sends.{row_send}
 use Rattle.tc_desk.specs.declared.wardens.Warden as Warden
 use Rattle.tc_shared.proofs.Sends.{core_send, shared_sync}
@@ -25,7 +28,7 @@ site_inside_sync W g warden =
     recorded_sync (site_inside.the_field W g).row _ _ T.to_one
     (struct_sync (shape T) (
       (search (crosses, name.the_sync, sendable) depth 60),
-      (search (crosses, shared_sync, sendable) depth 60, (search (crosses, sendable) depth 60, (warden, tt))),
+      (search (crosses, shared_sync, sendable) depth 60, (search (crosses, sendable) depth 60, (warden, (search (crosses, roll.the_send, roll.the_sync, global.the_send, galloc.the_frees, sendable) depth 60, tt)))),
     ))
 
 pub site_sync : (W : RattleType) (g : Warden.Ghosts W.Denot) → IsSync W → IsSync (site.the_row W g)

@@ -9,6 +9,8 @@ use crate::kits::DeskKit;
 use crate::sites::Site;
 use std::alloc::Global;
 use std::snapshot::Snapshot;
+use std::sync::Arc;
+use tc_bells::Roll;
 use tc_centre::Core;
 use tc_config::AgentConf;
 use tc_desk::Warden;
@@ -25,8 +27,13 @@ pub(crate) struct Opened {
     pub(crate) columns: Vec<Vec<CentrePass>>,
 }
 
-/// Shares each core among so many agents.
-pub(crate) fn open_all(alloc: Global, cores: Vec<Core>, agents: usize) -> Result<Opened, NoMemory>
+/// Shares each core among so many agents, who are called on the roll.
+pub(crate) fn open_all(
+    alloc: Global,
+    cores: Vec<Core>,
+    agents: usize,
+    roll: &Arc<Roll>,
+) -> Result<Opened, NoMemory>
     requires unserved { All (λ (x : Centre). x.history ≡ []) cores.items }
     requires agents_are { All (λ (x : Centre). length x.origin.agents ≡ agents) cores.items }
     ensures { IfOk result (λ opened.
@@ -35,7 +42,7 @@ pub(crate) fn open_all(alloc: Global, cores: Vec<Core>, agents: usize) -> Result
     let mut centres = Vec::with_capacity(alloc, cores.len())?;
     let mut columns = empty_columns(alloc, agents, cores.len())?;
     for core in cores {
-        let (centre, passes) = SharedCentre::new(alloc, core, TURNS)?;
+        let (centre, passes) = SharedCentre::with_roll(alloc, core, TURNS, Arc::try_clone(roll)?)?;
         deal(&mut columns, passes)?;
         centres.push(centre)?;
     }

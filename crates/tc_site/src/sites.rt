@@ -14,6 +14,8 @@ use crate::kits::{Closed, DeskKit, EndedDesk};
 use crate::sharing::{Opened, kits, open_all, roles};
 use std::alloc::Global;
 use std::marker::Model;
+use std::sync::Arc;
+use tc_bells::Roll;
 use tc_centre::Core;
 use tc_config::{AgentConf, Config, centre_names};
 use tc_desk::Warden;
@@ -28,6 +30,7 @@ pub struct Site<W: Warden> {
     pub(crate) centres: Vec<SharedCentre>,
     pub(crate) roles: Vec<u32>,
     pub(crate) warden: W,
+    pub(crate) roll: Arc<Roll>,
 }
 
 impl<W: Warden> Model for Site<W> {
@@ -58,6 +61,11 @@ impl<W: Warden> Site<W> {
         ensures site { IsSite self.now.names self.now.centres self.now.roles }
     {
         &self.names
+    }
+
+    /// The roll of the agents, by their places. An agent is called once its request was answered.
+    pub fn roll(&self) -> &Roll {
+        &self.roll
     }
 
     /// The name of the centre at a place.
@@ -127,12 +135,14 @@ impl<W: Warden + Drop> Site<W> {
             AreOfSite (λ (k : KitState W). k.site) (λ (k : KitState W). k.agent) r.0 r.1.items) }
     {
         let roles = roles(alloc, agents)?;
-        let Opened { centres, columns } = open_all(alloc, cores, agents.len())?;
+        let roll = Arc::new(alloc, Roll::new(alloc, agents.len())?)?;
+        let Opened { centres, columns } = open_all(alloc, cores, agents.len(), &roll)?;
         let site = Site {
             names,
             centres,
             roles,
             warden,
+            roll,
         };
         let kits = kits(alloc, &site, columns)?;
         Ok((site, kits))

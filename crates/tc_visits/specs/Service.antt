@@ -1,6 +1,6 @@
 -- A whole service: sessions over the connections of a door, and what they leave at the centres.
-use Rattle.std.specs.Prelude.{◌≡◌, ◌≤◌, ◌<◌, zero, suc, ℕ, Bool, true, false, not, List, [], ◌∷◌}
-use Rattle.std.specs.Prelude.{All, length, map, Option, Some, slice_get}
+use Rattle.std.specs.Prelude.{◌≡◌, ◌≤◌, ◌<◌, ◌⊎◌, zero, suc, ℕ, Bool, true, false, not}
+use Rattle.std.specs.Prelude.{List, [], ◌∷◌, All, length, map, Option, Some, slice_get}
 use Rattle.std.specs.List.{list_any}
 use Rattle.tc_config.specs.Configurations.{Configuration, centre_names}
 use Rattle.tc_config.specs.Good.{Permits, origin_of}
@@ -66,6 +66,18 @@ HaveSessions true sessions agents door after =
     (sessions ≡ agents) × (after.faults ≡ door.faults)
 HaveSessions false sessions agents door after =
     (sessions < agents) × CountRises door.faults after.faults
+
+-- a door was used for so many agents: meanwhile it has opened a connection for each, and no call of
+-- it has failed; or fewer, and one has
+pub record UsesDoor (agents : ℕ) (door after : DoorState) : Type 0 where
+  pub connections : List Connection
+  pub opened : after.opened ≡ opened_all door.opened connections
+  pub all : Bool
+  pub all_are : HaveSessions all (length connections) agents door after
+
+-- a door is as it was, or it was used for so many agents
+abbrev pub MayUseDoor : ℕ → DoorState → DoorState → Type 0
+MayUseDoor agents door after = (after ≡ door) ⊎ UsesDoor agents door after
 
 -- the session has ended for want of memory
 abbrev pub lacked_memory : SessionEnd → Bool

@@ -47,7 +47,6 @@ impl<L: Link + Send + Drop> Room<L> {
 ///
 /// The connections are the agents', in order. After the first that can't be accepted none is. Where
 /// no thread can be started, the session is served here, before the next connection is accepted.
-/// Where memory ends no connection was accepted.
 pub fn serve_all<R: Threads + Wait + Sync, D: Door>(
     rt: &R,
     alloc: Global,
@@ -58,7 +57,7 @@ pub fn serve_all<R: Threads + Wait + Sync, D: Door>(
     requires { AreKitsOf site.now kits.items }
     ensures served { IfOk result (λ s. AreServed kits.items (D.opened door.old) (D.opened door.new)
         (D.door_faults door.old) (D.door_faults door.new) s.visits.items s.idle.items) }
-    ensures same { OnErr result (D.opened door.new ≡ D.opened door.old) }
+    ensures same { OnErr result (door.new ≡ door.old) }
 {
     let room = Room::new(alloc, kits.len())?;
     let mut served = Served {

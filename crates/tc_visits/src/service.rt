@@ -1,10 +1,10 @@
 //! The service of a configuration, from its opened centres to its settled logs.
 ghost use Rattle.std.specs.List.{list_any};
-ghost use Rattle.std.specs.Prelude.{◌≡◌, ◌<◌, ◌++◌, All, length, map, not, IfOk};
+ghost use Rattle.std.specs.Prelude.{◌≡◌, ◌<◌, ◌++◌, All, length, map, not, IfOk, OnErr};
 ghost use Rattle.tc_desk.specs.Logs.{rows_of};
 ghost use Rattle.tc_runner.specs.Cores.{histories};
 ghost use Rattle.tc_runner.specs.Runs.{HasCores, IsFresh};
-ghost use Rattle.tc_visits.specs.Service.{IsServiceBy, door_of, lacked_memory};
+ghost use Rattle.tc_visits.specs.Service.{IsServiceBy, MayUseDoor, door_of, lacked_memory};
 ghost use Rattle.tc_visits.specs.Serving.{AreKitsOf, desk_left, desk_unused};
 ghost use Rattle.tc_visits.specs.Visits.{IsVisit, VisitState};
 
@@ -37,7 +37,7 @@ pub struct Service {
 ///
 /// The connections are the agents', in order. After the first that can't be accepted none is. Then
 /// the centres are closed, and the logs settled. No script is run. Where memory ends nothing is
-/// left of the run, but the door has opened what it has.
+/// left of the run.
 pub fn serve<R: Threads + Wait + Sync, D: Door>(
     rt: &R,
     alloc: Global,
@@ -50,6 +50,8 @@ pub fn serve<R: Threads + Wait + Sync, D: Door>(
         (door_of D.opened D.door_faults door.new) s.all s.enough opened.plan
         (histories opened.plan s.run.cores.items) (rows_of s.run.logs.items)) }
     ensures cores { IfOk result (λ s. HasCores s.run) }
+    ensures door { OnErr result (MayUseDoor (length opened.plan.agents)
+        (door_of D.opened D.door_faults door.old) (door_of D.opened D.door_faults door.new)) }
 {
     if opened.plan.agents().is_empty() {
         return Ok(Service {
@@ -75,6 +77,8 @@ fn serve_some<R: Threads + Wait + Sync, D: Door>(
         (door_of D.opened D.door_faults door.new) s.all s.enough opened.plan
         (histories opened.plan s.run.cores.items) (rows_of s.run.logs.items)) }
     ensures cores { IfOk result (λ s. HasCores s.run) }
+    ensures door { OnErr result (MayUseDoor (length opened.plan.agents)
+        (door_of D.opened D.door_faults door.old) (door_of D.opened D.door_faults door.new)) }
 {
     let Opened { plan, cores, .. } = opened;
     let names = plan.copy_centres(alloc)?;

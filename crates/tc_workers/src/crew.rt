@@ -15,7 +15,7 @@ use tc_config::AgentConf;
 use tc_desk::{Gate, Warden};
 use tc_lists::NoMemory;
 use tc_policy::Roles;
-use tc_sched::{Actor, drive};
+use tc_sched::{Actor, drive_called};
 use tc_site::{AgentDesk, DeskKit, EndedDesk, Site};
 use tc_term::Name;
 
@@ -41,7 +41,15 @@ pub(crate) fn drive_all<R: Threads + Wait + Sync, G: Gate + Sync>(
         AreLeft ⟦<Roles as Warden>⟧.permits site.now agents.items r.1.items) }
 {
     let (agents, mut crew) = at_desks(alloc, site, kits, agents)?;
-    drive(rt, &mut crew, alloc, names, workers, gate)?;
+    drive_called(
+        rt,
+        &mut crew,
+        alloc,
+        names,
+        workers,
+        gate,
+        Some(site.roll()),
+    )?;
     end_all(alloc, crew, agents)
 }
 

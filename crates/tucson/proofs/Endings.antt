@@ -1,10 +1,10 @@
 -- How a call ends, from what it read and what it wrote.
-use Rattle.std.proofs.Common.{◌≡◌, ℕ, List, sym, subst, inl, inr}
+use Rattle.std.proofs.Common.{◌≡◌, ◌⊎◌, ℕ, List, sym, subst, inl, inr}
 use Rattle.tc_io.specs.Sinks.{appended}
 use Rattle.tucson.specs.declared.status.Status.{Status}
 use Rattle.tucson.specs.declared.status.Status.TheVariants.{Ended, WriteFault, Refused, Blocked, No, ReadFault, NoMemory, Usage, NetFault}
 use Rattle.tucson.specs.Answer.{Input}
-use Rattle.tucson.specs.Ending.{Call, EndsAsDue, Ends, IsDueTo, IsInputOf, WritesDue, Writes}
+use Rattle.tucson.specs.Ending.{Call, EndsAsDue, Ends, IsDueTo, IsInputOf, Serves, WritesDue, Writes}
 
 module _ (call : Call) where
   answers : (status same : Status) (input : Input) (text : List ℕ) → IsInputOf call input
@@ -35,10 +35,14 @@ module _ (call : Call) where
   Ends-written status NoMemory input text read due wrote =
       inr (record { input = input; status = status; text = text; read = read; due = due; taken = wrote })
 
+  -- how the door stands where memory ran out
+  abbrev pub Leaves : Status → Type 0
+  Leaves result = result ≡ NoMemory → (call.door_after ≡ call.door) ⊎ Serves call
+
   -- what is due was written, or the writing was stopped, or memory ran out before
   pub Ends-told : (due : Status → List ℕ → Type 0) (result : Status) (input : Input) → IsInputOf call input
       → ((status : Status) (text : List ℕ) → due status text → IsDueTo call input status text)
-      → WritesDue due call.sink call.sink_after result → Ends call result
-  Ends-told due result input read is_due (inl told) =
+      → WritesDue due call.sink call.sink_after result → Leaves result → Ends call result
+  Ends-told due result input read is_due (inl told) door =
       Ends-written told.status result input told.text read (is_due told.status told.text told.is) told.writes
-  Ends-told due result input read is_due (inr none) = subst (Ends call) (sym none.0) (inl none.1)
+  Ends-told due result input read is_due (inr none) door = subst (Ends call) (sym none.0) (inl (record { nothing = none.1; door = door none.0 }))

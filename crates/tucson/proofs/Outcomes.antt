@@ -1,5 +1,6 @@
 -- Texts of runs and of services, as the outcomes that are due.
-use Rattle.std.proofs.Common.{◌≡◌, ◌⊎◌, ℕ, Bool, true, false, List, [], All, refl, sym, subst, inl, inr}
+use Rattle.std.proofs.Common.{◌≡◌, ◌⊎◌, ℕ, Bool, true, false, List, [], All, length, map, refl, sym, subst, inl, inr}
+use Rattle.std.proofs.lemmas.List.{length-map}
 use Rattle.tc_config.specs.Configurations.{Configuration}
 use Rattle.tc_desk.specs.Logs.{is_blocked}
 use Rattle.tc_desk.specs.Typed.{IsTypedRow}
@@ -9,7 +10,8 @@ use Rattle.tc_io.specs.Sinks.{SinkState}
 use Rattle.tc_io.proofs.Flows.{appended-nil}
 use Rattle.tc_model.specs.Typed.{IsTyped}
 use Rattle.tc_model.specs.declared.entries.Entry.{Entry}
-use Rattle.tc_visits.specs.Service.{DoorState, IsServiceBy}
+use Rattle.tc_visits.specs.Service.{DoorState, HaveSessions, IsServiceBy, MayUseDoor, UsesDoor}
+use Rattle.tc_visits.specs.Sessions.{SessionState}
 use Rattle.tucson.specs.Answer.{IsOutcomeOf, IsOutcomeOfService, IsTextOf}
 use Rattle.tucson.specs.Ending.{IsFault, IsStopped, WritesDue, Writes}
 use Rattle.tucson.specs.Status.{status_of_run, status_of_service}
@@ -66,6 +68,23 @@ pub listen_fails : (door after : DoorState) (c : Configuration) (sink : SinkStat
 listen_fails door after c sink rises same =
     due_written (IsOutcomeOfService door after c) NetFault [] sink sink NetFault
     (inl (record { rises = rises; same = same; nothing = refl })) (refl, sym (appended-nil sink.taken))
+
+-- a service has used the door for its agents
+pub service_used : (door after : DoorState) (c : Configuration) (all enough : Bool) (histories : Hists) (logs : Logs)
+    → IsServiceBy door after all enough c histories logs → UsesDoor (length c.agents) door after
+service_used door after c all enough histories logs is = record {
+  connections = map (λ (s : SessionState). s.connection) is.sessions;
+  opened = is.opened;
+  all = all;
+  all_are = subst (λ n. HaveSessions all n (length c.agents) door after) (sym (length-map is.sessions (λ (s : SessionState). s.connection))) is.all_are;
+}
+
+-- a door that was used after it has listened
+pub listened_use : (agents : ℕ) (door listened after : DoorState) → listened.opened ≡ door.opened → listened.faults ≡ door.faults
+    → MayUseDoor agents listened after → MayUseDoor agents door after
+listened_use agents door listened after opened faults uses =
+    let same : listened ≡ door = λ i. record { opened = opened i; faults = faults i } in
+    subst (λ (d : DoorState). MayUseDoor agents d after) same uses
 
 -- no call of the door has failed, unless that is told
 abbrev pub Nets : DoorState → DoorState → Status → Type 0

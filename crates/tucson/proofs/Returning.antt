@@ -1,5 +1,5 @@
 -- How a call of a command returns, from what it found of its configuration and what it wrote.
-use Rattle.std.proofs.Common.{◌≡◌, ℕ, List, [], Option, Some, None, false, refl, sym, ap, subst, inl, inr}
+use Rattle.std.proofs.Common.{◌≡◌, ◌+◌, ℕ, List, [], Option, Some, None, false, refl, sym, ap, subst, inl, inr, arith}
 use Rattle.tc_config.specs.Configurations.{Configuration}
 use Rattle.tc_config.specs.Texts.{IsRefused, Spells}
 use Rattle.tc_config.specs.declared.faults.ConfigCause.{ConfigCause}
@@ -7,7 +7,7 @@ use Rattle.tc_config.specs.declared.faults.ConfigCause.TheVariants as cause
 use Rattle.tc_config.specs.declared.limits.TheConstants.{MOST_BYTES}
 use Rattle.tc_io.specs.Faults.{CountRises, Counts}
 use Rattle.tc_io.specs.Sinks.{SinkState}
-use Rattle.tc_io.specs.Sources.{SourceState}
+use Rattle.tc_io.specs.Sources.{ReadsSome, SourceState}
 use Rattle.tc_load.specs.Workload.{load_text}
 use Rattle.tc_verify.specs.Judgements.{IsRefusedWith}
 use Rattle.tc_verify.specs.declared.verdicts.Verdict.{Verdict}
@@ -20,13 +20,13 @@ use Rattle.tucson.specs.declared.reading.Stop.TheVariants as stop
 use Rattle.tucson.specs.declared.status.Status.{Status}
 use Rattle.tucson.specs.declared.status.Status.TheVariants.{Ended, WriteFault, Refused, Blocked, No, ReadFault, NoMemory, Usage, NetFault}
 use Rattle.tucson.specs.Answer.{Input, Unread, Whole, TooLong, IsDue, IsDueForText, IsInput, IsOutcome, IsOutcomeOfVerdict, IsTakenAs, ReadsInput, most_read}
-use Rattle.tucson.specs.Ending.{Call, Ends, IsFault, LeavesDoor, Returns, WritesDue, Writes}
+use Rattle.tucson.specs.Ending.{Call, Ends, IsFault, LeavesDoor, Returns, WritesDue, Writes, most_taken}
 use Rattle.tucson.specs.Reading.{IsRefusedInput, IsStopFor, Refusing, StopsReading, TellsStop}
 use Rattle.tucson.specs.Status.{status_of_verdict}
 use Rattle.tucson.specs.declared.limits.TheConstants.{MOST_INPUT}
 use Rattle.tc_config.specs.Refusals.{refused_text}
 use Rattle.tucson.proofs.Dues.{ends_as_due}
-use Rattle.tucson.proofs.Endings.{Ends-told, Ends-written}
+use Rattle.tucson.proofs.Endings.{Ends-told, Ends-written, Leaves}
 use Rattle.tucson.proofs.Outcomes.{Nets}
 
 -- a call of a command, or of none
@@ -47,6 +47,11 @@ leaves (Some (Run workers)) door = refl
 leaves (Some (Load agents start)) door = refl
 leaves (Some (Serve port)) door = tt
 leaves (Some Verify) door = refl
+
+-- nothing is read
+pub reads_nothing : (left : Option (List ℕ)) → ReadsSome left left 0
+reads_nothing None = refl
+reads_nothing (Some left) = (0, omega arith, refl)
 
 -- the status of a verdict is no refusal, and no fault
 verdict-no_refusal : (v : Verdict) (clause : ℕ) (why : ConfigCause) → Refused clause why ≡ status_of_verdict v → ⊥
@@ -99,18 +104,18 @@ text_due command door after Unread spelt rest taken status text due = (spelt, re
 text_due command door after (Whole input) spelt rest taken status text due = (spelt, rest, taken, due)
 text_due command door after TooLong spelt rest taken status text due = absurd (never_long command spelt rest taken)
 
-module _ (command : Command) (door after : DoorState) (IsNone : Refusing) where
+module _ (command : Command) (door : DoorState) (IsNone : Refusing) where
   -- this refusal is due where the whole input is refused for that
   abbrev IsDueRefusal : List ℕ → ℕ → ConfigCause → Type 0
-  IsDueRefusal input clause why = IsDue (Some command) door after (Whole input) (Refused clause why) (refused_text clause why)
+  IsDueRefusal input clause why = IsDue (Some command) door door (Whole input) (Refused clause why) (refused_text clause why)
 
   -- a refusal is due for the input that is refused
   refusal_due : (input : Input) (clause : ℕ) (why : ConfigCause) → ReadsInput command
       → ((text : List ℕ) → IsNone text clause why → IsDueRefusal text clause why)
-      → IsRefusedInput IsNone input clause why → IsDue (Some command) door after input (Refused clause why) (refused_text clause why)
+      → IsRefusedInput IsNone input clause why → IsDue (Some command) door door input (Refused clause why) (refused_text clause why)
   refusal_due Unread clause why reads whole refused = absurd refused
   refusal_due (Whole input) clause why reads whole refused = whole input refused
-  refusal_due TooLong clause cause.Length reads whole refused = (reads, refused.0, ap (λ n. refused_text n cause.Length) refused.0)
+  refusal_due TooLong clause cause.Length reads whole refused = (reads, refused.0, ap (λ n. refused_text n cause.Length) refused.0, refl)
   refusal_due TooLong clause cause.Syntax reads whole refused = absurd (cc)
   refusal_due TooLong clause cause.Size reads whole refused = absurd (cc)
   refusal_due TooLong clause cause.Shape reads whole refused = absurd (cc)
@@ -138,7 +143,7 @@ serve_reads port = record { reads = tt; most = refl; whole = λ input. (refl, re
 abbrev pub StopsCommand : Command → SourceState → SourceState → Stop → Type 0
 StopsCommand command source after (stop.Refused clause why) =
     (input : Input) × IsInput (most_read command) source.left after.left input
-    × ((door : DoorState) (door_after : DoorState) → IsDue (Some command) door door_after input (Refused clause why) (refused_text clause why))
+    × ((door : DoorState) → IsDue (Some command) door door input (Refused clause why) (refused_text clause why))
 StopsCommand command source after stop.ReadFault =
     ReadsInput command × (source.sure ≡ false) × CountRises source.read_faults after.read_faults
 StopsCommand command source after stop.NoMemory = Unit {0}
@@ -147,12 +152,13 @@ module _ (command : Command) (source source_after : SourceState) (sink sink_afte
   abbrev call : Call
   call = called (Some command) source source_after sink sink_after door door_after
 
-  returning : (status : Status) → Ends call status → Counts (status ≡ ReadFault) source.read_faults source_after.read_faults
+  returning : (status : Status) → Ends call status → ReadsSome source.left source_after.left (most_taken (Some command)) → Counts (status ≡ ReadFault) source.read_faults source_after.read_faults
       → Counts (status ≡ WriteFault) sink.write_faults sink_after.write_faults → LeavesDoor (Some command) door door_after
       → Nets door door_after status → Returns call status
-  returning status ends reads writes left nets = record {
+  returning status ends rest reads writes left nets = record {
     ends = ends;
     due = ends_as_due call status ends;
+    rest = rest;
     reads = reads;
     writes = writes;
     door = left;
@@ -162,15 +168,15 @@ module _ (command : Command) (source source_after : SourceState) (sink sink_afte
   -- the command's configuration was found, and what is due for it and for what stands behind it was written
   pub returns-told : (input : Input) (spelt rest : List ℕ) (c : Configuration) (status : Status)
       → IsInput (most_read command) source.left source_after.left input → IsTakenAs command input spelt rest → Spells spelt c
-      → WritesDue (IsOutcome command door door_after rest c) sink sink_after status
-      → (status ≡ ReadFault → ⊥) → source_after.read_faults ≡ source.read_faults
+      → WritesDue (IsOutcome command door door_after rest c) sink sink_after status → Leaves call status
+      → ReadsSome source.left source_after.left (most_taken (Some command)) → (status ≡ ReadFault → ⊥) → source_after.read_faults ≡ source.read_faults
       → Counts (status ≡ WriteFault) sink.write_faults sink_after.write_faults → LeavesDoor (Some command) door door_after
       → Nets door door_after status → Returns call status
-  returns-told input spelt rest c status read taken spells told sure same writes left nets =
+  returns-told input spelt rest c status read taken spells told leaving some sure same writes left nets =
       returning status
       (Ends-told call (IsOutcome command door door_after rest c) status input read
-      (λ s text is. text_due command door door_after input spelt rest taken s text (outcome_due command door door_after spelt rest c spells s text is)) told)
-      (record { failed = λ is. absurd (sure is); unfailed = λ other. same }) writes left nets
+      (λ s text is. text_due command door door_after input spelt rest taken s text (outcome_due command door door_after spelt rest c spells s text is)) told leaving)
+      some (record { failed = λ is. absurd (sure is); unfailed = λ other. same }) writes left nets
 
 module _ (command : Command) (source source_after : SourceState) (sink sink_after : SinkState) (door : DoorState) where
   abbrev untouched : Call
@@ -179,11 +185,11 @@ module _ (command : Command) (source source_after : SourceState) (sink sink_afte
   stopped_ends : (why : Stop) (status : Status) → StopsCommand command source source_after why → TellsStop why sink sink_after status
       → Ends untouched status
   stopped_ends (stop.Refused clause why) status stops tells =
-      Ends-written untouched (Refused clause why) status stops.0 (refused_text clause why) stops.1 (stops.2 door door) tells
+      Ends-written untouched (Refused clause why) status stops.0 (refused_text clause why) stops.1 (stops.2 door) tells
   stopped_ends stop.ReadFault status stops tells =
       subst (Ends untouched) (sym tells.0)
-      (record { rises = stops.2; unsure = stops.1; command = command; asks = refl; reads = stops.0; nothing = tells.1 })
-  stopped_ends stop.NoMemory status stops tells = subst (Ends untouched) (sym tells.0) (inl tells.1)
+      (record { rises = stops.2; unsure = stops.1; command = command; asks = refl; reads = stops.0; nothing = tells.1; unused = refl })
+  stopped_ends stop.NoMemory status stops tells = subst (Ends untouched) (sym tells.0) (inl (record { nothing = tells.1; door = inl refl }))
 
   read_fault : (why : Stop) (status : Status) → why ≡ stop.ReadFault → TellsStop why sink sink_after status → status ≡ ReadFault
   read_fault (stop.Refused clause why) status is tells = absurd (cc)
@@ -192,12 +198,12 @@ module _ (command : Command) (source source_after : SourceState) (sink sink_afte
 
   -- the command has no configuration, and what stopped it was told
   pub returns-stopped : (why : Stop) (status : Status) → StopsCommand command source source_after why
-      → Counts (why ≡ stop.ReadFault) source.read_faults source_after.read_faults → TellsStop why sink sink_after status
+      → ReadsSome source.left source_after.left (most_taken (Some command)) → Counts (why ≡ stop.ReadFault) source.read_faults source_after.read_faults → TellsStop why sink sink_after status
       → (status ≡ ReadFault → why ≡ stop.ReadFault) → Counts (status ≡ WriteFault) sink.write_faults sink_after.write_faults
       → Returns untouched status
-  returns-stopped why status stops counts tells reads writes =
+  returns-stopped why status stops some counts tells reads writes =
       returning command source source_after sink sink_after door door status (stopped_ends why status stops tells)
-      (record {
+      some (record {
         failed = λ is. counts.failed (reads is);
         unfailed = λ other. counts.unfailed (λ is. other (read_fault why status is tells));
       }) writes (leaves (Some command) door) (λ other. inr refl)
@@ -209,9 +215,9 @@ pub reading_stops : (command : Command) (source source_after : SourceState) (why
 reading_stops command source source_after (stop.Refused clause why) config stops counts = (
   stops.0,
   subst (λ (most : ℕ). IsInput most source.left source_after.left stops.0) (sym config.most) stops.1,
-  λ door door_after.
-      refusal_due command door door_after IsRefused stops.0 clause why config.reads
-      (λ text refused. (text, [], config.whole text, record { refused = refused; is = refl })) stops.2,
+  λ door.
+      refusal_due command door IsRefused stops.0 clause why config.reads
+      (λ text refused. (text, [], config.whole text, record { refused = refused; is = refl; unused = refl })) stops.2,
 )
 reading_stops command source source_after stop.ReadFault config stops counts = (config.reads, stops, counts.failed refl)
 reading_stops command source source_after stop.NoMemory config stops counts = tt
@@ -222,9 +228,9 @@ pub judging_stops : (source source_after : SourceState) (why : Stop) → StopsRe
 judging_stops source source_after (stop.Refused clause why) stops counts = (
   stops.0,
   stops.1,
-  λ door door_after.
-      refusal_due Verify door door_after IsRefusedWith stops.0 clause why tt
-      (λ text refused. (refused.first, refused.second, refused.parts, record { refused = refused.refused; is = refl })) stops.2,
+  λ door.
+      refusal_due Verify door IsRefusedWith stops.0 clause why tt
+      (λ text refused. (refused.first, refused.second, refused.parts, record { refused = refused.refused; is = refl; unused = refl })) stops.2,
 )
 judging_stops source source_after stop.ReadFault stops counts = (tt, stops, counts.failed refl)
 judging_stops source source_after stop.NoMemory stops counts = tt
@@ -233,7 +239,7 @@ judging_stops source source_after stop.NoMemory stops counts = tt
 pub loading_stops : (agents start : ℕ) (source : SourceState) (why : Stop) → IsStopFor IsRefused (load_text agents start) why
     → StopsCommand (Load agents start) source source why
 loading_stops agents start source (stop.Refused clause why) stops =
-    (Unread, refl, λ door door_after. (load_text agents start, [], (refl, refl), record { refused = stops; is = refl }))
+    (Unread, refl, λ door. (load_text agents start, [], (refl, refl), record { refused = stops; is = refl; unused = refl }))
 loading_stops agents start source stop.ReadFault stops = absurd stops
 loading_stops agents start source stop.NoMemory stops = tt
 
@@ -254,6 +260,7 @@ returns-usage source sink sink_after door text status due wrote sure writes =
     record {
       ends = ends;
       due = ends_as_due call status ends;
+      rest = reads_nothing source.left;
       reads = record { failed = λ is. absurd (sure is); unfailed = λ other. refl };
       writes = writes;
       door = refl;

@@ -1,15 +1,22 @@
 -- Why a call has no configuration, by what was wrong with its input.
-use Rattle.std.proofs.Common.{◌≡◌, ◌∙◌, ℕ, true, List, Result, Ok, Err, IfErr, refl, ap, sym, subst}
+use Rattle.std.proofs.Common.{◌≡◌, ◌∙◌, ◌+◌, ℕ, true, List, [], Option, None, Some, Result, Ok, Err, IfErr, refl, ap, sym, subst, arith, append-nil}
 use Rattle.std.proofs.lemmas.Bool.{false_from_ne_true}
 use Rattle.std.specs.Result.{IsErrAnd, IsErrOf}
 use Rattle.tc_io.specs.Faults.{Counts}
-use Rattle.tc_io.specs.Sources.{ReadsAll, ReadsPast, SourceState}
+use Rattle.tc_io.specs.Sources.{ReadsAll, ReadsPast, ReadsSome, SourceState}
+use Rattle.tc_io.proofs.Inputs.{ReadsBytes-count}
 use Rattle.tc_io.specs.declared.whole.InputFault.{InputFault}
 use Rattle.tc_io.specs.declared.whole.InputFault.TheVariants as input
 use Rattle.tucson.specs.Answer.{TooLong, Whole}
 use Rattle.tucson.specs.Reading.{IsStopFor, Refusing, StopsReading, stop_of_input}
 use Rattle.tucson.specs.declared.reading.Stop.{Stop}
 use Rattle.tucson.specs.declared.reading.Stop.TheVariants.{Refused, ReadFault, NoMemory}
+
+-- who reads the whole input takes no more than it may have
+pub all_some : (left rest : Option (List ℕ)) (most : ℕ) (text : List ℕ) → ReadsAll left rest most text → ReadsSome left rest (most + 1)
+all_some None rest most text read = read.1
+all_some (Some left) rest most text read =
+    ReadsBytes-count (Some left) rest (most + 1) text ([], read.1 ∙ sym (append-nil text), read.2) (omega (arith, read.0))
 
 module _ (most : ℕ) (IsRefused : Refusing) (source after : SourceState) where
   -- the input couldn't be read

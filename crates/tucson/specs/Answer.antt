@@ -100,18 +100,19 @@ pub record IsOutcomeFor (command : Command) (door after : DoorState) (spelt rest
   pub spells : Spells spelt config
   pub outcome : IsOutcome command door after rest config status text
 
--- what is written where the configuration is refused that is spelt so
-pub record IsRefusal (spelt : List ℕ) (clause : ℕ) (why : ConfigCause) (text : List ℕ)
-    : Type 0 where
+-- the configuration is refused that is spelt so: this is written, and the door is as it was
+pub record IsRefusal (door after : DoorState) (spelt : List ℕ) (clause : ℕ) (why : ConfigCause)
+    (text : List ℕ) : Type 0 where
   pub refused : IsRefused spelt clause why
   pub is : text ≡ refused_text clause why
+  pub unused : after ≡ door
 
 -- the status and the text that are due to a command whose configuration is spelt so, with that
 -- behind it
 abbrev pub IsDueForText : Command → DoorState → DoorState → List ℕ → List ℕ → Status → List ℕ
     → Type 0
 IsDueForText command door after spelt rest (Refused clause why) text =
-    IsRefusal spelt clause why text
+    IsRefusal door after spelt clause why text
 IsDueForText command door after spelt rest status text =
     IsOutcomeFor command door after spelt rest status text
 
@@ -126,6 +127,12 @@ abbrev pub IsInput : ℕ → Option (List ℕ) → Option (List ℕ) → Input �
 IsInput most left rest Unread = rest ≡ left
 IsInput most left rest (Whole input) = ReadsAll left rest most input
 IsInput most left rest TooLong = ReadsPast left rest most
+
+-- the configuration is spelt by all that was left
+pub record FindsConfig (left rest : Option (List ℕ)) (c : Configuration) : Type 0 where
+  pub spelt : List ℕ
+  pub read : ReadsAll left rest MOST_BYTES spelt
+  pub spells : Spells spelt c
 
 -- the most bytes that a command's input may have: a configuration, or one with a text behind it
 abbrev pub most_read : Command → ℕ
@@ -161,5 +168,5 @@ IsDue (Some command) door after (Whole input) status text =
     (spelt : List ℕ) × (rest : List ℕ) × IsTakenAs command (Whole input) spelt rest
     × IsDueForText command door after spelt rest status text
 IsDue (Some command) door after TooLong (Refused clause cause.Length) text =
-    ReadsInput command × (clause ≡ 0) × (text ≡ refused_text 0 cause.Length)
+    ReadsInput command × (clause ≡ 0) × (text ≡ refused_text 0 cause.Length) × (after ≡ door)
 IsDue command door after input status text = ⊥

@@ -1,7 +1,7 @@
 -- How a call ends, by its status.
-use Rattle.std.specs.Prelude.{◌≡◌, ◌<◌, ◌≤◌, ℕ, ◌⊎◌, false, Option, Some, None, List, length}
+use Rattle.std.specs.Prelude.{◌≡◌, ◌<◌, ◌≤◌, ◌+◌, ℕ, ◌⊎◌, false, Option, Some, None, List, length}
 use Rattle.tc_io.specs.Faults.{CountRises, Counts}
-use Rattle.tc_io.specs.Sources.{SourceState}
+use Rattle.tc_io.specs.Sources.{ReadsSome, SourceState}
 use Rattle.tc_io.specs.Sinks.{SinkState, AppendsFront, appended}
 use Rattle.tc_config.specs.Configurations.{Configuration}
 use Rattle.tc_config.specs.Texts.{IsRefused, Spells}
@@ -13,14 +13,14 @@ use Rattle.tc_verify.specs.Inputs.{IsParted}
 use Rattle.tc_verify.specs.Judgements.{IsRefusedWith}
 use Rattle.tc_verify.specs.Verdicts.{IsVerdict}
 use Rattle.tc_verify.specs.declared.verdicts.Verdict.{Verdict}
-use Rattle.tc_visits.specs.Service.{DoorState}
+use Rattle.tc_visits.specs.Service.{DoorState, UsesDoor}
 use Rattle.tucson.specs.declared.command.Command.{Command}
 use Rattle.tucson.specs.declared.command.Command.TheVariants.{Run, Load, Serve, Verify}
 use Rattle.tucson.specs.declared.status.Status.{Status}
 use Rattle.tucson.specs.declared.status.Status.TheVariants.{Ended, WriteFault, Refused, Blocked}
 use Rattle.tucson.specs.declared.status.Status.TheVariants.{ReadFault, NoMemory, Usage, NetFault}
 use Rattle.tucson.specs.declared.limits.TheConstants.{MOST_INPUT}
-use Rattle.tucson.specs.Answer.{Input, IsInput, IsDue, ReadsInput, most_read}
+use Rattle.tucson.specs.Answer.{FindsConfig, Input, IsInput, IsDue, ReadsInput, most_read}
 use Rattle.tucson.specs.Status.{status_of_verdict}
 
 -- a call: the command that it asks for, if it asks for one, and the source, the sink and the door
@@ -75,7 +75,7 @@ pub record FailsToWrite (call : Call) : Type 0 where
   pub unsure : call.sink.sure ≡ false
   pub begins : BreaksOff call
 
--- a read has failed, and nothing was taken
+-- a read has failed, nothing was taken, and the door is as it was
 pub record FailsToRead (call : Call) : Type 0 where
   pub rises : CountRises call.source.read_faults call.source_after.read_faults
   pub unsure : call.source.sure ≡ false
@@ -83,12 +83,25 @@ pub record FailsToRead (call : Call) : Type 0 where
   pub asks : call.command ≡ Some command
   pub reads : ReadsInput command
   pub nothing : TakesNothing call
+  pub unused : call.door_after ≡ call.door
+
+-- a configuration was read, and the door was used for its agents
+pub record Serves (call : Call) : Type 0 where
+  pub config : Configuration
+  pub finds : FindsConfig call.source.left call.source_after.left config
+  pub used : UsesDoor (length config.agents) call.door call.door_after
+
+-- memory ran out before anything was taken: the door is as it was, or it was used for the agents of
+-- the configuration
+pub record RunsOut (call : Call) : Type 0 where
+  pub nothing : TakesNothing call
+  pub door : (call.door_after ≡ call.door) ⊎ Serves call
 
 -- the status that is due with its whole text, or what stopped the call
 abbrev pub Ends : Call → Status → Type 0
 Ends call WriteFault = FailsToWrite call
 Ends call ReadFault = FailsToRead call
-Ends call NoMemory = TakesNothing call ⊎ BreaksOff call
+Ends call NoMemory = RunsOut call ⊎ BreaksOff call
 Ends call status = EndsAsDue call status
 
 -- the call was stopped: by a fault of writing or of reading, or by want of memory
@@ -169,16 +182,25 @@ MustEnd (Some (Serve port)) (Some input) end = IsEndFor (Serve port) input end
 MustEnd (Some Verify) (Some input) end = IsEndOfVerdict input end
 MustEnd command left end = ⊥
 
+-- the most bytes that a call takes from its source: one more than its input may have, and none
+-- where it reads none
+abbrev pub most_taken : Option Command → ℕ
+most_taken (Some (Load agents start)) = 0
+most_taken (Some command) = most_read command + 1
+most_taken None = 0
+
 -- the door is as it was; only `serve` uses it
 abbrev pub LeavesDoor : Option Command → DoorState → DoorState → Type 0
 LeavesDoor (Some (Serve port)) door after = Unit {0}
 LeavesDoor command door after = after ≡ door
 
 -- what holds of a call that returns this status: it ends as the status says, as command and input
--- decide unless it was stopped, and each fault of reading, of writing and of the door is told
+-- decide unless it was stopped; no more is read than it needs, and each fault of reading, of
+-- writing and of the door is told
 pub record Returns (call : Call) (status : Status) : Type 0 where
   pub ends : Ends call status
   pub due : (end : End) → MustEnd call.command call.source.left end → IsUnlessStopped end status
+  pub rest : ReadsSome call.source.left call.source_after.left (most_taken call.command)
   pub reads : Counts (status ≡ ReadFault) call.source.read_faults call.source_after.read_faults
   pub writes : Counts (status ≡ WriteFault) call.sink.write_faults call.sink_after.write_faults
   pub door : LeavesDoor call.command call.door call.door_after

@@ -10,7 +10,6 @@ use Rattle.tc_config.specs.declared.faults.ConfigCause.{ConfigCause}
 use Rattle.tc_config.specs.declared.faults.ConfigCause.TheVariants as cause
 use Rattle.tc_config.specs.declared.faults.ConfigFault.{ConfigFault}
 use Rattle.tc_config.specs.declared.faults.ConfigFault.TheVariants as config
-use Rattle.tc_config.specs.declared.limits.TheConstants.{MOST_BYTES}
 use Rattle.tc_verify.specs.Inputs.{IsParted}
 use Rattle.tucson.specs.declared.limits.TheConstants.{MOST_INPUT}
 use Rattle.tucson.specs.declared.reading.Stop.{Stop}
@@ -31,12 +30,6 @@ stop_of_input input.NoMemory = NoMemory
 abbrev pub stop_of_config : ConfigFault → Stop
 stop_of_config (config.Bad clause why) = Refused clause why
 stop_of_config config.NoMemory = NoMemory
-
--- the configuration is spelt by all that was left
-pub record FindsConfig (left rest : Option (List ℕ)) (c : Configuration) : Type 0 where
-  pub spelt : List ℕ
-  pub read : ReadsAll left rest MOST_BYTES spelt
-  pub spells : Spells spelt c
 
 -- the input is parted at a line `%%`, and this is told of the verdict on what stands behind it
 pub record IsToldOf (input : List ℕ) (status : Status) (line : List ℕ) : Type 0 where

@@ -1,11 +1,12 @@
 //! A configuration, read to its end; or why a call has none.
-ghost use Rattle.std.specs.Prelude.{◌≡◌, IfErr, IfOk};
+ghost use Rattle.std.specs.Prelude.{◌≡◌, ◌+◌, IfErr, IfOk};
 ghost use Rattle.std.specs.Result.{IsErrOf};
 ghost use Rattle.tc_config.specs.Texts.{IsRefused, Spells};
 ghost use Rattle.tc_config.specs.declared.limits.TheConstants.{MOST_BYTES};
 ghost use Rattle.tc_io.specs.Faults.{Counts};
-ghost use Rattle.tc_io.specs.Sources.{source_of};
-ghost use Rattle.tucson.specs.Reading.{FindsConfig, IsStopFor, StopsReading};
+ghost use Rattle.tc_io.specs.Sources.{ReadsSome, source_of};
+ghost use Rattle.tucson.specs.Answer.{FindsConfig};
+ghost use Rattle.tucson.specs.Reading.{IsStopFor, StopsReading};
 
 use std::alloc::Global;
 use tc_config::{Config, ConfigCause, ConfigFault, MOST_BYTES, read_config};
@@ -70,6 +71,7 @@ pub fn read_source<S: Source>(alloc: Global, source: &mut S) -> Result<Config, S
     ensures stopped { IfErr result (StopsReading MOST_BYTES IsRefused
         (source_of S.left S.read_faults S.sure source.old)
         (source_of S.left S.read_faults S.sure source.new)) }
+    ensures rest { ReadsSome (S.left source.old) (S.left source.new) (MOST_BYTES + 1) }
     ensures reads { Counts (IsErrOf result Stop.ReadFault)
         (S.read_faults source.old) (S.read_faults source.new) }
 {

@@ -1,10 +1,10 @@
 //! A configuration, read to its end, whose agents are served over connections.
-ghost use Rattle.std.specs.Prelude.{◌≡◌, ◌≤◌, IfOk, Some};
+ghost use Rattle.std.specs.Prelude.{◌≡◌, ◌≤◌, IfOk, OnErr, Some, length};
 ghost use Rattle.tc_io.specs.Faults.{Counts};
 ghost use Rattle.tc_io.specs.Sinks.{sink_of};
 ghost use Rattle.tc_io.specs.Sources.{source_of};
 ghost use Rattle.tc_runner.specs.Runs.{HasCores};
-ghost use Rattle.tc_visits.specs.Service.{DoorState, door_of};
+ghost use Rattle.tc_visits.specs.Service.{DoorState, MayUseDoor, door_of};
 ghost use Rattle.tucson.specs.Answer.{IsOutcomeOfService};
 ghost use Rattle.tucson.specs.Ending.{Returns, WritesDue};
 ghost use Rattle.tucson.specs.Serving.{IsServed};
@@ -68,6 +68,8 @@ fn serve<R: Threads + Wait + Sync, K: Sink, D: Door>(
         (door_of D.opened D.door_faults door.new) config)
         (sink_of K.taken K.write_faults K.sure sink.old)
         (sink_of K.taken K.write_faults K.sure sink.new) result }
+    ensures memory { result ≡ Status.NoMemory → MayUseDoor (length config.agents)
+        (door_of D.opened D.door_faults door.old) (door_of D.opened D.door_faults door.new) }
     ensures writes { Counts (result ≡ Status.WriteFault)
         (K.write_faults sink.old) (K.write_faults sink.new) }
     ensures reads { result ≡ Status.ReadFault → ⊥ }
@@ -92,6 +94,8 @@ fn service<R: Threads + Wait + Sync, D: Door>(
     ensures served { IfOk result (IsServed (door_of D.opened D.door_faults door.old)
         (door_of D.opened D.door_faults door.new)) }
     ensures cores { IfOk result (λ s. HasCores s.run) }
+    ensures door { OnErr result (MayUseDoor (length config.agents)
+        (door_of D.opened D.door_faults door.old) (door_of D.opened D.door_faults door.new)) }
 {
     let opened = open(alloc, config)?;
     tc_visits::serve(rt, alloc, opened, door)

@@ -1,9 +1,9 @@
 //! A text, read behind its configuration and judged.
-ghost use Rattle.std.specs.Prelude.{◌≡◌, IfErr, IfOk, Some};
+ghost use Rattle.std.specs.Prelude.{◌≡◌, ◌+◌, IfErr, IfOk, Some};
 ghost use Rattle.std.specs.Result.{IsErrOf};
 ghost use Rattle.tc_io.specs.Faults.{Counts};
 ghost use Rattle.tc_io.specs.Sinks.{sink_of};
-ghost use Rattle.tc_io.specs.Sources.{source_of};
+ghost use Rattle.tc_io.specs.Sources.{ReadsSome, source_of};
 ghost use Rattle.tc_verify.specs.Judgements.{IsRefusedWith};
 ghost use Rattle.tc_visits.specs.Service.{DoorState};
 ghost use Rattle.tucson.specs.Ending.{Returns};
@@ -49,6 +49,7 @@ fn read_verdict<S: Source>(alloc: Global, source: &mut S) -> Result<(Status, Seq
     ensures stopped { IfErr result (StopsReading MOST_INPUT IsRefusedWith
         (source_of S.left S.read_faults S.sure source.old)
         (source_of S.left S.read_faults S.sure source.new)) }
+    ensures rest { ReadsSome (S.left source.old) (S.left source.new) (MOST_INPUT + 1) }
     ensures reads { Counts (IsErrOf result Stop.ReadFault)
         (S.read_faults source.old) (S.read_faults source.new) }
 {

@@ -1,4 +1,4 @@
-use Rattle.std.proofs.Common.{◌≡◌, ◌∙◌, List, Vec, not, ap, sym, subst, map, arith}
+use Rattle.std.proofs.Common.{◌≡◌, ◌∙◌, List, Vec, not, ap, refl, sym, subst, map, inl, arith}
 use Rattle.std.specs.Global.{Global}
 use Rattle.std.specs.List.{list_any}
 use Rattle.std.proofs.lemmas.List.{length-map}
@@ -6,6 +6,7 @@ use Rattle.tc_centre.specs.Centre.{Centre}
 use Rattle.tc_config.specs.Configurations.{centre_names}
 use Rattle.tc_desk.specs.Logs.{rows_of}
 use Rattle.tc_desk.specs.declared.rows.LogRow.{LogRow}
+use Rattle.tc_lists.proofs.Results.{OnErr-always}
 use Rattle.tc_policy.specs.declared.grants.Grant.{Grant}
 use Rattle.tc_runner.specs.Cores.{AreCores, histories}
 use Rattle.tc_site.proofs.Configured.{fresh-cores}
@@ -14,6 +15,7 @@ use Rattle.tc_site.specs.Sites.{AllAgree, AreOfSite, EndedDeskState, core_histor
 use Rattle.tc_visits.specs.Service.{IsServiceBy, door_of, lacked_memory}
 use Rattle.tc_visits.specs.Visits.{VisitState}
 use Rattle.tc_visits.proofs.Desks.{desks-of, idle-of, kits-of}
+use Rattle.tc_visits.proofs.Doors.{served-door}
 use Rattle.tc_visits.proofs.Outcomes.{cores-are, cores-named, emptiness, is-service-by, logs-count, logs-few}
 use Rattle.tc_visits.proofs.service.serve_some.Goals as goal
 
@@ -132,3 +134,40 @@ returns-clause-cores g c =
           c.in_ok-closed.ensures.closed kits c.in_ok-site.ensures.kits visits idle c.in_ok-visits.ensures.served.kits_are olds
           (left-logs c.in_ok-ended.ensures.ended c.in_ok-closed.ensures.logs);
     }
+
+pub returns-in_err-names-clause-door : goal.returns-in_err-names-clause-door
+returns-in_err-names-clause-door g c = OnErr-always _ _ (inl refl)
+
+pub returns-in_err-roles-clause-door : goal.returns-in_err-roles-clause-door
+returns-in_err-roles-clause-door g c = OnErr-always _ _ (inl refl)
+
+pub returns-in_err-site-clause-door : goal.returns-in_err-site-clause-door
+returns-in_err-site-clause-door g c = OnErr-always _ _ (inl refl)
+
+pub returns-in_err-visits-clause-door : goal.returns-in_err-visits-clause-door
+returns-in_err-visits-clause-door g c =
+    OnErr-always _ _ (inl (ap (door_of g.D.Door.opened g.D.Door.door_faults) c.in_err-visits.ensures.same))
+
+pub returns-in_err-ended-clause-door : goal.returns-in_err-ended-clause-door
+returns-in_err-ended-clause-door g c =
+    OnErr-always _ _
+    (served-door c.in_ok-names.names.items c.args.opened.cores.items c.agents.result.now c.args.opened.plan.agents c.in_ok-roles.roles c.in_ok-site.site
+    c.in_ok-site.kits.items c.in_ok-site.ensures.site c.in_ok-site.ensures.kits c.agents.ensures.agents
+    (door_of g.D.Door.opened g.D.Door.door_faults c.args.door.now) (door_of g.D.Door.opened g.D.Door.door_faults c.serve_all.new.door)
+    c.in_ok-visits.field-0.visits.items c.in_ok-visits.field-0.idle.items c.in_ok-visits.ensures.served)
+
+pub returns-in_err-closed-clause-door : goal.returns-in_err-closed-clause-door
+returns-in_err-closed-clause-door g c =
+    OnErr-always _ _
+    (served-door c.in_ok-names.names.items c.args.opened.cores.items c.agents.result.now c.args.opened.plan.agents c.in_ok-roles.roles c.in_ok-site.site
+    c.in_ok-site.kits.items c.in_ok-site.ensures.site c.in_ok-site.ensures.kits c.agents.ensures.agents
+    (door_of g.D.Door.opened g.D.Door.door_faults c.args.door.now) (door_of g.D.Door.opened g.D.Door.door_faults c.serve_all.new.door)
+    c.in_ok-visits.field-0.visits.items c.in_ok-visits.field-0.idle.items c.in_ok-visits.ensures.served)
+
+pub returns-in_err-settle-clause-door : goal.returns-in_err-settle-clause-door
+returns-in_err-settle-clause-door g c =
+    OnErr-always _ _
+    (served-door c.in_ok-names.names.items c.args.opened.cores.items c.agents.result.now c.args.opened.plan.agents c.in_ok-roles.roles c.in_ok-site.site
+    c.in_ok-site.kits.items c.in_ok-site.ensures.site c.in_ok-site.ensures.kits c.agents.ensures.agents
+    (door_of g.D.Door.opened g.D.Door.door_faults c.args.door.now) (door_of g.D.Door.opened g.D.Door.door_faults c.serve_all.new.door)
+    c.in_ok-visits.field-0.visits.items c.in_ok-visits.field-0.idle.items c.in_ok-visits.ensures.served)

@@ -13,8 +13,8 @@ use Rattle.tc_workers.proofs.Driven.{driven-agents, driven-free, driven-left, dr
 use Rattle.tc_workers.proofs.Sends.{roles_desk_send}
 use Rattle.tc_workers.proofs.crew.drive_all.Goals as goal
 
-pub drive-requires-clause-ready : goal.drive-requires-clause-ready
-drive-requires-clause-ready g c κs within =
+pub drive_called-requires-clause-ready : goal.drive_called-requires-clause-ready
+drive_called-requires-clause-ready g c κs within =
     let crew = c.in_ok-agents.crew.items in
     subst (λ (cs : List Member). All (IsReady desk_of (3 * left_in desk_of cs + 2) c.args.names.now) cs) (sym c.deref_mut.ensures.value)
     (ready permits_by c.args.site.now c.args.names.now c.args.agents.items crew c.requires.can c.in_ok-agents.ensures.crew)
@@ -22,28 +22,28 @@ drive-requires-clause-ready g c κs within =
 pub end_all-requires-clause-free : goal.end_all-requires-clause-free
 end_all-requires-clause-free g c =
     let crew : List Member = c.in_ok-agents.crew.items in
-    let news : List Member = c.drive.new.actors in
+    let news : List Member = c.drive_called.new.actors in
     let same = take-append_all news crew c.in_ok-agents.crew.len (search rules) (search rules) in
-    let went : Driven crew news = subst (λ (cs : List Member). Driven cs news) c.deref_mut.ensures.value c.in_ok-drive.ensures.went in
+    let went : Driven crew news = subst (λ (cs : List Member). Driven cs news) c.deref_mut.ensures.value c.in_ok-drive_called.ensures.went in
     subst (All (λ (m : Member). (desk_of m.desk).free ≡ true)) (sym same)
     (driven-free permits_by c.args.site.now c.args.names.now c.args.agents.items crew news (3 * left_in desk_of crew + 2) c.requires.can c.in_ok-agents.ensures.crew went)
 
 pub end_all-requires-clause-whole : goal.end_all-requires-clause-whole
 end_all-requires-clause-whole g c =
     let crew : List Member = c.in_ok-agents.crew.items in
-    let news : List Member = c.drive.new.actors in
+    let news : List Member = c.drive_called.new.actors in
     let same = take-append_all news crew c.in_ok-agents.crew.len (search rules) (search rules) in
-    let went : Driven crew news = subst (λ (cs : List Member). Driven cs news) c.deref_mut.ensures.value c.in_ok-drive.ensures.went in
+    let went : Driven crew news = subst (λ (cs : List Member). Driven cs news) c.deref_mut.ensures.value c.in_ok-drive_called.ensures.went in
     let whole = driven-whole permits_by c.args.site.now c.args.names.now c.args.agents.items crew news (3 * left_in desk_of crew + 2) c.requires.can c.in_ok-agents.ensures.crew went in
     ap length c.in_ok-agents.ensures.agents ∙ length-map c.args.agents.items bare ∙ whole ∙ sym (ap length same)
 
 pub returns-clause-agents : goal.returns-clause-agents
 returns-clause-agents g c =
     let crew : List Member = c.in_ok-agents.crew.items in
-    let news : List Member = c.drive.new.actors in
+    let news : List Member = c.drive_called.new.actors in
     let agents = c.args.agents.items in
     let same = take-append_all news crew c.in_ok-agents.crew.len (search rules) (search rules) in
-    let went : Driven crew news = subst (λ (cs : List Member). Driven cs news) c.deref_mut.ensures.value c.in_ok-drive.ensures.went in
+    let went : Driven crew news = subst (λ (cs : List Member). Driven cs news) c.deref_mut.ensures.value c.in_ok-drive_called.ensures.went in
     let whole : List Member = take c.in_ok-agents.crew.len (news ++ drop (length news) crew) in
     let again = driven-agents permits_by c.args.site.now c.args.names.now agents crew news (3 * left_in desk_of crew + 2) c.requires.can c.in_ok-agents.ensures.crew went in
     IfOk-weaker c.end_all.result _ _
@@ -53,10 +53,10 @@ returns-clause-agents g c =
 pub returns-clause-ended : goal.returns-clause-ended
 returns-clause-ended g c =
     let crew : List Member = c.in_ok-agents.crew.items in
-    let news : List Member = c.drive.new.actors in
+    let news : List Member = c.drive_called.new.actors in
     let agents = c.args.agents.items in
     let same = take-append_all news crew c.in_ok-agents.crew.len (search rules) (search rules) in
-    let went : Driven crew news = subst (λ (cs : List Member). Driven cs news) c.deref_mut.ensures.value c.in_ok-drive.ensures.went in
+    let went : Driven crew news = subst (λ (cs : List Member). Driven cs news) c.deref_mut.ensures.value c.in_ok-drive_called.ensures.went in
     IfOk-both c.end_all.result _ _ _
     (λ r ended rows.
     subst (AreLeft permits_by c.args.site.now agents) (sym (ended ∙ ap (map ended_of) same))
@@ -64,5 +64,5 @@ returns-clause-ended g c =
     (subst (All HasRows) same rows)))
     c.end_all.ensures.ended c.end_all.ensures.rows
 
-pub drive-requires-send-D : goal.drive-requires-send-D
-drive-requires-send-D g c κs within = search (sendable, roles_desk_send) depth 20
+pub drive_called-requires-send-D : goal.drive_called-requires-send-D
+drive_called-requires-send-D g c κs within = search (sendable, roles_desk_send) depth 20

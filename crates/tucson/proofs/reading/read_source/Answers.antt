@@ -3,7 +3,7 @@ use Rattle.tc_config.specs.Texts.{IsRefused}
 use Rattle.tc_config.specs.declared.limits.TheConstants.{MOST_BYTES}
 use Rattle.tc_io.specs.Sources.{ReadsAll, source_of}
 use Rattle.tucson.specs.Reading.{StopsReading, stop_of_input}
-use Rattle.tucson.proofs.Stops.{failed_stops, residual_stops, text_stops}
+use Rattle.tucson.proofs.Stops.{all_some, failed_stops, residual_stops, text_stops}
 use Rattle.tucson.proofs.reading.read_source.Goals as goal
 
 pub returns-in_err-text-clause-stopped : goal.returns-in_err-text-clause-stopped
@@ -21,3 +21,7 @@ returns-clause-stopped g c =
     (subst (λ (spelt : List ℕ). ReadsAll (g.S.Source.left c.args.source.now) (g.S.Source.left c.read_all.new.source) MOST_BYTES spelt)
     (sym c.deref.ensures.value) c.in_ok-text.ensures.all)
     c.read_text.ensures.stopped
+
+pub returns-clause-rest : goal.returns-clause-rest
+returns-clause-rest g c =
+    all_some (g.S.Source.left c.args.source.now) (g.S.Source.left c.read_all.new.source) MOST_BYTES c.in_ok-text.text.items c.in_ok-text.ensures.all

@@ -1,4 +1,4 @@
-use Rattle.std.proofs.Common.{Some, [], refl, inr}
+use Rattle.std.proofs.Common.{Some, [], refl, inl, inr}
 use Rattle.tc_io.specs.Sinks.{sink_of}
 use Rattle.tc_io.specs.Sources.{source_of}
 use Rattle.tucson.specs.Answer.{Whole}
@@ -16,7 +16,8 @@ returns-in-Ok g c = λ door.
     (source_of g.S.Source.left g.S.Source.read_faults g.S.Source.sure c.read_source.new.source)
     (sink_of g.K.Sink.taken g.K.Sink.write_faults g.K.Sink.sure c.args.sink.now)
     (sink_of g.K.Sink.taken g.K.Sink.write_faults g.K.Sink.sure c.run.new.sink)
-    door door (Whole found.spelt) found.spelt [] c.in-Ok.config c.run.result found.read (refl, refl) found.spells c.run.ensures.tells c.run.ensures.reads
+    door door (Whole found.spelt) found.spelt [] c.in-Ok.config c.run.result found.read (refl, refl) found.spells c.run.ensures.tells (λ lacks. inl refl)
+    c.read_source.ensures.rest c.run.ensures.reads
     (c.in-Ok.ensures.reads.unfailed (λ failed. cc)) c.run.ensures.writes (leaves (Some command) door) (λ other. inr refl)
 
 pub returns-in-Err : goal.returns-in-Err
@@ -28,5 +29,6 @@ returns-in-Err g c = λ door.
     returns-stopped (Run c.args.workers) source after
     (sink_of g.K.Sink.taken g.K.Sink.write_faults g.K.Sink.sure c.args.sink.now)
     (sink_of g.K.Sink.taken g.K.Sink.write_faults g.K.Sink.sure c.stopped.new.sink)
-    door why c.stopped.result (reading_stops (Run c.args.workers) source after why (run_reads c.args.workers) c.in-Err.ensures.stopped counts) counts
+    door why c.stopped.result (reading_stops (Run c.args.workers) source after why (run_reads c.args.workers) c.in-Err.ensures.stopped counts)
+    c.read_source.ensures.rest counts
     c.stopped.ensures.tells c.stopped.ensures.reads c.stopped.ensures.writes

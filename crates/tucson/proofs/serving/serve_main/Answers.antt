@@ -1,4 +1,4 @@
-use Rattle.std.proofs.Common.{[], refl}
+use Rattle.std.proofs.Common.{[], refl, inl, inr, ⊎_elim}
 use Rattle.tc_io.specs.Sinks.{sink_of}
 use Rattle.tc_io.specs.Sources.{source_of}
 use Rattle.tc_visits.specs.Service.{door_of}
@@ -20,7 +20,8 @@ returns-in-Ok g c =
     (source_of g.S.Source.left g.S.Source.read_faults g.S.Source.sure c.args.source.now)
     (source_of g.S.Source.left g.S.Source.read_faults g.S.Source.sure c.read_source.new.source)
     old new door after (Whole found.spelt) found.spelt [] c.in-Ok.config c.serve.result found.read (refl, refl) found.spells c.serve.ensures.tells
-    c.serve.ensures.reads (c.in-Ok.ensures.reads.unfailed (λ failed. cc)) c.serve.ensures.writes tt
+    (λ lacks. ⊎_elim (λ same. inl same) (λ used. inr (record { config = c.in-Ok.config; finds = found; used = used })) (c.serve.ensures.memory lacks))
+    c.read_source.ensures.rest c.serve.ensures.reads (c.in-Ok.ensures.reads.unfailed (λ failed. cc)) c.serve.ensures.writes tt
     (service_nets door after c.in-Ok.config old new c.serve.result c.serve.ensures.tells)
 
 pub returns-in-Err : goal.returns-in-Err
@@ -32,5 +33,6 @@ returns-in-Err g c =
     returns-stopped (Serve c.args.port) source after
     (sink_of g.K.Sink.taken g.K.Sink.write_faults g.K.Sink.sure c.args.sink.now)
     (sink_of g.K.Sink.taken g.K.Sink.write_faults g.K.Sink.sure c.stopped.new.sink)
-    (door_of g.D.Door.opened g.D.Door.door_faults c.args.door.now) why c.stopped.result (reading_stops (Serve c.args.port) source after why (serve_reads c.args.port) c.in-Err.ensures.stopped counts) counts
+    (door_of g.D.Door.opened g.D.Door.door_faults c.args.door.now) why c.stopped.result (reading_stops (Serve c.args.port) source after why (serve_reads c.args.port) c.in-Err.ensures.stopped counts)
+    c.read_source.ensures.rest counts
     c.stopped.ensures.tells c.stopped.ensures.reads c.stopped.ensures.writes

@@ -3,7 +3,7 @@ use Rattle.tc_io.specs.Sources.{ReadsAll, source_of}
 use Rattle.tc_verify.specs.Judgements.{IsRefusedWith}
 use Rattle.tucson.specs.Reading.{StopsReading, stop_of_input}
 use Rattle.tucson.specs.declared.limits.TheConstants.{MOST_INPUT}
-use Rattle.tucson.proofs.Stops.{failed_stops, residual_stops, text_stops}
+use Rattle.tucson.proofs.Stops.{all_some, failed_stops, residual_stops, text_stops}
 use Rattle.tucson.proofs.verifying.read_verdict.Goals as goal
 
 pub returns-in_err-input-clause-stopped : goal.returns-in_err-input-clause-stopped
@@ -21,3 +21,7 @@ returns-clause-stopped g c =
     (subst (λ (text : List ℕ). ReadsAll (g.S.Source.left c.args.source.now) (g.S.Source.left c.read_all.new.source) MOST_INPUT text)
     (sym c.deref.ensures.value) c.in_ok-input.ensures.all)
     c.told_of.ensures.stopped
+
+pub returns-clause-rest : goal.returns-clause-rest
+returns-clause-rest g c =
+    all_some (g.S.Source.left c.args.source.now) (g.S.Source.left c.read_all.new.source) MOST_INPUT c.in_ok-input.input.items c.in_ok-input.ensures.all

@@ -1,4 +1,4 @@
-use Rattle.std.proofs.Common.{Some, refl, inr, subst}
+use Rattle.std.proofs.Common.{Some, refl, inl, inr, subst}
 use Rattle.tc_io.specs.Sinks.{sink_of}
 use Rattle.tc_io.specs.Sources.{source_of}
 use Rattle.tucson.specs.Answer.{IsOutcomeOfVerdict, Whole}
@@ -25,7 +25,7 @@ returns-in-Ok g c = λ door.
     (source_of g.S.Source.left g.S.Source.read_faults g.S.Source.sure c.read_verdict.new.source)
     old new door door (Whole found.input) found.is.spelt found.is.text found.is.config c.written.result found.read found.is.parts found.is.spells
     (due_written (IsOutcomeOfVerdict found.is.text found.is.config) c.in-Ok.status c.in-Ok.line old new c.written.result found.is.outcome wrote)
-    c.written.ensures.reads (c.in-Ok.ensures.reads.unfailed (λ failed. cc)) c.written.ensures.writes (leaves (Some Verify) door) (λ other. inr refl)
+    (λ lacks. inl refl) c.read_verdict.ensures.rest c.written.ensures.reads (c.in-Ok.ensures.reads.unfailed (λ failed. cc)) c.written.ensures.writes (leaves (Some Verify) door) (λ other. inr refl)
 
 pub returns-in-Err : goal.returns-in-Err
 returns-in-Err g c = λ door.
@@ -36,5 +36,6 @@ returns-in-Err g c = λ door.
     returns-stopped Verify source after
     (sink_of g.K.Sink.taken g.K.Sink.write_faults g.K.Sink.sure c.args.sink.now)
     (sink_of g.K.Sink.taken g.K.Sink.write_faults g.K.Sink.sure c.stopped.new.sink)
-    door why c.stopped.result (judging_stops source after why c.in-Err.ensures.stopped counts) counts
+    door why c.stopped.result (judging_stops source after why c.in-Err.ensures.stopped counts)
+    c.read_verdict.ensures.rest counts
     c.stopped.ensures.tells c.stopped.ensures.reads c.stopped.ensures.writes

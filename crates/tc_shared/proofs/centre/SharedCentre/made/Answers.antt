@@ -1,7 +1,7 @@
 use Rattle.std.proofs.Common.{ℕ, ap, ◌∙◌}
 use Rattle.tc_turn.specs.Passes.{new_passes}
 use Rattle.tc_shared.proofs.Fresh.{all-fresh}
-use Rattle.tc_shared.proofs.centre.SharedCentre.new.Goals as goal
+use Rattle.tc_shared.proofs.centre.SharedCentre.made.Goals as goal
 
 pub returns-clause-fresh : goal.returns-clause-fresh
 returns-clause-fresh g =

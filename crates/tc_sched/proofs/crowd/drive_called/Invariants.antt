@@ -1,6 +1,6 @@
 use Rattle.std.proofs.Common.{◌<◌}
 use Rattle.tc_sched.proofs.Crowds.{Driving}
-use Rattle.tc_sched.proofs.crowd.drive.Given as goal
+use Rattle.tc_sched.proofs.crowd.drive_called.Given as goal
 
 abbrev pub invariant-loop : goal.invariant-loop
 invariant-loop g l = record {

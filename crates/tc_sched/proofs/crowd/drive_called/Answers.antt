@@ -1,6 +1,6 @@
 use Rattle.std.proofs.Common.{◌<◌, sym, arith, subst}
 use Rattle.tc_sched.proofs.Crowds.{driving-none, round-ready, round-last, sweeps-last, driving-more}
-use Rattle.tc_sched.proofs.crowd.drive.Goals as goal
+use Rattle.tc_sched.proofs.crowd.drive_called.Goals as goal
 
 pub loop-init : goal.loop-init
 loop-init g c = record {
