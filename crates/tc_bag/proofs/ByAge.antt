@@ -7,6 +7,8 @@ use Rattle.tc_term.specs.Tree.{Tree}
 use Rattle.tc_bag.specs.Places.{slot_at, IsFindable}
 use Rattle.std.specs.Option.{IfSome, option_map}
 use Rattle.tc_bag.specs.declared.index.Index.{Index}
+use Rattle.tc_bag.specs.declared.codes.Code.{Code}
+use Rattle.tc_bag.specs.declared.codes.Code.TheVariants.{OfKey, OfFirst}
 use Rattle.tc_bag.specs.declared.codes.Codes.{Codes}
 use Rattle.tc_bag.specs.Ages.{Has, HasCodes, HasRow}
 use Rattle.tc_bag.specs.Codes.{first_code, codes_of}
@@ -125,18 +127,18 @@ filter-others age ss others =
     filter_all (is_not_of age) ss (All-weaker (λ s. s.age ≢ age) (λ s. is_not_of age s ≡ true) (λ s other. ap not (ne_eqb s.age age other)) ss others)
 
 -- an index that keeps an age keeps its row
-HasSome-kept : (old new : Index) (age : ℕ) (code : Option ℕ) → ((c : ℕ) → Has old c age → Has new c age)
-    → IfSome code (λ c. Has old c age) → IfSome code (λ c. Has new c age)
+HasSome-kept : (old new : Index) (age : ℕ) (code : Option ℕ) → ((c : Code) → Has old c age → Has new c age)
+    → IfSome code (λ c. Has old (OfFirst c) age) → IfSome code (λ c. Has new (OfFirst c) age)
 HasSome-kept old new age None kept has = tt
-HasSome-kept old new age (Some c) kept has = kept c has
+HasSome-kept old new age (Some c) kept has = kept (OfFirst c) has
 
-pub HasRow-kept : (old new : Index) (age : ℕ) (t : Tree) → ((c : ℕ) → Has old c age → Has new c age)
+pub HasRow-kept : (old new : Index) (age : ℕ) (t : Tree) → ((c : Code) → Has old c age → Has new c age)
     → HasRow old age t → HasRow new age t
-HasRow-kept old new age t kept has = (kept _ has.0, HasSome-kept old new age (first_code t) kept has.1)
+HasRow-kept old new age t kept has = (kept (OfKey _) has.0, HasSome-kept old new age (first_code t) kept has.1)
 
 module _ (start : ℕ) (whole : Bool) (old new : Index) where
   -- rows are found as before by an index that keeps the other ages
-  pub findable_kept : (age : ℕ) (ss : List Slot) → ((c a : ℕ) → a ≢ age → Has old c a → Has new c a)
+  pub findable_kept : (age : ℕ) (ss : List Slot) → ((c : Code) (a : ℕ) → a ≢ age → Has old c a → Has new c a)
       → All (λ s. s.age ≢ age) ss → All (IsFindable start whole old) ss → All (IsFindable start whole new) ss
   findable_kept age ss kept others found = λ k d inside there.
       let s = get_or ss k d in
@@ -144,7 +146,7 @@ module _ (start : ℕ) (whole : Bool) (old new : Index) where
       (has.0, λ is_whole. HasRow-kept old new s.age s.tuple (λ c. kept c s.age (others k d inside)) (has.1 is_whole))
 
   -- or by one that has more, from an earlier start
-  pub findable_more : (earlier : ℕ) (ss : List Slot) → earlier ≤ start → ((c a : ℕ) → Has old c a → Has new c a)
+  pub findable_more : (earlier : ℕ) (ss : List Slot) → earlier ≤ start → ((c : Code) (a : ℕ) → Has old c a → Has new c a)
       → All (IsFindable start whole old) ss → All (IsFindable earlier whole new) ss
   findable_more earlier ss early kept found = λ k d inside there.
       let s = get_or ss k d in
@@ -154,7 +156,7 @@ module _ (start : ℕ) (whole : Bool) (old new : Index) where
       )
 
   -- or with a row that isn't there any more
-  pub findable_gone : (age n : ℕ) (ss : List Slot) → 0 < n → ((c a : ℕ) → a ≢ age → Has old c a → Has new c a)
+  pub findable_gone : (age n : ℕ) (ss : List Slot) → 0 < n → ((c : Code) (a : ℕ) → a ≢ age → Has old c a → Has new c a)
       → All (IsFindable start whole old) ss → All (IsFindable start whole new) (map (with_taken age n) ss)
   findable_gone age n ss counted kept found =
       All-map (IsFindable start whole new) (with_taken age n) ss
@@ -173,7 +175,7 @@ module _ (start : ℕ) (whole : Bool) (old new : Index) where
 
   -- or with one that is there again, from its age on and in an index that got it, or isn't whole
   pub findable_again : (less age : ℕ) (still : Bool) (codes : Codes) (ss : List Slot) → less ≤ start → less ≤ age
-      → ((c a : ℕ) → Has old c a → Has new c a) → (IsTrue still → IsTrue whole × HasCodes new age codes)
+      → ((c : Code) (a : ℕ) → Has old c a → Has new c a) → (IsTrue still → IsTrue whole × HasCodes new age codes)
       → All (λ s. s.age ≡ age → codes_of s.tuple ≡ codes) ss
       → All (IsFindable start whole old) ss → All (IsFindable less still new) (map (with_taken age 0) ss)
   findable_again less age still codes ss early before kept got same_codes found =

@@ -5,6 +5,7 @@ use Rattle.std.proofs.lemmas.List.Elements.{All-head, All-tail, All-cons, All-ni
 use Rattle.std.specs.Option.{IfSome}
 use Rattle.tc_lists.specs.Firsts.{IsFirst}
 use Rattle.tc_term.specs.Tree.{Tree, Variable, Atomic, Number, Compound}
+use Rattle.tc_bag.specs.declared.codes.Code.TheVariants.{OfKey, OfFirst}
 use Rattle.tc_bag.specs.declared.index.Index.{Index}
 use Rattle.tc_bag.specs.declared.key.Key.{Key}
 use Rattle.tc_bag.specs.declared.key.Key.TheVariants.{Any}
@@ -81,7 +82,7 @@ there_found (s ∷ ss) order =
 
 -- a tuple that is asked for by a code is in the index for it
 code_first : (index : Index) (age : ℕ) (key : Key) (t f : Tree) → key ≡ key_of t → first_argument t ≡ Some f
-    → IfSome (first_code t) (λ c. Has index c age) → Has index (code_like key (Some f)) age
+    → IfSome (first_code t) (λ c. Has index (OfFirst c) age) → Has index (code_like key (Some f)) age
 code_first index age key (Variable n) f same is has = absurd (cc)
 code_first index age key (Atomic name) f same is has = absurd (cc)
 code_first index age key (Number n) f same is has = absurd (cc)
@@ -93,7 +94,7 @@ code_first index age key (Compound name args) f same is has =
 pub like_has : (index : Index) (key : Key) (first : Option Tree) (s : Slot) → (key ≡ Any → ⊥) → HasRow index s.age s.tuple
     → IsLike key first s.tuple → Has index (code_like key first) s.age
 like_has index key first s known indexed (inl any, has) = absurd (known any)
-like_has index key None s known indexed (inr own, has) = subst (λ k. Has index (key_code k) s.age) (sym own) indexed.0
+like_has index key None s known indexed (inr own, has) = subst (λ k. Has index (OfKey (key_code k)) s.age) (sym own) indexed.0
 like_has index key (Some f) s known indexed (inr own, has) = code_first index s.age key s.tuple f own has indexed.1
 
 module _ (key : Key) (first : Option Tree) (from at age : ℕ) (ss : List Slot) where

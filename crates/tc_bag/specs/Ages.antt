@@ -2,17 +2,21 @@
 use Rattle.std.specs.Prelude.{ℕ, IfSome}
 use Rattle.tc_term.specs.Tree.{Tree}
 use Rattle.tc_bag.specs.declared.index.Index.{Index}
+use Rattle.tc_bag.specs.declared.codes.Code.{Code}
+use Rattle.tc_bag.specs.declared.codes.Code.TheVariants.{OfKey, OfFirst}
 use Rattle.tc_bag.specs.declared.codes.Codes.{Codes}
 use Rattle.tc_bag.specs.Codes.{codes_of}
-use Rattle.tc_bag.specs.Pairs.{HasPair}
+use Rattle.tc_bag.specs.Words.{HasAge}
 
--- the index has the pair of a code and an age
-abbrev pub Has : Index → ℕ → ℕ → Type 0
-Has index code age = HasPair index.pairs code age
+-- the index has the age by the code
+abbrev pub Has : Index → Code → ℕ → Type 0
+Has index (OfKey code) age = HasAge index.keys code age
+Has index (OfFirst code) age = HasAge index.firsts code age
 
 -- the index has the age by these codes
 abbrev pub HasCodes : Index → ℕ → Codes → Type 0
-HasCodes index age codes = Has index codes.key age × IfSome codes.first (λ code. Has index code age)
+HasCodes index age codes =
+    Has index (OfKey codes.key) age × IfSome codes.first (λ code. Has index (OfFirst code) age)
 
 -- the index has the age of a tuple by the code of its key, and by that of its key and first
 -- argument

@@ -5,6 +5,8 @@ use Rattle.tc_lists.specs.Codes.{mixed}
 use Rattle.tc_term.specs.Tree.{Tree, Variable, Atomic, Number, Compound}
 use Rattle.tc_bag.specs.declared.key.Key.{Key}
 use Rattle.tc_bag.specs.declared.key.Key.TheVariants.{Any, Int, Atom, Comp}
+use Rattle.tc_bag.specs.declared.codes.Code.{Code}
+use Rattle.tc_bag.specs.declared.codes.Code.TheVariants.{OfKey, OfFirst}
 use Rattle.tc_bag.specs.declared.codes.Codes.{Codes}
 use Rattle.tc_bag.specs.Keys.{arity, first_of, key_of}
 
@@ -35,6 +37,6 @@ abbrev pub codes_of : Tree → Codes
 codes_of t = record { key = key_code (key_of t); first = first_code t }
 
 -- the code of the tuples with a key and, where one is given, a first argument
-abbrev pub code_like : Key → Option Tree → ℕ
-code_like key None = key_code key
-code_like key (Some t) = mixed (key_code key) (top_code t)
+abbrev pub code_like : Key → Option Tree → Code
+code_like key None = OfKey (key_code key)
+code_like key (Some t) = OfFirst (mixed (key_code key) (top_code t))

@@ -3,6 +3,7 @@ pub mod Lent
 pub mod Codes
 pub mod Stock
 pub mod Pairs
+pub mod Words
 pub mod Ages
 pub mod Rows
 pub mod Looks

@@ -16,6 +16,13 @@ pub(crate) struct Codes {
     pub(crate) first: Option<u64>,
 }
 
+/// What rows are looked up by: the code of a key, or that of a key and a first argument.
+#[derive(Clone, Copy)]
+pub(crate) enum Code {
+    OfKey(u64),
+    OfFirst(u64),
+}
+
 /// The codes of a tuple.
 #[inline(always)]
 pub(crate) fn codes_of(t: &Term) -> Codes
@@ -41,13 +48,13 @@ pub(crate) fn codes_of(t: &Term) -> Codes
 }
 
 /// The code of the tuples with a key and, where one is given, a first argument.
-pub(crate) fn code_like(key: Lent, first: Option<&Term>) -> u64
+pub(crate) fn code_like(key: Lent, first: Option<&Term>) -> Code
     ensures { result ≡ code_like (lent_key key.entry) (lent_tree first.entry) }
 {
     let code = key_code(key);
     match first {
-        None => code,
-        Some(term) => mix(code, top_code(term)),
+        None => Code::OfKey(code),
+        Some(term) => Code::OfFirst(mix(code, top_code(term))),
     }
 }
 

@@ -1,5 +1,5 @@
 //! Rows by age, and an index of their ages.
-use crate::codes::{code_like, codes_of};
+use crate::codes::{Code, code_like, codes_of};
 use crate::index::Index;
 use crate::key::Lent;
 use crate::places::Places;
@@ -139,7 +139,7 @@ impl Held {
 
     // The least age from `from` on that the index has for a key, by the code of the key and of what
     // else is asked; that of a row where the key is any or the index isn't whole.
-    fn next_age(&self, key: Lent, code: u64, from: u64) -> Option<u64>
+    fn next_age(&self, key: Lent, code: Code, from: u64) -> Option<u64>
         requires order { InOrder self.now }
         ensures found { IfSome result (λ age. (from ≤ age) × ((first : Option Tree)
             → code ≡ code_like (lent_key key.entry) first

@@ -1,44 +1,50 @@
 //! Ages by codes.
 ghost use Rattle.std.specs.Prelude.{ℕ, ◌≢◌, ◌<◌, ◌≤◌, IsTrue, OnOk, IfSome, IfNone};
+ghost use Rattle.tc_bag.specs.declared.codes.Code.{Code};
 ghost use Rattle.tc_bag.specs.Ages.{Has, HasCodes};
 
-use crate::codes::{Codes, codes_of};
-use crate::pairs::Pairs;
+use crate::by_code::ByCode;
+use crate::codes::{Code, Codes, codes_of};
 use std::alloc::Global;
 use tc_lists::NoMemory;
 use tc_term::Ground;
 
-/// Pairs of a code and the age of a row, in order.
+/// The ages of rows by the codes of their keys, and by those of their keys and first arguments.
 #[derive(Drop)]
 pub(crate) struct Index {
-    pairs: Pairs,
+    keys: ByCode,
+    firsts: ByCode,
 }
 
 impl Index {
-    /// No pair.
+    /// No age.
     pub(crate) fn new(alloc: Global) -> Index {
         Index {
-            pairs: Pairs::new(alloc),
+            keys: ByCode::new(alloc),
+            firsts: ByCode::new(alloc),
         }
     }
 
     /// The least age with this code that is at least `from`.
-    pub(crate) fn next(&self, code: u64, from: u64) -> Option<u64>
+    pub(crate) fn next(&self, code: Code, from: u64) -> Option<u64>
         ensures found { IfSome result (λ age. (from ≤ age)
             × ((a : ℕ) → from ≤ a → a < age → Has self.now code a → ⊥)) }
         ensures none { IfNone result ((a : ℕ) → from ≤ a → Has self.now code a → ⊥) }
     {
-        self.pairs.next(code, from)
+        match code {
+            Code::OfKey(code) => self.keys.next(code, from),
+            Code::OfFirst(code) => self.firsts.next(code, from),
+        }
     }
 
     /// Enters a row.
     pub(crate) fn enter_row(&mut self, age: u64, codes: Codes) -> Result<(), NoMemory>
         ensures entered { OnOk result (HasCodes self.new age codes) }
-        ensures kept { (c a : ℕ) → Has self.old c a → Has self.new c a }
+        ensures kept { (c : Code) (a : ℕ) → Has self.old c a → Has self.new c a }
     {
-        self.pairs.enter(codes.key, age)?;
+        self.keys.enter(codes.key, age)?;
         match codes.first {
-            Some(code) => self.pairs.enter(code, age),
+            Some(code) => self.firsts.enter(code, age),
             None => Ok(()),
         }
     }
@@ -46,7 +52,7 @@ impl Index {
     /// Enters a row again, and tells whether the index is whole, where it was so before.
     pub(crate) fn enter_again(&mut self, whole: bool, age: u64, codes: Codes) -> bool
         ensures entered { IsTrue result → IsTrue whole × HasCodes self.new age codes }
-        ensures kept { (c a : ℕ) → Has self.old c a → Has self.new c a }
+        ensures kept { (c : Code) (a : ℕ) → Has self.old c a → Has self.new c a }
     {
         match self.enter_row(age, codes) {
             Ok(()) => whole,
@@ -56,17 +62,17 @@ impl Index {
 
     /// Removes a row.
     pub(crate) fn leave_row(&mut self, age: u64, codes: Codes)
-        ensures kept { (c a : ℕ) → a ≢ age → Has self.old c a → Has self.new c a }
+        ensures kept { (c : Code) (a : ℕ) → a ≢ age → Has self.old c a → Has self.new c a }
     {
-        self.pairs.leave(codes.key, age);
+        self.keys.leave(codes.key, age);
         if let Some(code) = codes.first {
-            self.pairs.leave(code, age);
+            self.firsts.leave(code, age);
         }
     }
 
     /// Removes a row that is held no more.
     pub(crate) fn drop_row(&mut self, age: u64, tuple: Ground)
-        ensures kept { (c a : ℕ) → a ≢ age → Has self.old c a → Has self.new c a }
+        ensures kept { (c : Code) (a : ℕ) → a ≢ age → Has self.old c a → Has self.new c a }
     {
         self.leave_row(age, codes_of(tuple.term()));
     }

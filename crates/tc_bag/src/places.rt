@@ -58,6 +58,7 @@ impl Places {
     ghost use Rattle.tc_term.specs.Tree.{Tree};
     ghost use Rattle.tc_bag.specs.Ages.{Has};
     ghost use Rattle.tc_bag.specs.Codes.{codes_of};
+    ghost use Rattle.tc_bag.specs.declared.codes.Code.{Code};
     ghost use Rattle.tc_bag.specs.Keys.{IsLike};
     ghost use Rattle.tc_bag.specs.Lent.{lent_key, lent_tree};
     ghost use Rattle.tc_bag.specs.Looks.{like_between};
@@ -181,7 +182,7 @@ impl Places {
     /// Enters each row that is there in an index.
     pub(crate) fn enter_all(&self, index: &mut Index) -> Result<(), NoMemory>
         ensures entered { OnOk result (All (IsEntered index.new) self.now) }
-        ensures kept { (c a : ℕ) → Has index.old c a → Has index.new c a }
+        ensures kept { (c : Code) (a : ℕ) → Has index.old c a → Has index.new c a }
     {
         for place in self.places.as_slice() {
             if let Some(row) = place.there() {

@@ -4,6 +4,7 @@ use Rattle.tc_lists.proofs.Options.{IfNone-weaker}
 use Rattle.tc_term.specs.Tree.{Tree}
 use Rattle.tc_bag.specs.Ages.{Has}
 use Rattle.tc_bag.specs.Codes.{code_like}
+use Rattle.tc_bag.specs.declared.codes.Code.{Code}
 use Rattle.tc_bag.specs.declared.key.Key.{Key}
 use Rattle.tc_bag.specs.declared.key.Lent.{Lent}
 use Rattle.tc_bag.specs.Slots.{Slot, IsThereLike, is_there}
@@ -19,7 +20,7 @@ not_any (Lent.Atom name) other same = absurd (cc)
 not_any (Lent.Comp name count) other same = absurd (cc)
 
 -- what a search by rows tells of those that are asked for
-module _ (key : Key) (code from : ℕ) (ss : List Slot) (result : Option ℕ) where
+module _ (key : Key) (code : Code) (from : ℕ) (ss : List Slot) (result : Option ℕ) where
   found_of : IfSome result (λ (age : ℕ). (from ≤ age) × All (λ (s : Slot). from ≤ s.age → s.age < age → IsTrue (is_there s) → ⊥) ss)
       → IfSome result (λ (age : ℕ). (from ≤ age) × ((first : Option Tree) → code ≡ code_like key first
       → All (λ (s : Slot). from ≤ s.age → s.age < age → IsThereLike key first from s → ⊥) ss))

@@ -5,6 +5,7 @@ use Rattle.tc_lists.proofs.Options.{IfSome-at}
 use Rattle.tc_lists.proofs.Parts.{drop_read}
 use Rattle.tc_bag.specs.declared.index.Index.{Index}
 use Rattle.tc_bag.specs.declared.slots.Place.{Place}
+use Rattle.tc_bag.specs.declared.codes.Code.{Code}
 use Rattle.tc_bag.specs.Ages.{Has, HasCodes}
 use Rattle.tc_bag.specs.Codes.{codes_of}
 use Rattle.tc_bag.specs.Places.{slots_of, row_there, there_in, tuple_by, HasTuple, IsEntered}
@@ -26,9 +27,9 @@ loop-place-preserved c =
     let next = drop_read ps i p c.loop-place-test.true (own_read ps i none c.loop-place-test.true) in
     let full : HasTuple rows p =
     subst (All (HasTuple rows)) (sym c.as_slice-place-items.ensures.value) c.self.invariant.full i none c.loop-place-test.true in
-    let Enters : Index → Type 0 = λ now. ((index : Index) → ((code a : ℕ) → Has now code a → Has index code a)
+    let Enters : Index → Type 0 = λ now. ((index : Index) → ((code : Code) (a : ℕ) → Has now code a → Has index code a)
     → All (IsEntered index) (slots_of rows rest) → All (IsEntered index) (slots_of rows ps))
-    × ((code a : ℕ) → Has c.args.index.now code a → Has now code a) in
+    × ((code : Code) (a : ℕ) → Has c.args.index.now code a → Has now code a) in
     elim c.match-there.branch [
       | in-Some+in_ok-enter_row w ↦
           let row = w.in-Some.row in
