@@ -104,28 +104,28 @@ fn text_by<R: Threads + Sync>(
 #[test]
 fn a_long_text_is_the_same_by_any_workers(rt: HostRuntime) -> Result<(), Fail> {
     let alloc = rt.alloc();
-    let log = long_log(alloc, 27_001, 1)?;
+    let log = long_log(alloc, 9_001, 1)?;
     let alone = text_by(&rt, alloc, 1, &log)?;
     assert_eq!(rt;
         alone.taken().iter().filter(|b| **b == b'\n').count(),
-        27_003
+        9_003
     );
-    for workers in 2..=5 {
+    for workers in 2..=3 {
         let text = text_by(&rt, alloc, workers, &log)?;
         assert!(rt; text.taken() == alone.taken());
     }
     Ok(())
 }
 
-// A share of 2,500 lines has more than a megabyte here: its worker stops, and the rest is printed
+// A share of 1,100 lines has more than a megabyte here: its worker stops, and the rest is printed
 // behind what it has printed.
 #[test]
 fn long_lines_are_printed_to_the_last(rt: HostRuntime) -> Result<(), Fail> {
     let alloc = rt.alloc();
-    let log = long_log(alloc, 5_000, 1_000)?;
+    let log = long_log(alloc, 2_200, 1_000)?;
     let alone = text_by(&rt, alloc, 1, &log)?;
     let text = text_by(&rt, alloc, 2, &log)?;
-    assert_eq!(rt; text.taken().len(), 8 + 5_000 * (1_000 + 10) + 18_893 + 10);
+    assert_eq!(rt; text.taken().len(), 8 + 2_200 * (1_000 + 10) + 7_693 + 10);
     assert!(rt; text.taken() == alone.taken());
     Ok(())
 }
