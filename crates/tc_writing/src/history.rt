@@ -9,12 +9,13 @@ ghost use Rattle.tc_histtext.specs.Text.{log_text};
 ghost use Rattle.tc_histline.specs.Headings.{heading_text};
 ghost use Rattle.tc_io.specs.Flow.{HandsOn, flow};
 
+use crate::lines::Lines;
 use crate::pieces::spill;
+use crate::waves::write_by;
 use std::alloc::Global;
+use std::thread::Threads;
 use tc_desk::LogRow;
-use tc_histtext::{
-    Heading, Version, print_end, print_entry, print_heading, print_row, print_version,
-};
+use tc_histtext::{Heading, Version, print_end, print_heading, print_version};
 use tc_io::{Sink, SinkFault, write_kept};
 use tc_model::Entry;
 use tc_term::Name;
@@ -30,15 +31,19 @@ pub fn write_version<K: Sink>(sink: &mut K, kept: &mut Vec<u8>) -> Result<(), Si
     spill(sink, kept)
 }
 
-/// Hands on the history of a centre, by its name and the names of all agents.
-pub fn write_history<K: Sink>(
+/// Hands on the history of a centre, by its name and the names of all agents. So many workers print
+/// it, where it is long.
+pub fn write_history<R: Threads + Sync, K: Sink>(
+    rt: &R,
     alloc: Global,
+    workers: usize,
     agents: &[Name],
     centre: &Name,
     history: &[Entry],
     sink: &mut K,
     kept: &mut Vec<u8>,
 ) -> Result<(), SinkFault>
+    requires workers { 0 < workers }
     requires agents { All (λ e. (id_of e).agent < length agents.now) history.now }
     ensures { HandsOn (history_text agents.now centre.now history.now)
         (flow K.taken K.write_faults K.sure sink.old kept.old.items)
@@ -46,32 +51,34 @@ pub fn write_history<K: Sink>(
 {
     print_heading(alloc, Heading::Centre, centre, kept)?;
     spill(sink, kept)?;
-    for entry in history {
-        print_entry(alloc, agents, entry, kept)?;
-        spill(sink, kept)?;
-    }
-    Ok(())
+    write_by(
+        rt,
+        alloc,
+        workers,
+        Lines::Entries(agents, history),
+        sink,
+        kept,
+    )
 }
 
-/// Hands on the log of an agent.
-pub fn write_log<K: Sink>(
+/// Hands on the log of an agent. So many workers print it, where it is long.
+pub fn write_log<R: Threads + Sync, K: Sink>(
+    rt: &R,
     alloc: Global,
+    workers: usize,
     agent: &Name,
     log: &[LogRow],
     sink: &mut K,
     kept: &mut Vec<u8>,
 ) -> Result<(), SinkFault>
+    requires { 0 < workers }
     ensures { HandsOn (log_text Two agent.now log.now)
         (flow K.taken K.write_faults K.sure sink.old kept.old.items)
         (flow K.taken K.write_faults K.sure sink.new kept.new.items) result }
 {
     print_heading(alloc, Heading::Agent, agent, kept)?;
     spill(sink, kept)?;
-    for row in log {
-        print_row(alloc, Version::Two, row, kept)?;
-        spill(sink, kept)?;
-    }
-    Ok(())
+    write_by(rt, alloc, workers, Lines::Rows(log), sink, kept)
 }
 
 /// Hands on the last line, and writes all that is kept.

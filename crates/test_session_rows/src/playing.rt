@@ -7,6 +7,7 @@ use crate::writing::{append_brief, append_text};
 use anyhow::bail;
 use std::alloc::Global;
 use std::sync::Wait;
+use std::thread::Threads;
 use tc_config::{AgentConf, read_config};
 use tc_io::{MemLink, MemSink, MemSource};
 use tc_lists::NoMemory;
@@ -52,7 +53,12 @@ struct Ending {
 }
 
 /// Plays the sessions of a row, and then closes the site.
-pub fn play<R: Wait>(rt: &R, alloc: Global, row: &Row<'_>, cut: Cut) -> anyhow::Result<Played> {
+pub fn play<R: Threads + Wait + Sync>(
+    rt: &R,
+    alloc: Global,
+    row: &Row<'_>,
+    cut: Cut,
+) -> anyhow::Result<Played> {
     let config = read_config(alloc, &row.configuration)?;
     if config.agents().is_empty() {
         bail!("a row has no agent");
@@ -66,7 +72,7 @@ pub fn play<R: Wait>(rt: &R, alloc: Global, row: &Row<'_>, cut: Cut) -> anyhow::
     if row.brief {
         append_brief(alloc, &closed, last.place, &mut told)?;
     } else {
-        append_text(alloc, config.agents(), &closed, &mut told)?;
+        append_text(rt, alloc, config.agents(), &closed, &mut told)?;
     }
     Ok(Played {
         last: last.end,

@@ -4,6 +4,7 @@ use crate::rows::{Half, Row, Way};
 use anyhow::bail;
 use std::alloc::Global;
 use std::sync::Wait;
+use std::thread::Threads;
 use tc_lists::{NoMemory, append_number};
 use tc_session::SessionEnd;
 
@@ -17,7 +18,7 @@ const OTHER_PIECES: [u64; 3] = [7, 2, 1];
 const MOST_FAILING: u64 = 64;
 
 /// Appends what a row has come to.
-pub fn print_row<R: Wait>(
+pub fn print_row<R: Threads + Wait + Sync>(
     rt: &R,
     alloc: Global,
     row: &Row<'_>,
@@ -30,7 +31,7 @@ pub fn print_row<R: Wait>(
 }
 
 // Plays a row in pieces of each length. Those in which it comes to the same are listed.
-fn print_pieces<R: Wait>(
+fn print_pieces<R: Threads + Wait + Sync>(
     rt: &R,
     alloc: Global,
     row: &Row<'_>,
@@ -59,7 +60,7 @@ fn print_pieces<R: Wait>(
 }
 
 // Plays a row once for each call of the last session's link that fails, and then without a failure.
-fn print_failing<R: Wait>(
+fn print_failing<R: Threads + Wait + Sync>(
     rt: &R,
     alloc: Global,
     row: &Row<'_>,

@@ -1,5 +1,6 @@
 //! What is left of a site, as text.
 use std::alloc::Global;
+use std::thread::Threads;
 use tc_centre::Core;
 use tc_config::AgentConf;
 use tc_desk::has_pending;
@@ -10,7 +11,8 @@ use tc_site::Closed;
 use tc_writing::{write_end, write_history, write_log, write_version};
 
 /// Appends the text of the histories and the logs of these agents.
-pub fn append_text(
+pub fn append_text<R: Threads + Sync>(
+    rt: &R,
     alloc: Global,
     agents: &[AgentConf],
     closed: &Closed,
@@ -20,10 +22,10 @@ pub fn append_text(
     let mut kept = Vec::new(alloc);
     write_version(&mut sink, &mut kept)?;
     for core in &closed.cores {
-        write_core(alloc, core, &mut sink, &mut kept)?;
+        write_core(rt, alloc, core, &mut sink, &mut kept)?;
     }
     for (agent, log) in agents.iter().zip(&closed.logs) {
-        write_log(alloc, &agent.name, log, &mut sink, &mut kept)?;
+        write_log(rt, alloc, 1, &agent.name, log, &mut sink, &mut kept)?;
     }
     let blocked = closed.logs.iter().any(|log| has_pending(log));
     write_end(blocked, &mut sink, &mut kept)?;
@@ -32,14 +34,17 @@ pub fn append_text(
 }
 
 // Hands on the history of a core.
-fn write_core(
+fn write_core<R: Threads + Sync>(
+    rt: &R,
     alloc: Global,
     core: &Core,
     sink: &mut SureSink,
     kept: &mut Vec<u8>,
 ) -> Result<(), SinkFault> {
     write_history(
+        rt,
         alloc,
+        1,
         core.agents(),
         core.name(),
         core.history(),

@@ -18,6 +18,7 @@ use crate::refusing::stopped;
 use crate::status::Status;
 use crate::writing::write_run;
 use std::alloc::Global;
+use std::mem;
 use std::sync::Wait;
 use std::thread::Threads;
 use tc_config::Config;
@@ -75,7 +76,12 @@ fn run<R: Threads + Wait + Sync, K: Sink, G: Gate + Sync>(
     ensures reads { result ≡ Status.ReadFault → ⊥ }
 {
     match run_config(rt, alloc, workers, config, gate) {
-        Ok(run) => write_run(alloc, &run, sink),
+        Ok(run) => {
+            let status = write_run(rt, alloc, workers, &run, sink);
+            // The process ends next. To give back each row would take a sixteenth of a run.
+            mem::forget(run);
+            status
+        }
         Err(_) => Status::NoMemory,
     }
 }

@@ -11,6 +11,7 @@ ghost use Rattle.tucson.specs.Serving.{IsServed};
 ghost use Rattle.tucson.specs.Status.{status_of_service};
 
 use crate::command::Command;
+use crate::limits::USUAL_WORKERS;
 use crate::reading::read_source;
 use crate::refusing::stopped;
 use crate::status::Status;
@@ -78,7 +79,7 @@ fn serve<R: Threads + Wait + Sync, K: Sink, D: Door>(
         return Status::NetFault;
     }
     match service(rt, alloc, config, door) {
-        Ok(service) => write_service(alloc, &service, sink),
+        Ok(service) => write_service(rt, alloc, &service, sink),
         Err(_) => Status::NoMemory,
     }
 }
@@ -102,7 +103,12 @@ fn service<R: Threads + Wait + Sync, D: Door>(
 }
 
 // Writes the histories and the logs of a service.
-fn write_service<K: Sink>(alloc: Global, service: &Service, sink: &mut K) -> Status
+fn write_service<R: Threads + Sync, K: Sink>(
+    rt: &R,
+    alloc: Global,
+    service: &Service,
+    sink: &mut K,
+) -> Status
     requires { HasCores service.now.run }
     ensures tells { (door : DoorState) → (after : DoorState) → IsServed door after service.now
         → WritesDue (IsOutcomeOfService door after service.now.run.plan)
@@ -114,7 +120,15 @@ fn write_service<K: Sink>(alloc: Global, service: &Service, sink: &mut K) -> Sta
 {
     let blocked = is_blocked(&service.run.logs);
     let status = status_of_service(service.all, service.enough, blocked);
-    write_whole(alloc, status, &service.run, blocked, sink)
+    write_whole(
+        rt,
+        alloc,
+        USUAL_WORKERS,
+        status,
+        &service.run,
+        blocked,
+        sink,
+    )
 }
 
 // The status of a service: want of memory comes first, and then a fault of the door.

@@ -21,6 +21,7 @@ ghost use Rattle.tucson.specs.Texts.{whole_text};
 
 use crate::status::Status;
 use std::alloc::Global;
+use std::thread::Threads;
 use tc_centre::Core;
 use tc_desk::{LogRow, has_pending, rows_are_typed};
 use tc_io::{Sink, SinkFault, write_all};
@@ -46,7 +47,16 @@ pub fn written<K: Sink>(status: Status, text: &[u8], sink: &mut K) -> Status
 }
 
 /// Writes the histories and the logs of a run that has come to its end.
-pub fn write_run<K: Sink>(alloc: Global, run: &Opened, sink: &mut K) -> Status
+///
+/// So many workers print long ones.
+pub fn write_run<R: Threads + Sync, K: Sink>(
+    rt: &R,
+    alloc: Global,
+    workers: usize,
+    run: &Opened,
+    sink: &mut K,
+) -> Status
+    requires workers { 0 < workers }
     requires good { IsGoodRun run.now }
     requires cores { HasCores run.now }
     ensures tells { WritesDue
@@ -58,7 +68,15 @@ pub fn write_run<K: Sink>(alloc: Global, run: &Opened, sink: &mut K) -> Status
     ensures reads { result ≡ Status.ReadFault → ⊥ }
 {
     let blocked = is_blocked(&run.logs);
-    write_whole(alloc, status_of_run(blocked), run, blocked, sink)
+    write_whole(
+        rt,
+        alloc,
+        workers,
+        status_of_run(blocked),
+        run,
+        blocked,
+        sink,
+    )
 }
 
 /// The status of a run.
@@ -73,13 +91,18 @@ pub fn status_of_run(blocked: bool) -> Status
 }
 
 /// Writes histories and logs. What stops the writing comes in place of the status.
-pub fn write_whole<K: Sink>(
+///
+/// So many workers print long ones.
+pub fn write_whole<R: Threads + Sync, K: Sink>(
+    rt: &R,
     alloc: Global,
+    workers: usize,
     status: Status,
     run: &Opened,
     blocked: bool,
     sink: &mut K,
 ) -> Status
+    requires workers { 0 < workers }
     requires status { IsFault status → ⊥ }
     requires cores { HasCores run.now }
     requires blocked { blocked ≡ is_blocked (rows_of run.now.logs.items) }
@@ -96,7 +119,7 @@ pub fn write_whole<K: Sink>(
     typed_histories(&run.plan, &run.cores);
     typed_logs(&run.logs);
     let mut kept = Vec::new(alloc);
-    match write_text(alloc, run, blocked, sink, &mut kept) {
+    match write_text(rt, alloc, workers, run, blocked, sink, &mut kept) {
         Ok(()) => status,
         Err(SinkFault::Failed) => Status::WriteFault,
         Err(SinkFault::NoMemory) => Status::NoMemory,
@@ -125,13 +148,16 @@ pub fn typed_logs(logs: &[Vec<LogRow>])
 }
 
 // Hands on the whole text, and writes it to its end.
-fn write_text<K: Sink>(
+fn write_text<R: Threads + Sync, K: Sink>(
+    rt: &R,
     alloc: Global,
+    workers: usize,
     run: &Opened,
     blocked: bool,
     sink: &mut K,
     kept: &mut Vec<u8>,
 ) -> Result<(), SinkFault>
+    requires workers { 0 < workers }
     requires blocked { blocked ≡ is_blocked (rows_of run.now.logs.items) }
     requires cores { HasCores run.now }
     ensures hands { HandsOn (whole_text run.now.plan
@@ -141,8 +167,8 @@ fn write_text<K: Sink>(
     ensures empty { OnOk result (kept.new.items ≡ []) }
 {
     write_version(sink, kept)?;
-    write_histories(alloc, &run.plan, &run.cores, sink, kept)?;
-    write_logs(alloc, &run.plan, &run.logs, sink, kept)?;
+    write_histories(rt, alloc, workers, &run.plan, &run.cores, sink, kept)?;
+    write_logs(rt, alloc, workers, &run.plan, &run.logs, sink, kept)?;
     write_end(blocked, sink, kept)
 }
 
@@ -159,13 +185,16 @@ pub fn is_blocked(logs: &[Vec<LogRow>]) -> bool
 }
 
 // Hands on the history of each centre. One that isn't opened has none.
-fn write_histories<K: Sink>(
+fn write_histories<R: Threads + Sync, K: Sink>(
+    rt: &R,
     alloc: Global,
+    workers: usize,
     plan: &Plan,
     cores: &[Core],
     sink: &mut K,
     kept: &mut Vec<u8>,
 ) -> Result<(), SinkFault>
+    requires workers { 0 < workers }
     requires cores { AreCores plan.now cores.now }
     requires none { length plan.now.agents ≡ 0 → cores.now ≡ [] }
     ensures { HandsOn (histories_text (agent_names plan.now) (centre_names plan.now)
@@ -176,7 +205,16 @@ fn write_histories<K: Sink>(
     let centres = plan.centres();
     for place in 0..centres.len() {
         let (agents, history) = history_at(plan, cores, place);
-        write_history(alloc, agents, &centres[place], history, sink, kept)?;
+        write_history(
+            rt,
+            alloc,
+            workers,
+            agents,
+            &centres[place],
+            history,
+            sink,
+            kept,
+        )?;
     }
     Ok(())
 }
@@ -198,21 +236,32 @@ fn history_at<'a>(plan: &Plan, cores: &'a [Core], place: usize) -> (&'a [Name], 
 }
 
 // Hands on the log of each agent.
-fn write_logs<K: Sink>(
+fn write_logs<R: Threads + Sync, K: Sink>(
+    rt: &R,
     alloc: Global,
+    workers: usize,
     plan: &Plan,
     logs: &[Vec<LogRow>],
     sink: &mut K,
     kept: &mut Vec<u8>,
 ) -> Result<(), SinkFault>
-    requires { length logs.now ≡ length plan.now.agents }
+    requires workers { 0 < workers }
+    requires logs { length logs.now ≡ length plan.now.agents }
     ensures { HandsOn (logs_text Two (agent_names plan.now) (rows_of logs.now))
         (flow K.taken K.write_faults K.sure sink.old kept.old.items)
         (flow K.taken K.write_faults K.sure sink.new kept.new.items) result }
 {
     let agents = plan.agents();
     for place in 0..agents.len() {
-        write_log(alloc, &agents[place].name, &logs[place], sink, kept)?;
+        write_log(
+            rt,
+            alloc,
+            workers,
+            &agents[place].name,
+            &logs[place],
+            sink,
+            kept,
+        )?;
     }
     Ok(())
 }

@@ -1,7 +1,7 @@
 use Rattle.std.proofs.Common.{◌≡◌, Err, rules}
 use Rattle.tc_histline.specs.Text.{end_text}
 use Rattle.tc_io.specs.declared.sinks.SinkFault.TheVariants.{NoMemory}
-use Rattle.tc_writing.proofs.Lines.{unprinted_as}
+use Rattle.tc_writing.proofs.LineByLine.{unprinted_as}
 use Rattle.tc_writing.proofs.history.write_end.Goals as goal
 
 pub returns-in_err-print_end-clause-hands : goal.returns-in_err-print_end-clause-hands

@@ -16,7 +16,7 @@ returns-in_err-write_log g c =
     let log = c.index-logs-place.result in
     let within : i < length agents = omega (arith, ap length c.agents-agents.ensures.agents, c.loop-place-test.true) in
     let is : a ≡ get_or agents i a = c.index-agents-place.is ∙ ap (λ l. get_or l i a) c.agents-agents.ensures.agents in
-    let there : slice_get logs i ≡ Some log = slice_get_read logs (length logs) i log refl (omega (arith, within, c.requires)) c.index-logs-place.is in
+    let there : slice_get logs i ≡ Some log = slice_get_read logs (length logs) i log refl (omega (arith, within, c.requires.logs)) c.index-logs-place.is in
     let told : c.from_residual.result ≡ Err c.in_err-write_log.field-0.0 = search rules in
     text_is _ _ _ _ c.from_residual.result (sym (logs-zipped Two agents logs))
     (part-amid (log_of Two) agents logs i a log _ _ _ c.write_log.result c.from_residual.result c.in_err-write_log.field-0.0
@@ -32,7 +32,7 @@ loop-place-preserved g c =
     let log = c.index-logs-place.result in
     let within : i < length agents = omega (arith, ap length c.agents-agents.ensures.agents, c.loop-place-test.true) in
     let is : a ≡ get_or agents i a = c.index-agents-place.is ∙ ap (λ l. get_or l i a) c.agents-agents.ensures.agents in
-    let there : slice_get logs i ≡ Some log = slice_get_read logs (length logs) i log refl (omega (arith, within, c.requires)) c.index-logs-place.is in
+    let there : slice_get logs i ≡ Some log = slice_get_read logs (length logs) i log refl (omega (arith, within, c.requires.logs)) c.index-logs-place.is in
     part-handed (log_of Two) agents logs i a log _ _ _ c.write_log.result
     within is there c.in_ok-write_log.was c.loop-place.invariant
     (text_is _ _ _ _ c.write_log.result (ap (λ (x : AgentConf). log_text Two x.name c.deref.result.now) (sym c.index-agents-place.is) ∙ ap (log_text Two a.name) c.deref.ensures.value) c.write_log.ensures)

@@ -1,5 +1,5 @@
 -- A text that is a heading and one line for each element of a list, handed on line by line.
-use Rattle.std.proofs.Common.{◌≡◌, ℕ, ◌+◌, ◌<◌, List, [], ◌∷◌, ◌++◌, Result, Ok, Err, take, drop, length, get_or, ap, sym, subst, ◌∙◌, append-nil, append_assoc, take-append-drop}
+use Rattle.std.proofs.Common.{◌≡◌, ℕ, zero, suc, ◌+◌, ◌<◌, List, [], ◌∷◌, ◌++◌, Result, Ok, Err, take, drop, length, get_or, ap, arith, refl, sym, subst, ◌∙◌, append-nil, append_assoc, take-append-drop}
 use Rattle.std.specs.List.{flat_map}
 use Rattle.std.proofs.lemmas.Grind.{flat_map-append}
 use Rattle.tc_io.specs.declared.sinks.SinkFault.{SinkFault}
@@ -29,6 +29,12 @@ pub unprinted_as : (text kept after : List ℕ) (sink : SinkState) (told : Resul
     → HandsOn text (record { sink = sink; kept = kept }) (record { sink = sink; kept = after }) told
 unprinted_as text kept after sink told is same =
     subst (HandsOn text (record { sink = sink; kept = kept }) (record { sink = sink; kept = after })) (sym is) (unprinted text kept after sink same)
+
+-- what is read within a list, whatever is read outside it
+pub same-read : {X : Type 0} (xs : List X) (i : ℕ) (d e : X) → i < length xs → get_or xs i d ≡ get_or xs i e
+same-read [] i d e within = absurd (omega (arith, within))
+same-read (x ∷ xs) zero d e within = refl
+same-read (x ∷ xs) (suc i) d e within = same-read xs i d e (omega (arith, within))
 
 module _ {X : Type 0} (heading : List ℕ) (line : X → List ℕ) (xs : List X) where
   -- the heading and the lines of the first elements
