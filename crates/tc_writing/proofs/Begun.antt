@@ -4,7 +4,7 @@ use Rattle.std.specs.List.{flat_map}
 use Rattle.std.proofs.lemmas.Grind.{flat_map-append}
 use Rattle.tc_io.specs.declared.sinks.SinkFault.{SinkFault}
 use Rattle.tc_io.specs.Flow.{Flow, HandsOn}
-use Rattle.tc_io.proofs.Flows.{amid, both, both_done, nothing_handed}
+use Rattle.tc_io.proofs.Flows.{amid, both, nothing_handed}
 use Rattle.tc_writing.specs.Lines.{whole}
 
 -- of these lines those before the rest were handed on

@@ -1,7 +1,7 @@
-use Rattle.std.proofs.Common.{◌≡◌, ◌∙◌, List, ℕ, [], ◌++◌, Ok, Err, take, drop, ap, refl, sym, subst, rules, take-append-drop}
-use Rattle.tc_io.specs.Flow.{HandsOn, flow}
+use Rattle.std.proofs.Common.{◌≡◌, ◌∙◌, [], ◌++◌, Err, take, drop, ap, refl, sym, subst, rules, take-append-drop}
+use Rattle.tc_io.specs.Flow.{HandsOn}
 use Rattle.tc_writing.specs.Lines.{texts, whole}
-use Rattle.tc_writing.proofs.Begun.{Begun, begun-amid, begun-last, begun-more, parted}
+use Rattle.tc_writing.proofs.Begun.{begun-amid, begun-last, begun-more, parted}
 use Rattle.tc_writing.proofs.LineByLine.{printed}
 use Rattle.tc_writing.proofs.shares.write_share.Goals as goal
 

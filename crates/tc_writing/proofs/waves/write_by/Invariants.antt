@@ -1,4 +1,4 @@
-use Rattle.std.proofs.Common.{◌*◌, length}
+use Rattle.std.proofs.Common.{length}
 use Rattle.tc_io.specs.Flow.{flow}
 use Rattle.tc_writing.specs.Lines.{AreNamed, texts}
 use Rattle.tc_writing.proofs.Begun.{Begun}
