@@ -97,6 +97,6 @@ for size in 1000 10000 100000 1000000; do
 done
 
 printf '\n| held | bytes each |\n|---|---|\n'
-echo "| a tuple p(i,0), and 56 in the list that the centre begins with |" \
+echo "| a tuple p(i,0), and 32 in the list that the centre begins with |" \
   "$(bytes "$(resident held 200000 0)" "$(resident held 1000000 0)") |"
 echo "| a tuple p(i,0) and the entry of its out | $(bytes "$(resident outs 0 200000)" "$(resident outs 0 1000000)") |"
