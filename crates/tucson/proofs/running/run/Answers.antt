@@ -13,5 +13,5 @@ returns-in-Ok-clause-tells g c =
     subst
     (λ (config : Configuration).
     WritesDue (IsOutcomeOf (IsGood TheFirst config) (whole_text config)) (sink_of g.K.Sink.taken g.K.Sink.write_faults g.K.Sink.sure c.args.sink.now)
-    (sink_of g.K.Sink.taken g.K.Sink.write_faults g.K.Sink.sure c.write_run.new.sink) c.write_run.result)
-    c.in-Ok.ensures.plan c.write_run.ensures.tells
+    (sink_of g.K.Sink.taken g.K.Sink.write_faults g.K.Sink.sure c.write_run-status.new.sink) c.write_run-status.result)
+    c.in-Ok.ensures.plan c.write_run-status.ensures.tells
