@@ -45,7 +45,7 @@ returns-clause-fresh c =
     let goes =
     Goes-fresh c.args.config c.in_ok-cores.cores.items (rows_of logs)
     (subst (AreCores c.args.config) (sym fresh) (AreCores-fresh c.args.config)) unserved
-    (omega (arith, many, c.len.ensures, c.in_ok-logs.ensures.count, length-map logs (λ (v : Vec LogRow Global). v.items)))
+    (omega (arith, many, c.in_ok-logs.ensures.count, length-map logs (λ (v : Vec LogRow Global). v.items)))
     c.in_ok-logs.ensures.empty in
     record {
       may = record {
