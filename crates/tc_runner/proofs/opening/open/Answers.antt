@@ -39,13 +39,12 @@ returns-clause-fresh c =
     let fresh : c.in_ok-cores.cores.items ≡ fresh_cores c.args.config.agents c.args.config.centres =
     c.in_ok-cores.ensures ∙ ap₂ fresh_cores agents centres in
     let logs : List (Vec LogRow Global) = c.in_ok-logs.logs.items in
-    let many = ap length (ap (λ (x : Configuration). x.agents) parts) in
     let same : c.new-plan.result ≡ c.args.config = search rules in
     let unserved = subst (All (λ (x : Centre). x.history ≡ [])) (sym fresh) (unserved-fresh c.args.config.agents c.args.config.centres) in
     let goes =
     Goes-fresh c.args.config c.in_ok-cores.cores.items (rows_of logs)
     (subst (AreCores c.args.config) (sym fresh) (AreCores-fresh c.args.config)) unserved
-    (omega (arith, many, c.in_ok-logs.ensures.count, length-map logs (λ (v : Vec LogRow Global). v.items)))
+    (omega (arith, ap length agents, c.in_ok-logs.ensures.count, length-map logs (λ (v : Vec LogRow Global). v.items)))
     c.in_ok-logs.ensures.empty in
     record {
       may = record {
