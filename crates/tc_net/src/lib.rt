@@ -11,9 +11,12 @@
 //! ```
 #![tactic(auto)]
 
+mod arrivals;
 mod closing;
+mod departures;
 mod door;
 mod link;
+mod listening;
 mod telling;
 mod tries;
 

@@ -12,6 +12,9 @@
 //! ```
 #![tactic(auto)]
 
+mod attending;
+mod calls;
+mod seats;
 mod served;
 mod service;
 mod serving;

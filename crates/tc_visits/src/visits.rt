@@ -46,6 +46,10 @@ impl<L: Link> Model for Visit<L> {
 }
 
 impl<L: Link> Visit<L> {
+    pub(crate) fn new(desk: EndedDesk<Roles>, end: SessionEnd, opened: Snapshot<L>) -> Visit<L> {
+        Visit { desk, end, opened }
+    }
+
     /// How the session has ended.
     pub fn end(&self) -> SessionEnd
         ensures end { result ≡ self.now.end }
@@ -67,44 +71,5 @@ impl<L: Link + Drop> Visit<L> {
             opened: _,
         } = self;
         desk
-    }
-}
-
-/// What a session in a thread will have been: one of this kit's desk, over this connection.
-#[derive(Drop)]
-pub(crate) struct IsOf<L> {
-    pub(crate) kit: Snapshot<DeskKit<Roles>>,
-    pub(crate) link: Snapshot<L>,
-}
-
-impl<L: Link> Promise<Visit<L>> for IsOf<L> {
-    ghost use Rattle.std.specs.Prelude.{◌≡◌};
-    ghost use Rattle.tc_io.specs.Links.{connection_of};
-
-    ghost kept_by = { λ p v. (v.site ≡ p.kit.value.site) × (v.agent ≡ p.kit.value.agent)
-        × (v.connection ≡ connection_of L.Source.left L.Source.sure L.Sink.sure p.link.value) };
-}
-
-/// Serves a connection at the desk of a kit.
-pub(crate) fn serve_link<R: Wait, L: Link + Drop>(
-    rt: &R,
-    alloc: Global,
-    site: &Site<Roles>,
-    kit: DeskKit<Roles>,
-    mut link: L,
-) -> Visit<L>
-    requires { kit.site ≡ site.now }
-    ensures site { result.site ≡ site.now }
-    ensures agent { result.agent ≡ kit.agent }
-    ensures connection { result.connection
-        ≡ connection_of L.Source.left L.Source.sure L.Sink.sure link }
-{
-    let opened = Snapshot::of(&link);
-    let mut desk = AgentDesk::new(alloc, site, kit);
-    let end = serve_session(rt, alloc, &mut desk, &mut link);
-    Visit {
-        desk: desk.end(),
-        end,
-        opened,
     }
 }
