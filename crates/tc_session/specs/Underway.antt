@@ -32,6 +32,13 @@ pub record IsKept (d : DeskState) (pending : Option ℕ) : Type 0 where
   pub free : d.free ≡ true
   pub pends : PendsAt d.log pending
 
+-- the session goes on at this moment, or is over
+abbrev pub ComesTo : Moment → Step → Moment → Type 0
+ComesTo from Answered now = IsSoFar from now
+ComesTo from Read now = IsSoFar from now
+ComesTo from Paused now = IsSoFar from now
+ComesTo from (Over end) now = IsOver from end now.source now.sink now.desk
+
 -- by the state of a desk, what is left of a link, its read faults, whether it is sure as a source,
 -- what it has taken, its write faults, and whether it is sure as a sink
 module _ {D L : Type 0} (state : D → DeskState) (left : L → Option (List ℕ))

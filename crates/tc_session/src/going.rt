@@ -1,12 +1,15 @@
 //! A session that goes on as lines come.
-ghost use Rattle.std.specs.Prelude.{◌≡◌, ◌+◌, ◌<◌, ◌≤◌, [], None, IsTrue, IsSome, length, true};
-ghost use Rattle.std.specs.Prelude.{vec_len, vec_capacity};
-ghost use Rattle.tc_desk.specs.Desks.{Keeps};
+ghost use Rattle.std.specs.Prelude.{◌≡◌, ◌+◌, ◌<◌, ◌≤◌, ℕ, List, [], None, Ok, Some, true};
+ghost use Rattle.std.specs.Prelude.{IfNone, IsTrue, length, vec_len, vec_capacity};
+ghost use Rattle.tc_desk.specs.Desks.{DeskState, Keeps};
+ghost use Rattle.tc_desk.specs.Logs.{any_pending};
+ghost use Rattle.tc_io.specs.Sinks.{sink_of};
+ghost use Rattle.tc_io.specs.Sources.{source_of};
 ghost use Rattle.tc_lines.specs.Lines.{HasNoBreak};
-ghost use Rattle.tc_session.specs.SoFar.{Moment, moment};
-ghost use Rattle.tc_session.specs.Underway.{GoesOn, IsUnderway};
+ghost use Rattle.tc_session.specs.SoFar.{IsSoFar, Moment, moment};
+ghost use Rattle.tc_session.specs.Underway.{ComesTo, GoesOn, Holds, IsUnderway};
 
-use crate::answering::pending_place;
+use crate::answering::{ROOM, pending_place};
 use crate::endings::SessionEnd;
 use crate::sending::{flush, prepare};
 use crate::session::{refill, serve_line};
@@ -77,13 +80,15 @@ impl<D: Desk + Drop, L: Link + Drop> Session<D, L> {
             (moment L.Source.left L.Source.read_faults L.Source.sure L.Sink.taken
             L.Sink.write_faults L.Sink.sure link [] [] (D.state desk)) result }
     {
+        let lines = Lines::new(alloc);
+        let replies = Vec::new(alloc);
         let pending = pending_place(desk.log());
         Session {
             desk,
             link,
-            lines: Lines::new(alloc),
+            lines,
             asked: None,
-            replies: Vec::new(alloc),
+            replies,
             pending,
         }
     }
@@ -113,51 +118,13 @@ impl<D: Desk + Drop, L: Link + Drop> Session<D, L> {
         if let Some(end) = prepare(&mut self.link, &mut self.replies) {
             return Step::Over(end);
         }
-        match self.next_line(alloc) {
-            Some(asked) => {
-                if !is_called && self.waits_for(&asked) {
-                    return self.pause_before(asked);
-                }
-                self.serve(rt, alloc, asked)
-            }
-            None => self.read(may_read, buffer),
+        let Some(asked) = next_line(alloc, &mut self.asked, &mut self.lines) else {
+            return read(&mut self.link, &mut self.lines, &mut self.replies, may_read, buffer);
+        };
+        if waits(&asked, self.pending.is_some(), is_called) {
+            self.asked = Some(asked);
+            return pause(&mut self.link, &mut self.replies);
         }
-    }
-
-    // The line that was taken, or the next one.
-    fn next_line(&mut self, alloc: Global) -> Option<Result<LineAsk, BadLine>> {
-        match self.asked.take() {
-            Some(asked) => Some(asked),
-            None => self.lines.next_request(alloc),
-        }
-    }
-
-    // Whether a line asks to wait for a call that is pending.
-    fn waits_for(&self, asked: &Result<LineAsk, BadLine>) -> bool {
-        match asked {
-            Ok(LineAsk::Wait) => self.pending.is_some(),
-            Ok(LineAsk::Call(..) | LineAsk::Poll | LineAsk::Quit) | Err(_) => false,
-        }
-    }
-
-    // Pauses before a line, once all replies are written.
-    fn pause_before(&mut self, asked: Result<LineAsk, BadLine>) -> Step {
-        match flush(&mut self.link, &mut self.replies) {
-            Some(end) => Step::Over(end),
-            None => {
-                self.asked = Some(asked);
-                Step::Paused
-            }
-        }
-    }
-
-    // Answers a line.
-    fn serve<R: Wait>(
-        &mut self,
-        rt: &R,
-        alloc: Global,
-        asked: Result<LineAsk, BadLine>,
-    ) -> Step {
         let over = serve_line(
             rt,
             alloc,
@@ -173,35 +140,27 @@ impl<D: Desk + Drop, L: Link + Drop> Session<D, L> {
         }
     }
 
-    // Writes all replies, and reads more, if that may be done.
-    fn read(&mut self, may_read: bool, buffer: &mut [u8]) -> Step {
-        if self.lines.count() <= MOST_LINE && !(may_read && self.link.has_come()) {
-            return match flush(&mut self.link, &mut self.replies) {
-                Some(end) => Step::Over(end),
-                None => Step::Paused,
-            };
-        }
-        match refill(&mut self.link, &mut self.lines, &mut self.replies, buffer) {
-            Some(end) => Step::Over(end),
-            None => Step::Read,
-        }
-    }
-
     /// Whether a call is pending.
-    pub fn is_pending(&self) -> bool {
+    pub fn is_pending(&self) -> bool
+        ensures { result ≡ any_pending (D.state self.now.desk).log }
+    {
         self.pending.is_some()
     }
 
     /// Whether it has paused before a wait.
-    pub fn is_waiting(&self) -> bool {
+    pub fn is_waiting(&self) -> bool
+        ensures { IsTrue result → self.now.asked ≡ Some (Ok LineAsk.Wait) }
+    {
         match &self.asked {
-            Some(asked) => self.waits_for(asked),
+            Some(asked) => waits(asked, self.pending.is_some(), false),
             None => false,
         }
     }
 
     /// The link.
-    pub fn link(&self) -> &L {
+    pub fn link(&self) -> &L
+        ensures { result.now ≡ self.now.link }
+    {
         &self.link
     }
 
@@ -211,14 +170,86 @@ impl<D: Desk + Drop, L: Link + Drop> Session<D, L> {
         ensures link { result.1 ≡ self.link }
         ensures free { (D.state self.desk).free ≡ true }
     {
-        let Session {
-            desk,
-            link,
-            lines: _,
-            asked: _,
-            replies: _,
-            pending: _,
-        } = self;
+        let Session { desk, link, .. } = self;
         (desk, link)
     }
+}
+
+// The line that was taken, or the next one that is whole.
+fn next_line(
+    alloc: Global,
+    taken: &mut Option<Result<LineAsk, BadLine>>,
+    lines: &mut Lines,
+) -> Option<Result<LineAsk, BadLine>>
+    ensures line { (held : List ℕ) → Holds taken.old lines.old held → Holds result lines.new held }
+    ensures taken { taken.new ≡ None }
+    ensures none { IfNone result (HasNoBreak lines.new) }
+{
+    match taken.take() {
+        Some(asked) => Some(asked),
+        None => lines.next_request(alloc),
+    }
+}
+
+// Whether a line asks to wait for a call that is pending, to which the agent isn't called yet.
+fn waits(asked: &Result<LineAsk, BadLine>, is_pending: bool, is_called: bool) -> bool
+    ensures { IsTrue result → asked.now ≡ Ok LineAsk.Wait }
+{
+    match asked {
+        Ok(LineAsk::Wait) => is_pending && !is_called,
+        Ok(LineAsk::Call(..) | LineAsk::Poll | LineAsk::Quit) | Err(_) => false,
+    }
+}
+
+// Pauses, once all replies are written.
+fn pause<L: Link>(link: &mut L, replies: &mut Vec<u8>) -> Step
+    ensures { (from : Moment) (held : List ℕ) (d : DeskState) → IsSoFar from
+        (moment L.Source.left L.Source.read_faults L.Source.sure L.Sink.taken L.Sink.write_faults
+        L.Sink.sure link.old held replies.old.items d)
+        → ComesTo from result
+        (moment L.Source.left L.Source.read_faults L.Source.sure L.Sink.taken L.Sink.write_faults
+        L.Sink.sure link.new held replies.new.items d) }
+{
+    match flush(link, replies) {
+        Some(end) => Step::Over(end),
+        None => Step::Paused,
+    }
+}
+
+// Writes all replies, and reads more, if that may be done. A line too long ends the session.
+fn read<L: Link>(
+    link: &mut L,
+    lines: &mut Lines,
+    replies: &mut Vec<u8>,
+    may_read: bool,
+    buffer: &mut [u8],
+) -> Step
+    requires room { vec_len replies.old + ROOM ≤ vec_capacity replies.old }
+    requires buffer { 0 < length buffer.old }
+    requires none { HasNoBreak lines.old }
+    ensures { (from : Moment) (d : DeskState) → IsSoFar from
+        (moment L.Source.left L.Source.read_faults L.Source.sure L.Sink.taken L.Sink.write_faults
+        L.Sink.sure link.old lines.old replies.old.items d)
+        → ComesTo from result
+        (moment L.Source.left L.Source.read_faults L.Source.sure L.Sink.taken L.Sink.write_faults
+        L.Sink.sure link.new lines.new replies.new.items d) }
+{
+    if !goes_on(link, lines.count(), may_read) {
+        return pause(link, replies);
+    }
+    match refill(link, lines, replies, buffer) {
+        Some(end) => Step::Over(end),
+        None => Step::Read,
+    }
+}
+
+// Whether nothing has to come first, where so many bytes are held: a line is too long, or a read
+// may be done and is answered.
+fn goes_on<L: Link>(link: &mut L, held: usize, may_read: bool) -> bool
+    ensures source { source_of L.Source.left L.Source.read_faults L.Source.sure link.new
+        ≡ source_of L.Source.left L.Source.read_faults L.Source.sure link.old }
+    ensures sink { sink_of L.Sink.taken L.Sink.write_faults L.Sink.sure link.new
+        ≡ sink_of L.Sink.taken L.Sink.write_faults L.Sink.sure link.old }
+{
+    held > MOST_LINE || (may_read && link.has_come())
 }
