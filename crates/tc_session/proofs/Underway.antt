@@ -2,7 +2,7 @@
 use Rattle.std.proofs.Common.{◌≡◌, ℕ, Bool, true, false, List, Option, Some, None, Result, IfSome, IfNone, is_some, refl, sym, subst, ◌∙◌, ⊎_elim}
 use Rattle.std.proofs.lemmas.Bool.{cases_Bool}
 use Rattle.tc_desk.proofs.Logs.{any_pending-none}
-use Rattle.tc_desk.specs.Desks.{DeskState}
+use Rattle.tc_desk.specs.Desks.{DeskState, Keeps}
 use Rattle.tc_desk.specs.Logs.{any_pending}
 use Rattle.tc_desk.specs.declared.rows.LogRow.{LogRow}
 use Rattle.tc_io.specs.Sources.{SourceState}
@@ -10,6 +10,7 @@ use Rattle.tc_io.specs.Sinks.{SinkState}
 use Rattle.tc_lines.specs.Requests.{BeginsWith}
 use Rattle.tc_lines.specs.declared.requests.BadLine.{BadLine}
 use Rattle.tc_lines.specs.declared.requests.LineAsk.{LineAsk}
+use Rattle.tc_session.proofs.Kept.{kept_same}
 use Rattle.tc_session.specs.Answering.{PendsAt}
 use Rattle.tc_session.specs.SoFar.{IsSoFar, Moment, moment}
 use Rattle.tc_session.specs.Underway.{ComesTo, GoesOn, Holds, IsUnderway, Sitting}
@@ -23,6 +24,10 @@ same_link from now source sink before same is =
     subst (λ (s : SourceState). IsSoFar from (record { source = s; sink = sink; held = now.held; kept = now.kept; desk = now.desk })) (sym same)
     (subst (λ (s : SinkState). IsSoFar from (record { source = now.source; sink = s; held = now.held; kept = now.kept; desk = now.desk })) (sym is) before)
 
+-- where no line was taken, those are all bytes that are held
+pub none_held : (asked : Option (Result LineAsk BadLine)) (lines held : List ℕ) → asked ≡ None → Holds asked lines held → held ≡ lines
+none_held asked lines held none = subst (λ (a : Option (Result LineAsk BadLine)). Holds a lines held → held ≡ lines) (sym none) (λ is. is)
+
 -- the next line, if one is whole, where none was taken before
 pub next_held : (found : Option (Result LineAsk BadLine)) (old new held : List ℕ) → IfSome found (λ asked. BeginsWith old asked new)
     → IfNone found (new ≡ old) → held ≡ old → Holds found new held
@@ -32,6 +37,12 @@ next_held (Some asked) old new held begins same is = subst (λ (l : List ℕ). B
 -- no line that was taken is held
 pub none_taken : (asked : Option (Result LineAsk BadLine)) (lines : List ℕ) → asked ≡ None → Holds asked lines lines
 none_taken asked lines none = subst (λ (a : Option (Result LineAsk BadLine)). Holds a lines lines) (sym none) refl
+
+-- a session keeps all of its desk
+pub same_sitting : {D L : Type 0} (state : D → DeskState) (s t : Sitting D L) → s ≡ t → (state s.desk).free ≡ true
+    → Keeps (state t.desk) (state s.desk)
+same_sitting {D} {L} state s t is free =
+    subst (λ (v : Sitting D L). Keeps (state v.desk) (state s.desk)) is (kept_same (state s.desk) free)
 
 -- a call is pending where its place is known
 pub pends_is : (log : List LogRow) (place : Option ℕ) → PendsAt log place → is_some place ≡ any_pending log
