@@ -119,7 +119,13 @@ impl<D: Desk + Drop, L: Link + Drop> Session<D, L> {
             return Step::Over(end);
         }
         let Some(asked) = next_line(alloc, &mut self.asked, &mut self.lines) else {
-            return read(&mut self.link, &mut self.lines, &mut self.replies, may_read, buffer);
+            return read(
+                &mut self.link,
+                &mut self.lines,
+                &mut self.replies,
+                may_read,
+                buffer,
+            );
         };
         if waits(&asked, self.pending.is_some(), is_called) {
             self.asked = Some(asked);

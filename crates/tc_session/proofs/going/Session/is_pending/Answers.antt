@@ -1,4 +1,4 @@
-use Rattle.std.proofs.Common.{Bool, ap, sym, subst, ◌∙◌}
+use Rattle.std.proofs.Common.{ap, ◌∙◌}
 use Rattle.tc_desk.specs.Logs.{any_pending}
 use Rattle.tc_session.proofs.Underway.{pends_is}
 use Rattle.tc_session.specs.Underway.{Sitting}

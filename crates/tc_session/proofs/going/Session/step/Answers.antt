@@ -49,8 +49,8 @@ returns-clause-goes_on g c from before =
     let now : Moment = moment g.L.Source.left g.L.Source.read_faults g.L.Source.sure g.L.Sink.taken g.L.Sink.write_faults g.L.Sink.sure c.serve_line-over.new.link c.next_line.new.lines c.serve_line-over.new.replies.items (g.D.Desk.state c.serve_line-over.new.desk) in
     comes g.D.Desk.state g.L.Source.left g.L.Source.read_faults g.L.Source.sure g.L.Sink.taken g.L.Sink.write_faults g.L.Sink.sure from c.match-over.result _ c.next_line.new.lines (none_taken c.next_line.new.taken c.next_line.new.lines c.next_line.ensures.taken)
     (elim c.match-over.branch [
-    in-Some-over w ↦ subst (λ (step : Step). ComesTo from step now) (sym w.result-is) (w.in-Some-over.ensures.steps from b.held c.next_line.new.lines begins p)
-    | in-None w ↦ subst (λ (step : Step). ComesTo from step now) (sym w.result-is) (w.in-None.ensures.steps from b.held c.next_line.new.lines begins p)
+      | in-Some-over w ↦ subst (λ (step : Step). ComesTo from step now) (sym w.result-is) (w.in-Some-over.ensures.steps from b.held c.next_line.new.lines begins p)
+      | in-None w ↦ subst (λ (step : Step). ComesTo from step now) (sym w.result-is) (w.in-None.ensures.steps from b.held c.next_line.new.lines begins p)
     ])
 
 pub returns-then-not-has_room-clause-kept : goal.returns-then-not-has_room-clause-kept
