@@ -15,16 +15,16 @@ use Rattle.tc_model.specs.declared.asks.Primitive.TheVariants as primitive
 use Rattle.tc_model.specs.declared.lines.Line.{Line}
 
 -- one argument, and two
-pub length-one : (ts : List Term) (a : Tree) → 0 < length ts → trees_of ts ≡ Last a → length ts ≡ 1
-length-one [] a some e = absurd (omega (arith, some))
-length-one (t ∷ []) a some e = refl
-length-one (t ∷ u ∷ ts) a some e = absurd (cc)
+pub many_are_not_one : (ts : List Term) (a : Tree) → 2 < length ts → trees_of ts ≡ Last a → ⊥
+many_are_not_one [] a many e = omega (arith, many)
+many_are_not_one (t ∷ []) a many e = omega (arith, many)
+many_are_not_one (t ∷ u ∷ ts) a many e = cc
 
-pub length-two : (ts : List Term) (a b : Tree) → 0 < length ts → trees_of ts ≡ More a (Last b) → length ts ≡ 2
-length-two [] a b some e = absurd (omega (arith, some))
-length-two (t ∷ []) a b some e = absurd (cc)
-length-two (t ∷ u ∷ []) a b some e = refl
-length-two (t ∷ u ∷ v ∷ ts) a b some e = absurd (cc)
+pub many_are_not_two : (ts : List Term) (a b : Tree) → 2 < length ts → trees_of ts ≡ More a (Last b) → ⊥
+many_are_not_two [] a b many e = omega (arith, many)
+many_are_not_two (t ∷ []) a b many e = omega (arith, many)
+many_are_not_two (t ∷ u ∷ []) a b many e = omega (arith, many)
+many_are_not_two (t ∷ u ∷ v ∷ ts) a b many e = cc
 
 -- what is asked with an operand is a compound of a primitive's name
 pub not_a_primitive : (name : List ℕ) (t : Tree) → ((p : Primitive) → primitive_name p ≢ name) → (a : Ask)

@@ -1,5 +1,6 @@
 //! What agents ask, read from terms.
-ghost use Rattle.std.specs.Prelude.{◌≡◌, ◌<◌, IfNone, IfOk, IfSome, codes, length};
+ghost use Rattle.std.specs.Prelude.{◌≡◌, IfNone, IfOk, IfSome, codes};
+ghost use Rattle.tc_term.specs.Few.{AreMany, few_terms};
 ghost use Rattle.tc_term.specs.Tree.{Atomic, Compound};
 ghost use Rattle.tc_term.specs.TreeView.{tree_of, trees_of};
 ghost use Rattle.tc_model.specs.Asks.{primitive_name};
@@ -12,7 +13,7 @@ use crate::asks::{Ask, Primitive, primitive_of};
 use crate::parts::{atom_of, one_of, two_of};
 use std::alloc::Global;
 use tc_lists::NoMemory;
-use tc_term::{Name, Term};
+use tc_term::{Few, Name, Term};
 
 /// What is asked, and the name of the centre where it is asked.
 #[derive(Drop)]
@@ -30,7 +31,7 @@ pub fn ask_of(alloc: Global, t: Term) -> Result<Option<Ask>, NoMemory>
 {
     match t {
         Term::Atom(name) => Ok(ask_alone(name)),
-        Term::Comp(name, args) => Ok(ask_with(name, args.into_vec(alloc)?)),
+        Term::Comp(name, args) => Ok(ask_with(name, args.into_few(alloc)?)),
         Term::Var(_) | Term::Int(_) => Ok(None),
     }
 }
@@ -43,7 +44,7 @@ pub fn line_of(alloc: Global, t: Term) -> Result<Option<Line>, NoMemory>
         ((line : Line) → tree_of t ≡ line_term line → ⊥)) }
 {
     match t {
-        Term::Comp(name, args) => line_with(alloc, name, args.into_vec(alloc)?),
+        Term::Comp(name, args) => line_with(alloc, name, args.into_few(alloc)?),
         Term::Atom(_) | Term::Var(_) | Term::Int(_) => Ok(None),
     }
 }
@@ -60,9 +61,9 @@ fn ask_alone(name: Name) -> Option<Ask>
 }
 
 // What is asked by a name with arguments.
-fn ask_with(name: Name, args: Vec<Term>) -> Option<Ask>
-    requires { 0 < length args.items }
-    ensures { IsAsked (Compound name (trees_of args.items)) result }
+fn ask_with(name: Name, args: Few) -> Option<Ask>
+    requires { AreMany args }
+    ensures { IsAsked (Compound name (trees_of (few_terms args))) result }
 {
     match one_of(args) {
         Some(operand) => ask_on(name, operand),
@@ -98,9 +99,9 @@ fn ask_for(primitive: Primitive, operand: Term) -> Option<Ask>
 }
 
 // The line that the compound of this name with these arguments is, if it is one.
-fn line_with(alloc: Global, name: Name, args: Vec<Term>) -> Result<Option<Line>, NoMemory>
-    requires { 0 < length args.items }
-    ensures { IfOk result (IsLined (Compound name (trees_of args.items))) }
+fn line_with(alloc: Global, name: Name, args: Few) -> Result<Option<Line>, NoMemory>
+    requires { AreMany args }
+    ensures { IfOk result (IsLined (Compound name (trees_of (few_terms args)))) }
 {
     if name.bytes() != b"?".as_slice() {
         return Ok(None);

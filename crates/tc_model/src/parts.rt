@@ -1,9 +1,10 @@
 //! What terms are put together from, moved out of them.
-ghost use Rattle.std.specs.Prelude.{◌≡◌, ◌<◌, ℕ, IfNone, IfSome, List, length};
+ghost use Rattle.std.specs.Prelude.{◌≡◌, ℕ, IfNone, IfSome, List};
+ghost use Rattle.tc_term.specs.Few.{AreMany, few_terms};
 ghost use Rattle.tc_term.specs.Tree.{Atomic, Last, More, Tree};
 ghost use Rattle.tc_term.specs.TreeView.{tree_of, trees_of};
 
-use tc_term::{Name, Term};
+use tc_term::{Few, Name, Term};
 
 /// The name that the term is, if it is an atom.
 pub fn atom_of(t: Term) -> Option<Name>
@@ -17,30 +18,29 @@ pub fn atom_of(t: Term) -> Option<Name>
 }
 
 /// The argument, where there is one alone.
-pub fn one_of(mut args: Vec<Term>) -> Option<Term>
-    requires { 0 < length args.items }
-    ensures some { IfSome result (λ a. trees_of args.items ≡ Last (tree_of a)) }
-    ensures none { IfNone result ((a : Tree) → trees_of args.items ≡ Last a → ⊥) }
+#[tactic(auto, using(crate::proofs::Written::many_are_not_one))]
+pub fn one_of(args: Few) -> Option<Term>
+    requires { AreMany args }
+    ensures some { IfSome result (λ a. trees_of (few_terms args) ≡ Last (tree_of a)) }
+    ensures none { IfNone result ((a : Tree) → trees_of (few_terms args) ≡ Last a → ⊥) }
 {
-    if args.len() > 1 {
-        return None;
+    match args {
+        Few::One(x) => Some(x),
+        Few::Two(..) | Few::Many(_) => None,
     }
-    args.pop()
 }
 
 /// The arguments, where there are two.
-pub fn two_of(mut args: Vec<Term>) -> Option<(Term, Term)>
-    requires { 0 < length args.items }
+#[tactic(auto, using(crate::proofs::Written::many_are_not_two))]
+pub fn two_of(args: Few) -> Option<(Term, Term)>
+    requires { AreMany args }
     ensures some { IfSome result
-        (λ r. trees_of args.items ≡ More (tree_of r.0) (Last (tree_of r.1))) }
+        (λ r. trees_of (few_terms args) ≡ More (tree_of r.0) (Last (tree_of r.1))) }
     ensures none { IfNone result
-        ((a b : Tree) → trees_of args.items ≡ More a (Last b) → ⊥) }
+        ((a b : Tree) → trees_of (few_terms args) ≡ More a (Last b) → ⊥) }
 {
-    if args.len() != 2 {
-        return None;
-    }
-    match (args.pop(), args.pop()) {
-        (Some(b), Some(a)) => Some((a, b)),
-        _ => unreachable!(),
+    match args {
+        Few::Two(x, y) => Some((x, y)),
+        Few::One(_) | Few::Many(_) => None,
     }
 }

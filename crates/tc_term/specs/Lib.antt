@@ -3,6 +3,7 @@ pub mod Tree
 pub mod TreeView
 pub mod Same
 pub mod Cells
+pub mod Few
 pub mod Ground
 pub mod Variables
 pub mod Pattern

@@ -40,5 +40,5 @@ pub use limits::{
 pub use name::Name;
 pub use tc_lists::NoMemory;
 pub use template::{NotPattern, Pattern};
-pub use terms::{Args, Term};
+pub use terms::{Args, Few, Term};
 pub use tuple::{Ground, NotTuple};

@@ -2,6 +2,7 @@
 ghost use Rattle.std.specs.Prelude.{◌≡◌, ◌<◌, ◌≤◌, [], ◌∷◌, All, IfNone, IfOk, IfSome, length};
 ghost use Rattle.tc_term.specs.Blocks.{terms_of};
 ghost use Rattle.tc_term.specs.Cells.{IsCell, IsNoCell};
+ghost use Rattle.tc_term.specs.Few.{AreMany, few_terms};
 ghost use Rattle.tc_term.specs.Limits.{most_variables};
 ghost use Rattle.tc_term.specs.Tree.{depth, depth_of_all, is_ground};
 ghost use Rattle.tc_term.specs.TreeView.{tree_of, trees_of};
@@ -47,6 +48,14 @@ enum Block {
     Many(Vec<Term>),
 }
 
+/// Arguments that are moved: each by itself where they are one or two.
+#[derive(Drop)]
+pub enum Few {
+    One(Term),
+    Two(Term, Term),
+    Many(Vec<Term>),
+}
+
 impl Model for Args {
     ghost use Rattle.std.specs.Prelude.{◌<◌, length};
     ghost use Rattle.tc_term.specs.Tree.{Trees, depth_of_all};
@@ -89,6 +98,18 @@ impl Block {
             Block::One(terms) => Ok(Vec::from_array(alloc, terms)?),
             Block::Two(terms) => Ok(Vec::from_array(alloc, terms)?),
             Block::Many(terms) => Ok(terms),
+        }
+    }
+
+    fn into_few(self) -> Few
+        requires { 0 < length (terms_of self) }
+        ensures terms { few_terms result ≡ terms_of self }
+        ensures many { AreMany result }
+    {
+        match self {
+            Block::One([x]) => Few::One(x),
+            Block::Two([x, y]) => Few::Two(x, y),
+            Block::Many(terms) => few_of(terms),
         }
     }
 }
@@ -150,6 +171,19 @@ impl Args {
         match Arc::try_unwrap(self.block) {
             Ok(block) => block.into_vec(alloc),
             Err(block) => copies(alloc, block.items()),
+        }
+    }
+
+    /// The arguments themselves, without a list where they are one or two.
+    ///
+    /// They are moved or copied as by `into_vec`.
+    pub fn into_few(self, alloc: Global) -> Result<Few, NoMemory>
+        ensures trees { IfOk result (λ few. trees_of (few_terms few) ≡ self) }
+        ensures many { IfOk result AreMany }
+    {
+        match Arc::try_unwrap(self.block) {
+            Ok(block) => Ok(block.into_few()),
+            Err(block) => Ok(few_of(copies(alloc, block.items())?)),
         }
     }
 
@@ -244,6 +278,22 @@ impl Term {
             Term::Int(n) => Ok(Term::Int(*n)),
             Term::Comp(name, args) => Ok(Term::Comp(name.copy(alloc)?, args.copy(alloc)?)),
         }
+    }
+}
+
+// These terms, each by itself where they are one or two.
+fn few_of(mut terms: Vec<Term>) -> Few
+    requires { 0 < length terms.items }
+    ensures terms { few_terms result ≡ terms.items }
+    ensures many { AreMany result }
+{
+    if terms.len() > 2 {
+        return Few::Many(terms);
+    }
+    match (terms.pop(), terms.pop()) {
+        (Some(y), Some(x)) => Few::Two(x, y),
+        (Some(x), None) => Few::One(x),
+        _ => unreachable!(),
     }
 }
 
