@@ -1,5 +1,6 @@
 //! The forms of a clause.
-ghost use Rattle.std.specs.Prelude.{◌<◌, IfOk, codes, length};
+ghost use Rattle.std.specs.Prelude.{IfOk, codes};
+ghost use Rattle.tc_term.specs.Few.{AreMany, few_terms};
 ghost use Rattle.tc_term.specs.Tree.{Atomic, Compound, Last, More};
 ghost use Rattle.tc_term.specs.TreeView.{tree_of, trees_of};
 ghost use Rattle.tc_model.specs.Reactions.{of_one, of_two};
@@ -11,7 +12,7 @@ use crate::words::{Arguments, Word, arguments_of, budget_of, word_of};
 use std::alloc::Global;
 use tc_lists::{NoMemory, Seq};
 use tc_model::{Line, Primitive, atom_of, primitive_of};
-use tc_term::{Name, Term};
+use tc_term::{Few, Name, Term};
 
 /// A clause by its form, with what was read in it.
 #[derive(Drop)]
@@ -43,15 +44,15 @@ pub fn form_of(alloc: Global, t: Term) -> Result<Option<Form>, NoMemory>
         return Ok(None);
     };
     match word_of(name.bytes()) {
-        Some(word) => form_with(alloc, word, args.into_vec(alloc)?),
+        Some(word) => form_with(alloc, word, args.into_few(alloc)?),
         None => Ok(None),
     }
 }
 
 // The form of a word with these arguments.
-fn form_with(alloc: Global, word: Word, args: Vec<Term>) -> Result<Option<Form>, NoMemory>
-    requires { 0 < length args.items }
-    ensures { IfOk result (IsFormed (Compound (word_name word) (trees_of args.items))) }
+fn form_with(alloc: Global, word: Word, args: Few) -> Result<Option<Form>, NoMemory>
+    requires { AreMany args }
+    ensures { IfOk result (IsFormed (Compound (word_name word) (trees_of (few_terms args)))) }
 {
     match arguments_of(args) {
         Arguments::One(a) => Ok(form_of_one(word, a)),

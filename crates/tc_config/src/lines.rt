@@ -1,5 +1,6 @@
 //! The items of a script, as they are written.
-ghost use Rattle.std.specs.Prelude.{◌≡◌, ◌<◌, IfNone, IfOk, IfSome, List, length};
+ghost use Rattle.std.specs.Prelude.{◌≡◌, IfNone, IfOk, IfSome, List};
+ghost use Rattle.tc_term.specs.Few.{AreMany, few_terms};
 ghost use Rattle.tc_term.specs.Tree.{Atomic, Compound};
 ghost use Rattle.tc_term.specs.TreeView.{tree_of, trees_of};
 ghost use Rattle.tc_model.specs.declared.lines.Line.{Line};
@@ -9,7 +10,7 @@ ghost use Rattle.tc_config.specs.Words.{AreCells};
 use std::alloc::Global;
 use tc_lists::NoMemory;
 use tc_model::{Line, line_of, two_of};
-use tc_term::{Name, Term};
+use tc_term::{Few, Name, Term};
 
 /// A list as far as its first cell.
 #[derive(Drop)]
@@ -53,7 +54,7 @@ fn cells_of(alloc: Global, t: Term) -> Result<Cells, NoMemory>
 {
     match t {
         Term::Atom(name) => Ok(end_of(name)),
-        Term::Comp(name, args) => Ok(cell_of(name, args.into_vec(alloc)?)),
+        Term::Comp(name, args) => Ok(cell_of(name, args.into_few(alloc)?)),
         Term::Var(_) | Term::Int(_) => Ok(Cells::Neither),
     }
 }
@@ -69,9 +70,9 @@ fn end_of(name: Name) -> Cells
 }
 
 // A list's cell, if the compound of this name with these arguments is one.
-fn cell_of(name: Name, args: Vec<Term>) -> Cells
-    requires { 0 < length args.items }
-    ensures { AreCells (Compound name (trees_of args.items)) result }
+fn cell_of(name: Name, args: Few) -> Cells
+    requires { AreMany args }
+    ensures { AreCells (Compound name (trees_of (few_terms args))) result }
 {
     if name.bytes() != b".".as_slice() {
         return Cells::Neither;

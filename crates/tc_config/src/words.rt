@@ -1,5 +1,6 @@
 //! The words that clauses begin with, and the arguments behind them.
 ghost use Rattle.std.specs.Prelude.{◌≡◌, ◌≢◌, ◌<◌, ◌≤◌, ℕ, pos, IfNone, IfSome, length};
+ghost use Rattle.tc_term.specs.Few.{AreMany, few_terms};
 ghost use Rattle.tc_term.specs.Tree.{Number};
 ghost use Rattle.tc_term.specs.TreeView.{tree_of, trees_of};
 ghost use Rattle.tc_model.specs.declared.limits.TheConstants.{MOST_BUDGET};
@@ -7,7 +8,7 @@ ghost use Rattle.tc_config.specs.Words.{AreArguments, word_name};
 ghost use Rattle.tc_config.specs.declared.words.Word.{Word};
 
 use tc_model::MOST_BUDGET;
-use tc_term::Term;
+use tc_term::{Few, Term};
 
 /// What a clause is about.
 #[derive(Clone, Copy)]
@@ -54,19 +55,28 @@ pub fn word_of(name: &[u8]) -> Option<Word>
     }
 }
 
-/// The arguments, moved out of their list.
-pub fn arguments_of(mut terms: Vec<Term>) -> Arguments
-    requires { 0 < length terms.items }
+/// The arguments, each by itself where they are few.
+pub fn arguments_of(args: Few) -> Arguments
+    requires { AreMany args }
+    ensures { AreArguments (trees_of (few_terms args)) result }
+{
+    match args {
+        Few::One(a) => Arguments::One(a),
+        Few::Two(a, b) => Arguments::Two(a, b),
+        Few::Many(terms) => three_of(terms),
+    }
+}
+
+// Three arguments, moved out of their list, or more.
+fn three_of(mut terms: Vec<Term>) -> Arguments
+    requires { 2 < length terms.items }
     ensures { AreArguments (trees_of terms.items) result }
 {
     if terms.len() > 3 {
         return Arguments::Many;
     }
-    let (third, second, first) = (terms.pop(), terms.pop(), terms.pop());
-    match (third, second, first) {
+    match (terms.pop(), terms.pop(), terms.pop()) {
         (Some(c), Some(b), Some(a)) => Arguments::Three(a, b, c),
-        (Some(b), Some(a), None) => Arguments::Two(a, b),
-        (Some(a), None, None) => Arguments::One(a),
         _ => unreachable!(),
     }
 }
