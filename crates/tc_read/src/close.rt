@@ -18,6 +18,7 @@ use tc_term::Name;
 
 /// The operator at the front, and what follows it, where a term of this priority may stand left of
 /// it in a place of this limit.
+#[inline(always)]
 fn fitting<'a>(limit: u16, priority: u16, tokens: Tokens<'a>) -> Option<(Operator, Tokens<'a>)>
     ensures { MatchOption result (fitting limit priority (map token_view tokens.now) ≡ None)
         (λ r. (fitting limit priority (map token_view tokens.now) ≡ Some (operator_view r.0))
@@ -33,6 +34,7 @@ fn fitting<'a>(limit: u16, priority: u16, tokens: Tokens<'a>) -> Option<(Operato
 }
 
 /// A step behind the last item, of this priority.
+#[inline(always)]
 pub fn go_on<'a>(alloc: Global, stack: &mut Stack, priority: u16, tokens: Tokens<'a>) -> Move<'a>
     ensures { IfOk result
         (λ r. IsMove (go_on kept (opened_below stack.old) (top (items_of stack.old)) priority
@@ -45,6 +47,7 @@ pub fn go_on<'a>(alloc: Global, stack: &mut Stack, priority: u16, tokens: Tokens
 }
 
 /// A step where the last item is whole in the innermost open place.
+#[inline(always)]
 fn close<'a>(alloc: Global, stack: &mut Stack, tokens: Tokens<'a>) -> Move<'a>
     ensures { IfOk result
         (λ r. IsMove (close kept (opened_below stack.old) (top (items_of stack.old))

@@ -64,6 +64,7 @@ impl Stack {
     }
 
     /// Opens a place inside the innermost one.
+    #[inline(always)]
     pub fn push_frame(&mut self, frame: Frame) -> Result<(), NoMemory>
         ensures frames { OnOk result (frames_of self.new ≡ frame ∷ frames_of self.old) }
         ensures items { items_of self.new ≡ items_of self.old }
@@ -73,6 +74,7 @@ impl Stack {
     }
 
     /// Takes the innermost open place off, if any is open.
+    #[inline(always)]
     pub fn pop_frame(&mut self) -> Option<Frame>
         ensures frames { MatchOption result
             ((frames_of self.old ≡ []) × (frames_of self.new ≡ []))
@@ -83,6 +85,7 @@ impl Stack {
     }
 
     /// Adds what has been read.
+    #[inline(always)]
     pub fn push_item(&mut self, item: Item) -> Result<(), NoMemory>
         ensures items { OnOk result (items_of self.new ≡ kept_item item ∷ items_of self.old) }
         ensures frames { frames_of self.new ≡ frames_of self.old }
@@ -92,6 +95,7 @@ impl Stack {
     }
 
     /// Takes the last item off. Where there is none, the answer is one that doesn't fit.
+    #[inline(always)]
     pub fn pop_item(&mut self) -> Item
         ensures item { kept_item result ≡ top (items_of self.old) }
         ensures items { items_of self.new ≡ below (items_of self.old) }
@@ -105,7 +109,7 @@ impl Stack {
 }
 
 /// A step behind this item of this priority, which is the last one then.
-#[inline]
+#[inline(always)]
 pub fn held<'a>(stack: &mut Stack, item: Item, priority: u16, rest: Tokens<'a>) -> Move<'a>
     ensures { IfOk result
         (λ r. IsMove (Goes_to (opened stack.old) (Holds (kept_item item) priority)
@@ -119,7 +123,7 @@ pub fn held<'a>(stack: &mut Stack, item: Item, priority: u16, rest: Tokens<'a>) 
 }
 
 /// A step into the place that this frame opens.
-#[inline]
+#[inline(always)]
 pub fn awaited<'a>(stack: &mut Stack, frame: Frame, rest: Tokens<'a>) -> Move<'a>
     ensures { IfOk result
         (λ r. IsMove (Goes_to (framed (frame ∷ frames_of stack.old) (items_of stack.old)) Awaits
@@ -133,6 +137,7 @@ pub fn awaited<'a>(stack: &mut Stack, frame: Frame, rest: Tokens<'a>) -> Move<'a
 }
 
 /// The highest priority of a term in the innermost open place.
+#[inline(always)]
 pub fn limit(stack: &Stack) -> u16
     ensures { (ks : List Kept) → result ≡ limit (framed (frames_of stack.now) ks) }
 {
@@ -142,6 +147,7 @@ pub fn limit(stack: &Stack) -> u16
     }
 }
 
+#[inline(always)]
 fn frame_limit(frame: &Frame) -> u16
     ensures { (frames : List Frame) (ks : List Kept)
         → result ≡ limit (framed (frame.now ∷ frames) ks) }

@@ -25,6 +25,7 @@ pub struct Operator {
 }
 
 /// The operator that the token is behind a term.
+#[inline(always)]
 pub fn infix(token: Token) -> Option<Operator>
     ensures { operator_option result ≡ infix_of (token_view token.entry) }
 {
