@@ -1,7 +1,9 @@
 //! What stands open while a term is read.
-ghost use Rattle.std.specs.Prelude.{◌≡◌, [], ◌∷◌, IfOk, List, MatchOption, OnOk, map};
+ghost use Rattle.std.specs.Prelude.{◌≡◌, [], ◌∷◌, IfOk, IsFalse, IsTrue, List, MatchOption, OnOk};
+ghost use Rattle.std.specs.Prelude.{Some, map, suc};
 ghost use Rattle.tc_read.specs.declared.frames.Frame.{Frame};
-ghost use Rattle.tc_read.specs.Frames.{IsMove, below, framed, frames_of, items_of, opened, top};
+ghost use Rattle.tc_read.specs.Frames.{IsMove, below, counted_more, framed, frames_of, items_of};
+ghost use Rattle.tc_read.specs.Frames.{opened, top};
 ghost use Rattle.tc_read.specs.Items.{kept_item};
 ghost use Rattle.tc_read.specs.Kept.{Kept};
 ghost use Rattle.tc_read.specs.Machine.{Awaits, Goes_to, Holds, limit};
@@ -84,6 +86,21 @@ impl Stack {
         self.frames.pop()
     }
 
+    /// Counts one item more in the innermost open place, where others may follow, and says whether
+    /// it did.
+    #[inline(always)]
+    pub fn count_item(&mut self) -> bool
+        ensures counted { IsTrue result
+            → counted_more (frames_of self.old) ≡ Some (frames_of self.new) }
+        ensures same { IsFalse result → frames_of self.new ≡ frames_of self.old }
+        ensures items { items_of self.new ≡ items_of self.old }
+    {
+        match self.frames.last_mut() {
+            Some(frame) => count_in(frame),
+            None => false,
+        }
+    }
+
     /// Adds what has been read.
     #[inline(always)]
     pub fn push_item(&mut self, item: Item) -> Result<(), NoMemory>
@@ -134,6 +151,33 @@ pub fn awaited<'a>(stack: &mut Stack, frame: Frame, rest: Tokens<'a>) -> Move<'a
         state: State::Awaits,
         rest,
     }))
+}
+
+/// Counts one item more in this frame, where others may follow, and says whether it did.
+#[inline(always)]
+fn count_in(frame: &mut Frame) -> bool
+    ensures counted { IsTrue result → (frames : List Frame)
+        → counted_more (frame.old ∷ frames) ≡ Some (frame.new ∷ frames) }
+    ensures same { IsFalse result → frame.new ≡ frame.old }
+{
+    match frame {
+        Frame::Args(_, count) => is_raised(count),
+        Frame::Elements(count) => is_raised(count),
+        _ => false,
+    }
+}
+
+/// Makes the count one more, if a greater one can be held, and says whether it did.
+#[inline(always)]
+fn is_raised(count: &mut usize) -> bool
+    ensures raised { IsTrue result → count.new ≡ suc count.old }
+    ensures same { IsFalse result → count.new ≡ count.old }
+{
+    if *count == usize::MAX {
+        return false;
+    }
+    *count += 1;
+    true
 }
 
 /// The highest priority of a term in the innermost open place.
