@@ -6,6 +6,7 @@ use Rattle.tc_term.specs.TreeView.{tree_of, trees_of}
 use Rattle.tc_term.specs.declared.terms.Term.{Term}
 use Rattle.tc_term.specs.Tree.{Trees, Last}
 use Rattle.tc_read.specs.Front.{Read, before, is_cell, node, reads, tail}
+use Rattle.tc_read.specs.Seen.{prepended}
 use Rattle.tc_read.specs.declared.budget.Budget.{Budget}
 
 one_less : (d : ℕ) → d ≡ suc d - 1
@@ -23,10 +24,6 @@ is_cell-two name (t ∷ u ∷ v ∷ []) dot some = refl
 is_cell-two name (t ∷ u ∷ v ∷ w ∷ ts) dot some = three (suc (length ts))
 
 -- arguments that were read, before what is read behind them
-abbrev pub prepended : List Term → Read Trees → Read Trees
-prepended [] read = read
-prepended (t ∷ ts) read = before (tree_of t) (prepended ts read)
-
 pub prepended-none : (ts : List Term) → prepended ts None ≡ None
 prepended-none [] = refl
 prepended-none (t ∷ ts) = ap (before (tree_of t)) (prepended-none ts)

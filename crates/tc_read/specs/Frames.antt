@@ -56,6 +56,12 @@ frames_of stack = reverse stack.frames.items
 abbrev pub items_of : Stack → List Kept
 items_of stack = done_of stack.items.items
 
+-- the frames with one item more in the innermost, where others may follow it
+abbrev pub counted_more : List Frame → Option (List Frame)
+counted_more (Args name count ∷ frames) = Some (Args name (suc count) ∷ frames)
+counted_more (Elements count ∷ frames) = Some (Elements (suc count) ∷ frames)
+counted_more _ = None
+
 -- the stack where a term is awaited
 abbrev pub opened : Stack → List (machine.Frame Kept)
 opened stack = framed (frames_of stack) (items_of stack)

@@ -1,17 +1,22 @@
 -- What the reader of canonical text answers, as the code has it.
-use Rattle.std.specs.Prelude.{ℕ, List, Some, None}
-use Rattle.std.specs.Borrow.{Bor}
+use Rattle.std.specs.Prelude.{List, [], ◌∷◌, Some, None}
 use Rattle.std.specs.declared.option.Option.{Option}
 use Rattle.tc_term.specs.declared.terms.Term.{Term}
 use Rattle.tc_term.specs.Tree.{Tree, Trees}
 use Rattle.tc_term.specs.TreeView.{tree_of}
-use Rattle.tc_read.specs.Front.{Read}
-use Rattle.tc_read.specs.declared.budget.Budget.{Budget}
+use Rattle.tc_read.specs.Front.{Read, before}
+use Rattle.tc_read.specs.declared.rest.Rest.{Rest}
 
-abbrev pub term_seen : Option (Term × Budget × Bor (List ℕ)) → Read Tree
+-- this was read, and this is left
+abbrev pub read_to : {X : Type 0} → X → Rest → Read X
+read_to x rest = Some (x, rest.budget, rest.bytes.now)
+
+-- what was read, if anything was, and what is left
+abbrev pub term_seen : Option (Term × Rest) → Read Tree
 term_seen None = None
-term_seen (Some (t, budget, rest)) = Some (tree_of t, budget, rest.now)
+term_seen (Some (t, rest)) = read_to (tree_of t) rest
 
-abbrev pub arguments_seen : Option (Trees × Budget × Bor (List ℕ)) → Read Trees
-arguments_seen None = None
-arguments_seen (Some (ts, budget, rest)) = Some (ts, budget, rest.now)
+-- arguments that were read, before what is read behind them
+abbrev pub prepended : List Term → Read Trees → Read Trees
+prepended [] read = read
+prepended (t ∷ ts) read = before (tree_of t) (prepended ts read)

@@ -46,6 +46,7 @@ pub fn unquoted(alloc: Global, inside: &[u8]) -> Result<Vec<u8>, NoMemory>
 }
 
 /// A step where this token and these stand.
+#[inline(always)]
 pub fn begin<'a>(alloc: Global, stack: &mut Stack, token: Token<'a>, rest: Tokens<'a>) -> Move<'a>
     ensures { IfOk result
         (λ r. IsMove (begin kept (opened stack.old) (token_view token.entry)

@@ -2,7 +2,8 @@
 //!
 //! The next byte decides what stands there. Only where a whole term doesn't stand at the place may
 //! its name alone, so the reader goes back once at most.
-ghost use Rattle.std.specs.Prelude.{◌≡◌, ◌≤◌, [], ◌∷◌, IfNone, IfOk, IfSome, codes, length, ℕ};
+ghost use Rattle.std.specs.Prelude.{◌≡◌, ◌≤◌, [], ◌∷◌, ◌++◌, IfErr, IfNone, IfOk, IfSome, None, OnOk, codes};
+ghost use Rattle.std.specs.Prelude.{length, ℕ};
 ghost use Rattle.tc_lists.specs.Seen.{seen};
 ghost use Rattle.tc_term.specs.Limits.{most_name_bytes};
 ghost use Rattle.tc_term.specs.Text.{Alone, Behind};
@@ -12,19 +13,21 @@ ghost use Rattle.tc_read.specs.Canonical.{IsCanonicalAt, IsLongestCanonicalAt};
 ghost use Rattle.tc_read.specs.Front.{arguments, barred, before, called, canonical_at, element};
 ghost use Rattle.tc_read.specs.Front.{head, is_barred, is_cell, list, name_at, named, node};
 ghost use Rattle.tc_read.specs.Front.{reads, tail, without_room};
-ghost use Rattle.tc_read.specs.Seen.{arguments_seen, term_seen};
+ghost use Rattle.tc_read.specs.Seen.{prepended, read_to, term_seen};
+ghost use Rattle.tc_read.specs.declared.rest.Missing.TheVariants.{NoTerm};
 
 use crate::budget::Budget;
 use crate::layout::next_byte;
-use crate::leaves::{Front, atom, nil, number, variable};
+use crate::leaves::{Read, atom, nil, number, variable};
 use crate::printed_names::name_at;
 use crate::read::rest_from;
+use crate::rest::{Missing, Rest};
 use std::alloc::Global;
 use tc_lists::NoMemory;
 use tc_term::{Args, MOST_DEPTH, Name, NotPattern, Pattern, Term};
 
-/// What is read at the front, unless memory runs out.
-type Read<'a, T> = Result<Front<'a, T>, NoMemory>;
+/// Arguments at the front, or why there are none.
+type ReadArgs = Result<Args, Missing>;
 
 /// Whether a compound of this name and these arguments is a list cell.
 #[inline(always)]
@@ -49,46 +52,45 @@ fn is_barred(term: &Term) -> bool
 
 /// A compound from its arguments on.
 #[cycle(canonical)]
-fn called<'a>(
-    alloc: Global,
-    depth: usize,
-    budget: Budget,
-    name: Name,
-    bytes: &'a [u8],
-) -> Read<'a, Term>
-    ensures { IfOk result (λ r. term_seen r ≡ called (reads depth) name budget bytes.now) }
+fn called<'a>(alloc: Global, depth: usize, name: Name, rest: &mut Rest<'a>) -> Read
+    ensures term { IfOk result (λ t. called (reads depth) name rest.old.budget rest.old.bytes.now
+        ≡ read_to (tree_of t) rest.new) }
+    ensures none { IfErr result (λ e. e ≡ NoTerm → called (reads depth) name rest.old.budget rest.old.bytes.now ≡ None) }
 {
-    let Some(left) = budget.paid(name.bytes().len()) else {
-        return Ok(None);
-    };
-    let Some((args, left, rest)) = arguments(alloc, depth, left, bytes)? else {
-        return Ok(None);
-    };
+    rest.pay(name.bytes().len())?;
+    let args = arguments(alloc, depth, rest)?;
     if is_cell(&name, &args) {
-        return Ok(None);
+        return Err(Missing::NoTerm);
     }
-    Ok(Some((Term::Comp(name, args), left, rest)))
+    Ok(Term::Comp(name, args))
 }
 
 /// Arguments, up to and with the closing bracket. No vector is made for one or two.
 #[cycle(canonical)]
-fn arguments<'a>(alloc: Global, depth: usize, budget: Budget, bytes: &'a [u8]) -> Read<'a, Args>
-    ensures { IfOk result
-        (λ r. arguments_seen r
-        ≡ arguments (reads depth Alone) budget.room.nodes budget bytes.now) }
+fn arguments<'a>(alloc: Global, depth: usize, rest: &mut Rest<'a>) -> ReadArgs
+    ensures term { IfOk result (λ t. arguments (reads depth Alone) rest.old.budget.room.nodes rest.old.budget rest.old.bytes.now
+        ≡ read_to t rest.new) }
+    ensures none { IfErr result (λ e. e ≡ NoTerm → arguments (reads depth Alone) rest.old.budget.room.nodes rest.old.budget rest.old.bytes.now ≡ None) }
 {
-    let most = budget.room.nodes;
+    let most = rest.budget.room.nodes;
     if most == 0 {
-        return Ok(None);
+        return Err(Missing::NoTerm);
     }
-    let Some((first, left, after)) = alone(alloc, depth, budget, bytes)? else {
-        return Ok(None);
-    };
-    match next_byte(after) {
-        Some((b')', rest)) => Ok(Some((Args::one(alloc, first)?, left, rest))),
-        Some((b',', rest)) => from_second(alloc, depth, most - 1, first, left, rest),
-        _ => Ok(None),
+    let first = alone(alloc, depth, rest)?;
+    match rest.next()? {
+        b')' => Ok(Args::one(alloc, first)?),
+        b',' => from_second(alloc, depth, most - 1, first, rest),
+        _ => Err(Missing::NoTerm),
     }
+}
+
+/// Appends a term.
+#[inline(always)]
+fn push(terms: &mut Vec<Term>, term: Term) -> Result<(), NoMemory>
+    ensures { OnOk result (terms.new.items ≡ terms.old.items ++ term ∷ []) }
+{
+    terms.push(term)?;
+    Ok(())
 }
 
 /// These two terms, with room for as many more.
@@ -108,98 +110,77 @@ fn from_second<'a>(
     depth: usize,
     most: usize,
     first: Term,
-    budget: Budget,
-    bytes: &'a [u8],
-) -> Read<'a, Args>
-    ensures { IfOk result
-        (λ r. arguments_seen r
-        ≡ before (tree_of first) (arguments (reads depth Alone) most budget bytes.now)) }
+    rest: &mut Rest<'a>,
+) -> ReadArgs
+    ensures term { IfOk result (λ t. before (tree_of first) (arguments (reads depth Alone) most rest.old.budget rest.old.bytes.now)
+        ≡ read_to t rest.new) }
+    ensures none { IfErr result (λ e. e ≡ NoTerm → before (tree_of first) (arguments (reads depth Alone) most rest.old.budget rest.old.bytes.now) ≡ None) }
 {
     if most == 0 {
-        return Ok(None);
+        return Err(Missing::NoTerm);
     }
-    let Some((second, left, after)) = alone(alloc, depth, budget, bytes)? else {
-        return Ok(None);
-    };
-    match next_byte(after) {
-        Some((b')', rest)) => Ok(Some((Args::two(alloc, first, second)?, left, rest))),
-        Some((b',', rest)) => from_third(alloc, depth, most - 1, first, second, left, rest),
-        _ => Ok(None),
+    let second = alone(alloc, depth, rest)?;
+    match rest.next()? {
+        b')' => Ok(Args::two(alloc, first, second)?),
+        b',' => from_third(alloc, depth, most - 1, pair(alloc, first, second)?, rest),
+        _ => Err(Missing::NoTerm),
     }
 }
 
-/// Arguments from the third on, at most so many.
+/// Arguments behind these, at most so many.
 #[cycle(canonical)]
 fn from_third<'a>(
     alloc: Global,
     depth: usize,
     most: usize,
-    first: Term,
-    second: Term,
-    budget: Budget,
-    bytes: &'a [u8],
-) -> Read<'a, Args>
-    ensures { IfOk result
-        (λ r. arguments_seen r
-        ≡ before (tree_of first) (before (tree_of second)
-        (arguments (reads depth Alone) most budget bytes.now))) }
+    mut terms: Vec<Term>,
+    rest: &mut Rest<'a>,
+) -> ReadArgs
+    ensures term { IfOk result (λ t. prepended terms.items (arguments (reads depth Alone) most rest.old.budget rest.old.bytes.now)
+        ≡ read_to t rest.new) }
+    ensures none { IfErr result (λ e. e ≡ NoTerm → prepended terms.items (arguments (reads depth Alone) most rest.old.budget rest.old.bytes.now) ≡ None) }
 {
-    let mut terms = pair(alloc, first, second)?;
-    let mut left = budget;
-    let mut rest = bytes;
     for _ in 0..most {
-        let Some((term, budget, after)) = alone(alloc, depth, left, rest)? else {
-            return Ok(None);
-        };
-        terms.push(term)?;
-        let Some((byte, behind)) = next_byte(after) else {
-            return Ok(None);
-        };
+        let term = alone(alloc, depth, rest)?;
+        push(&mut terms, term)?;
+        let byte = rest.next()?;
         if byte == b')' {
-            let args = Args::new(alloc, terms)?;
-            return Ok(Some((args, budget, behind)));
+            return Ok(Args::new(alloc, terms)?);
         }
         if byte != b',' {
-            return Ok(None);
+            return Err(Missing::NoTerm);
         }
-        left = budget;
-        rest = behind;
     }
-    Ok(None)
+    Err(Missing::NoTerm)
 }
 
 /// A term behind a name: a compound where a bracket follows, else an atom.
 #[cycle(canonical)]
-fn named<'a>(
-    alloc: Global,
-    depth: usize,
-    budget: Budget,
-    name: Name,
-    bytes: &'a [u8],
-) -> Read<'a, Term>
-    ensures { IfOk result (λ r. term_seen r ≡ named (reads depth) budget name bytes.now) }
+fn named<'a>(alloc: Global, depth: usize, name: Name, rest: &mut Rest<'a>) -> Read
+    ensures term { IfOk result (λ t. named (reads depth) rest.old.budget name rest.old.bytes.now
+        ≡ read_to (tree_of t) rest.new) }
+    ensures none { IfErr result (λ e. e ≡ NoTerm → named (reads depth) rest.old.budget name rest.old.bytes.now ≡ None) }
 {
-    match next_byte(bytes) {
-        Some((b'(', after)) => called(alloc, depth, budget, name, after),
-        _ => Ok(atom(name, budget, bytes)),
+    match next_byte(rest.bytes) {
+        Some((b'(', after)) => {
+            rest.bytes = after;
+            called(alloc, depth, name, rest)
+        }
+        _ => atom(name, rest),
     }
 }
 
 /// A list cell, from its head on.
 #[cycle(canonical)]
-fn element<'a>(alloc: Global, depth: usize, budget: Budget, bytes: &'a [u8]) -> Read<'a, Term>
-    ensures { IfOk result (λ r. term_seen r ≡ element (reads depth) budget bytes.now) }
+fn element<'a>(alloc: Global, depth: usize, rest: &mut Rest<'a>) -> Read
+    ensures term { IfOk result (λ t. element (reads depth) rest.old.budget rest.old.bytes.now
+        ≡ read_to (tree_of t) rest.new) }
+    ensures none { IfErr result (λ e. e ≡ NoTerm → element (reads depth) rest.old.budget rest.old.bytes.now ≡ None) }
 {
-    let Some(left) = budget.paid(1) else {
-        return Ok(None);
-    };
-    let Some((first, left, after)) = alone(alloc, depth, left, bytes)? else {
-        return Ok(None);
-    };
-    let Some((last, left, rest)) = behind(alloc, depth, left, after)? else {
-        return Ok(None);
-    };
-    Ok(Some((cell(alloc, first, last)?, left, rest)))
+    rest.pay(1)?;
+    let first = alone(alloc, depth, rest)?;
+    let last = behind(alloc, depth, rest)?;
+    Ok(cell(alloc, first, last)?)
 }
 
 /// The list of this element and this tail.
@@ -214,100 +195,133 @@ fn cell(alloc: Global, first: Term, last: Term) -> Result<Term, NoMemory>
 
 /// A list behind its opening bracket.
 #[cycle(canonical)]
-fn list<'a>(alloc: Global, depth: usize, budget: Budget, bytes: &'a [u8]) -> Read<'a, Term>
-    ensures { IfOk result (λ r. term_seen r ≡ list (reads depth) budget bytes.now) }
+fn list<'a>(alloc: Global, depth: usize, rest: &mut Rest<'a>) -> Read
+    ensures term { IfOk result (λ t. list (reads depth) rest.old.budget rest.old.bytes.now
+        ≡ read_to (tree_of t) rest.new) }
+    ensures none { IfErr result (λ e. e ≡ NoTerm → list (reads depth) rest.old.budget rest.old.bytes.now ≡ None) }
 {
-    match next_byte(bytes) {
-        None => Ok(None),
-        Some((b']', after)) => nil(alloc, budget, after),
-        Some(_) => element(alloc, depth, budget, bytes),
+    match next_byte(rest.bytes) {
+        None => Err(Missing::NoTerm),
+        Some((b']', after)) => {
+            rest.bytes = after;
+            nil(alloc, rest)
+        }
+        Some(_) => element(alloc, depth, rest),
     }
 }
 
 /// A term by itself, whose arguments are of at most this depth.
 #[cycle(canonical)]
-fn node<'a>(alloc: Global, depth: usize, budget: Budget, bytes: &'a [u8]) -> Read<'a, Term>
-    ensures { IfOk result (λ r. term_seen r ≡ node (reads depth) budget bytes.now) }
+fn node<'a>(alloc: Global, depth: usize, rest: &mut Rest<'a>) -> Read
+    ensures term { IfOk result (λ t. node (reads depth) rest.old.budget rest.old.bytes.now
+        ≡ read_to (tree_of t) rest.new) }
+    ensures none { IfErr result (λ e. e ≡ NoTerm → node (reads depth) rest.old.budget rest.old.bytes.now ≡ None) }
 {
-    match next_byte(bytes) {
-        None => Ok(None),
-        Some((b'_', after)) => Ok(variable(budget, after)),
-        Some((b'[', after)) => list(alloc, depth, budget, after),
-        Some(_) => match name_at(alloc, bytes, budget.room.name_bytes)? {
-            None => Ok(number(budget, bytes)),
-            Some((name, rest)) => named(alloc, depth, budget, name, rest),
+    match next_byte(rest.bytes) {
+        None => Err(Missing::NoTerm),
+        Some((b'_', after)) => {
+            rest.bytes = after;
+            variable(rest)
+        }
+        Some((b'[', after)) => {
+            rest.bytes = after;
+            list(alloc, depth, rest)
+        }
+        Some(_) => match name_at(alloc, rest.bytes, rest.budget.room.name_bytes)? {
+            None => number(rest),
+            Some((name, after)) => {
+                rest.bytes = after;
+                named(alloc, depth, name, rest)
+            }
         },
     }
 }
 
 /// The closing bracket of a list behind its tail.
 #[cycle(canonical)]
-fn closed<'a>(alloc: Global, depth: usize, budget: Budget, bytes: &'a [u8]) -> Read<'a, Term>
-    ensures { IfOk result (λ r. term_seen r ≡ barred (node (reads depth) budget bytes.now)) }
+fn closed<'a>(alloc: Global, depth: usize, rest: &mut Rest<'a>) -> Read
+    ensures term { IfOk result (λ t. barred (node (reads depth) rest.old.budget rest.old.bytes.now)
+        ≡ read_to (tree_of t) rest.new) }
+    ensures none { IfErr result (λ e. e ≡ NoTerm → barred (node (reads depth) rest.old.budget rest.old.bytes.now) ≡ None) }
 {
-    let Some((term, left, rest)) = node(alloc, depth, budget, bytes)? else {
-        return Ok(None);
-    };
-    match next_byte(rest) {
-        Some((b']', behind)) if is_barred(&term) => Ok(Some((term, left, behind))),
-        _ => Ok(None),
+    let term = node(alloc, depth, rest)?;
+    match rest.next()? {
+        b']' if is_barred(&term) => Ok(term),
+        _ => Err(Missing::NoTerm),
     }
 }
 
 /// A term behind an element of a list, with the closing bracket.
 #[cycle(canonical)]
-fn tail<'a>(alloc: Global, depth: usize, budget: Budget, bytes: &'a [u8]) -> Read<'a, Term>
-    ensures { IfOk result (λ r. term_seen r ≡ tail (reads depth) budget bytes.now) }
+fn tail<'a>(alloc: Global, depth: usize, rest: &mut Rest<'a>) -> Read
+    ensures term { IfOk result (λ t. tail (reads depth) rest.old.budget rest.old.bytes.now
+        ≡ read_to (tree_of t) rest.new) }
+    ensures none { IfErr result (λ e. e ≡ NoTerm → tail (reads depth) rest.old.budget rest.old.bytes.now ≡ None) }
 {
-    match next_byte(bytes) {
-        Some((b']', after)) => nil(alloc, budget, after),
-        Some((b',', after)) => element(alloc, depth, budget, after),
-        Some((b'|', after)) => closed(alloc, depth, budget, after),
-        _ => Ok(None),
+    match rest.next()? {
+        b']' => nil(alloc, rest),
+        b',' => element(alloc, depth, rest),
+        b'|' => closed(alloc, depth, rest),
+        _ => Err(Missing::NoTerm),
     }
 }
 
 /// A term of at most this depth by itself.
 #[cycle(canonical)]
-fn alone<'a>(alloc: Global, depth: usize, budget: Budget, bytes: &'a [u8]) -> Read<'a, Term>
-    ensures { IfOk result (λ r. term_seen r ≡ reads depth Alone budget bytes.now) }
+fn alone<'a>(alloc: Global, depth: usize, rest: &mut Rest<'a>) -> Read
+    ensures term { IfOk result (λ t. reads depth Alone rest.old.budget rest.old.bytes.now
+        ≡ read_to (tree_of t) rest.new) }
+    ensures none { IfErr result (λ e. e ≡ NoTerm → reads depth Alone rest.old.budget rest.old.bytes.now ≡ None) }
 {
     if depth == 0 {
-        return Ok(None);
+        return Err(Missing::NoTerm);
     }
-    node(alloc, depth - 1, budget, bytes)
+    node(alloc, depth - 1, rest)
 }
 
 /// A term of at most this depth behind an element of a list.
 #[cycle(canonical)]
-fn behind<'a>(alloc: Global, depth: usize, budget: Budget, bytes: &'a [u8]) -> Read<'a, Term>
-    ensures { IfOk result (λ r. term_seen r ≡ reads depth Behind budget bytes.now) }
+fn behind<'a>(alloc: Global, depth: usize, rest: &mut Rest<'a>) -> Read
+    ensures term { IfOk result (λ t. reads depth Behind rest.old.budget rest.old.bytes.now
+        ≡ read_to (tree_of t) rest.new) }
+    ensures none { IfErr result (λ e. e ≡ NoTerm → reads depth Behind rest.old.budget rest.old.bytes.now ≡ None) }
 {
     if depth == 0 {
-        return Ok(None);
+        return Err(Missing::NoTerm);
     }
-    tail(alloc, depth - 1, budget, bytes)
+    tail(alloc, depth - 1, rest)
 }
 
 /// The name at the front as an atom.
 #[inline(always)]
-fn head<'a>(alloc: Global, bytes: &'a [u8]) -> Read<'a, Term>
+fn head<'a>(alloc: Global, bytes: &'a [u8]) -> Result<Option<(Term, Rest<'a>)>, NoMemory>
     ensures { IfOk result (λ r. term_seen r ≡ head (name_at most_name_bytes bytes.now)) }
 {
-    let Some((name, rest)) = name_at(alloc, bytes, Budget::whole().room.name_bytes)? else {
+    let budget = Budget::whole();
+    let Some((name, bytes)) = name_at(alloc, bytes, budget.room.name_bytes)? else {
         return Ok(None);
     };
-    Ok(atom(name, Budget::whole(), rest))
+    let mut rest = Rest { budget, bytes };
+    match atom(name, &mut rest) {
+        Ok(term) => Ok(Some((term, rest))),
+        Err(Missing::NoTerm) => Ok(None),
+        Err(Missing::NoMemory) => Err(NoMemory),
+    }
 }
 
-/// The template at the front, as a term, with what stands behind it.
+/// The template at the front, as a term, with what is left behind it.
 #[inline(always)]
-fn at_front<'a>(alloc: Global, bytes: &'a [u8]) -> Read<'a, Term>
+fn at_front<'a>(alloc: Global, bytes: &'a [u8]) -> Result<Option<(Term, Rest<'a>)>, NoMemory>
     ensures { IfOk result (λ r. term_seen r ≡ canonical_at bytes.now) }
 {
-    match alone(alloc, MOST_DEPTH, Budget::whole(), bytes)? {
-        None => head(alloc, bytes),
-        Some(found) => Ok(Some(found)),
+    let mut rest = Rest {
+        budget: Budget::whole(),
+        bytes,
+    };
+    match alone(alloc, MOST_DEPTH, &mut rest) {
+        Ok(term) => Ok(Some((term, rest))),
+        Err(Missing::NoTerm) => head(alloc, bytes),
+        Err(Missing::NoMemory) => Err(NoMemory),
     }
 }
 
@@ -328,14 +342,14 @@ pub fn read_canonical(
         (λ r. IfNone r ((p : Tree) (behind : ℕ)
         → IsCanonicalAt text.now from p behind → ⊥)) }
 {
-    let Some((term, _, rest)) = at_front(alloc, rest_from(text, from))? else {
+    let Some((term, rest)) = at_front(alloc, rest_from(text, from))? else {
         return Ok(None);
     };
     match Pattern::of(term) {
         Err(NotPattern::TooBig(_)) => Ok(None),
         Err(NotPattern::TooMany(_)) => Ok(None),
         Err(NotPattern::NoMemory(_)) => Err(NoMemory),
-        Ok(pattern) => Ok(Some((pattern, text.len() - rest.len()))),
+        Ok(pattern) => Ok(Some((pattern, text.len() - rest.bytes.len()))),
     }
 }
 
@@ -349,8 +363,11 @@ pub fn read_template<'a>(
 ) -> Result<Option<(Pattern, &'a [u8])>, NoMemory>
     ensures { IfOk result (λ r. seen r ≡ without_room (canonical_at bytes.now)) }
 {
-    let Some((term, left, rest)) = at_front(alloc, bytes)? else {
+    let Some((term, rest)) = at_front(alloc, bytes)? else {
         return Ok(None);
     };
-    Ok(Some((Pattern::known(term, left.variables as u32), rest)))
+    Ok(Some((
+        Pattern::known(term, rest.budget.variables as u32),
+        rest.bytes,
+    )))
 }

@@ -1,50 +1,103 @@
 //! The steps of the parser where a term has been read.
-ghost use Rattle.std.specs.Prelude.{◌≡◌, IfOk, [], MatchOption, None, Some, map, suc};
+ghost use Rattle.std.specs.Prelude.{◌≡◌, IfNone, IfOk, IfSome, [], MatchOption, None, Some, map};
+ghost use Rattle.std.specs.Prelude.{suc, ℕ};
 ghost use Rattle.tc_read.specs.declared.frames.Frame.{Frame};
 ghost use Rattle.tc_read.specs.declared.frames.Stack.{Stack};
 ghost use Rattle.tc_read.specs.Frames.{IsMove, close_in, frames_of, items_of, opened_below, top};
 ghost use Rattle.tc_read.specs.Kept.{kept};
-ghost use Rattle.tc_read.specs.Machine.{close, close_all, close_group, fitting, go_on, rest_of};
+ghost use Rattle.tc_read.specs.Machine.{close, close_all, close_group, fitting, go_on, limit};
+ghost use Rattle.tc_read.specs.Machine.{rest_of};
 ghost use Rattle.tc_read.specs.Views.{operator_view, token_view};
 
 use crate::compound::{between, cell, compound, list, negated, nil};
 use crate::cursor::{Delimiter, delimited, next};
 use crate::frames::{Frame, Move, Stack, State, Step, awaited, held, limit};
 use crate::operators::{MINUS_PRIORITY, Operator, infix};
-use crate::tokens::Tokens;
+use crate::tokens::{Token, Tokens};
 use std::alloc::Global;
 use tc_lists::NoMemory;
 use tc_term::Name;
 
 /// The operator at the front, and what follows it, where a term of this priority may stand left of
-/// it in a place of this limit.
-fn fitting<'a>(limit: u16, priority: u16, tokens: Tokens<'a>) -> Option<(Operator, Tokens<'a>)>
-    ensures { MatchOption result (fitting limit priority (map token_view tokens.now) ≡ None)
-        (λ r. (fitting limit priority (map token_view tokens.now) ≡ Some (operator_view r.0))
+/// it in the innermost open place.
+#[inline(always)]
+fn fitting<'a>(
+    stack: &Stack,
+    priority: u16,
+    tokens: Tokens<'a>,
+) -> Option<(Operator, Tokens<'a>)>
+    ensures { MatchOption result
+        (fitting (limit (opened_below stack.now)) priority (map token_view tokens.now) ≡ None)
+        (λ r. (fitting (limit (opened_below stack.now)) priority (map token_view tokens.now)
+        ≡ Some (operator_view r.0))
         × (map token_view r.1.now ≡ rest_of (map token_view tokens.now))) }
 {
     let (token, after) = next(tokens)?;
     let operator = infix(token)?;
-    if priority <= operator.left && operator.priority <= limit {
+    if priority <= operator.left && operator.priority <= limit(stack) {
         Some((operator, after))
     } else {
         None
     }
 }
 
+/// A step to the next argument or element, where a comma follows the last item and is no operator.
+#[inline(always)]
+fn another<'a>(stack: &mut Stack, tokens: Tokens<'a>) -> Option<Step<'a>>
+    ensures next { IfSome result (λ r. (priority : ℕ) → IsMove
+        (go_on kept (opened_below stack.old) (top (items_of stack.old)) priority
+        (map token_view tokens.now)) stack.new (Some r)) }
+    ensures same { IfNone result (frames_of stack.new ≡ frames_of stack.old) }
+    ensures items { items_of stack.new ≡ items_of stack.old }
+{
+    match next(tokens) {
+        Some((Token::Comma, rest)) => {
+            if stack.count_item() {
+                Some(Step {
+                    state: State::Awaits,
+                    rest,
+                })
+            } else {
+                None
+            }
+        }
+        _ => None,
+    }
+}
+
 /// A step behind the last item, of this priority.
+#[inline(always)]
 pub fn go_on<'a>(alloc: Global, stack: &mut Stack, priority: u16, tokens: Tokens<'a>) -> Move<'a>
     ensures { IfOk result
         (λ r. IsMove (go_on kept (opened_below stack.old) (top (items_of stack.old)) priority
         (map token_view tokens.now)) stack.new r) }
 {
-    match fitting(limit(stack), priority, tokens) {
+    match another(stack, tokens) {
+        Some(step) => Ok(Some(step)),
+        None => go_on_from(alloc, stack, priority, tokens),
+    }
+}
+
+/// The same, by the operator that follows, or by the end of the innermost open place.
+#[inline(always)]
+fn go_on_from<'a>(
+    alloc: Global,
+    stack: &mut Stack,
+    priority: u16,
+    tokens: Tokens<'a>,
+) -> Move<'a>
+    ensures { IfOk result
+        (λ r. IsMove (go_on kept (opened_below stack.old) (top (items_of stack.old)) priority
+        (map token_view tokens.now)) stack.new r) }
+{
+    match fitting(stack, priority, tokens) {
         Some((operator, rest)) => awaited(stack, Frame::Between(operator), rest),
         None => close(alloc, stack, tokens),
     }
 }
 
 /// A step where the last item is whole in the innermost open place.
+#[inline(always)]
 fn close<'a>(alloc: Global, stack: &mut Stack, tokens: Tokens<'a>) -> Move<'a>
     ensures { IfOk result
         (λ r. IsMove (close kept (opened_below stack.old) (top (items_of stack.old))

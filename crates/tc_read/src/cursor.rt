@@ -17,6 +17,7 @@ pub enum Delimiter {
 }
 
 /// The first token and the others.
+#[inline(always)]
 pub fn next<'a>(tokens: Tokens<'a>) -> Option<(Token<'a>, Tokens<'a>)>
     ensures { MatchOption result (tokens.now ≡ []) (λ r. tokens.now ≡ r.0 ∷ r.1.now) }
 {
@@ -72,6 +73,7 @@ pub fn closed_list<'a>(tokens: Tokens<'a>) -> Option<Tokens<'a>>
 }
 
 /// The delimiter at the front, and what follows it.
+#[inline(always)]
 pub fn delimited<'a>(tokens: Tokens<'a>) -> Option<(Delimiter, Tokens<'a>)>
     ensures some { IfSome result
         (λ r. map token_view tokens.now ≡ delimiter_view r.0 ∷ map token_view r.1.now) }

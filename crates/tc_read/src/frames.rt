@@ -1,7 +1,9 @@
 //! What stands open while a term is read.
-ghost use Rattle.std.specs.Prelude.{◌≡◌, [], ◌∷◌, IfOk, List, MatchOption, OnOk, map};
+ghost use Rattle.std.specs.Prelude.{◌≡◌, [], ◌∷◌, IfOk, IsFalse, IsTrue, List, MatchOption, OnOk};
+ghost use Rattle.std.specs.Prelude.{Some, map, suc};
 ghost use Rattle.tc_read.specs.declared.frames.Frame.{Frame};
-ghost use Rattle.tc_read.specs.Frames.{IsMove, below, framed, frames_of, items_of, opened, top};
+ghost use Rattle.tc_read.specs.Frames.{IsMove, below, counted_more, framed, frames_of, items_of};
+ghost use Rattle.tc_read.specs.Frames.{opened, top};
 ghost use Rattle.tc_read.specs.Items.{kept_item};
 ghost use Rattle.tc_read.specs.Kept.{Kept};
 ghost use Rattle.tc_read.specs.Machine.{Awaits, Goes_to, Holds, limit};
@@ -64,6 +66,7 @@ impl Stack {
     }
 
     /// Opens a place inside the innermost one.
+    #[inline(always)]
     pub fn push_frame(&mut self, frame: Frame) -> Result<(), NoMemory>
         ensures frames { OnOk result (frames_of self.new ≡ frame ∷ frames_of self.old) }
         ensures items { items_of self.new ≡ items_of self.old }
@@ -73,6 +76,7 @@ impl Stack {
     }
 
     /// Takes the innermost open place off, if any is open.
+    #[inline(always)]
     pub fn pop_frame(&mut self) -> Option<Frame>
         ensures frames { MatchOption result
             ((frames_of self.old ≡ []) × (frames_of self.new ≡ []))
@@ -82,7 +86,23 @@ impl Stack {
         self.frames.pop()
     }
 
+    /// Counts one item more in the innermost open place, where others may follow, and says whether
+    /// it did.
+    #[inline(always)]
+    pub fn count_item(&mut self) -> bool
+        ensures counted { IsTrue result
+            → counted_more (frames_of self.old) ≡ Some (frames_of self.new) }
+        ensures same { IsFalse result → frames_of self.new ≡ frames_of self.old }
+        ensures items { items_of self.new ≡ items_of self.old }
+    {
+        match self.frames.last_mut() {
+            Some(frame) => count_in(frame),
+            None => false,
+        }
+    }
+
     /// Adds what has been read.
+    #[inline(always)]
     pub fn push_item(&mut self, item: Item) -> Result<(), NoMemory>
         ensures items { OnOk result (items_of self.new ≡ kept_item item ∷ items_of self.old) }
         ensures frames { frames_of self.new ≡ frames_of self.old }
@@ -92,6 +112,7 @@ impl Stack {
     }
 
     /// Takes the last item off. Where there is none, the answer is one that doesn't fit.
+    #[inline(always)]
     pub fn pop_item(&mut self) -> Item
         ensures item { kept_item result ≡ top (items_of self.old) }
         ensures items { items_of self.new ≡ below (items_of self.old) }
@@ -105,7 +126,7 @@ impl Stack {
 }
 
 /// A step behind this item of this priority, which is the last one then.
-#[inline]
+#[inline(always)]
 pub fn held<'a>(stack: &mut Stack, item: Item, priority: u16, rest: Tokens<'a>) -> Move<'a>
     ensures { IfOk result
         (λ r. IsMove (Goes_to (opened stack.old) (Holds (kept_item item) priority)
@@ -119,7 +140,7 @@ pub fn held<'a>(stack: &mut Stack, item: Item, priority: u16, rest: Tokens<'a>) 
 }
 
 /// A step into the place that this frame opens.
-#[inline]
+#[inline(always)]
 pub fn awaited<'a>(stack: &mut Stack, frame: Frame, rest: Tokens<'a>) -> Move<'a>
     ensures { IfOk result
         (λ r. IsMove (Goes_to (framed (frame ∷ frames_of stack.old) (items_of stack.old)) Awaits
@@ -132,7 +153,35 @@ pub fn awaited<'a>(stack: &mut Stack, frame: Frame, rest: Tokens<'a>) -> Move<'a
     }))
 }
 
+/// Counts one item more in this frame, where others may follow, and says whether it did.
+#[inline(always)]
+fn count_in(frame: &mut Frame) -> bool
+    ensures counted { IsTrue result → (frames : List Frame)
+        → counted_more (frame.old ∷ frames) ≡ Some (frame.new ∷ frames) }
+    ensures same { IsFalse result → frame.new ≡ frame.old }
+{
+    match frame {
+        Frame::Args(_, count) => is_raised(count),
+        Frame::Elements(count) => is_raised(count),
+        _ => false,
+    }
+}
+
+/// Makes the count one more, if a greater one can be held, and says whether it did.
+#[inline(always)]
+fn is_raised(count: &mut usize) -> bool
+    ensures raised { IsTrue result → count.new ≡ suc count.old }
+    ensures same { IsFalse result → count.new ≡ count.old }
+{
+    if *count == usize::MAX {
+        return false;
+    }
+    *count += 1;
+    true
+}
+
 /// The highest priority of a term in the innermost open place.
+#[inline(always)]
 pub fn limit(stack: &Stack) -> u16
     ensures { (ks : List Kept) → result ≡ limit (framed (frames_of stack.now) ks) }
 {
@@ -142,6 +191,7 @@ pub fn limit(stack: &Stack) -> u16
     }
 }
 
+#[inline(always)]
 fn frame_limit(frame: &Frame) -> u16
     ensures { (frames : List Frame) (ks : List Kept)
         → result ≡ limit (framed (frame.now ∷ frames) ks) }

@@ -36,6 +36,7 @@ mod printed_names;
 mod quote;
 mod quoted;
 mod read;
+mod rest;
 mod scan;
 mod scanner;
 mod tokens;

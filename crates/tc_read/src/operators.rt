@@ -25,6 +25,7 @@ pub struct Operator {
 }
 
 /// The operator that the token is behind a term.
+#[inline(always)]
 pub fn infix(token: Token) -> Option<Operator>
     ensures { operator_option result ≡ infix_of (token_view token.entry) }
 {
@@ -101,11 +102,9 @@ fn symbol_operator(sign: Sign) -> Operator
 fn word_operator(name: &[u8]) -> Option<Operator>
     ensures { operator_option result ≡ operator_named name.now }
 {
-    if name == b"is".as_slice() {
-        Some(xfx(b"is", 700))
-    } else if name == b"mod".as_slice() {
-        Some(yfx(b"mod", 400))
-    } else {
-        None
+    match name {
+        [b'i', b's'] => Some(xfx(b"is", 700)),
+        [b'm', b'o', b'd'] => Some(yfx(b"mod", 400)),
+        _ => None,
     }
 }

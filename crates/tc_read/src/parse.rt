@@ -15,6 +15,7 @@ use crate::tokens::Tokens;
 use std::alloc::Global;
 use tc_lists::NoMemory;
 
+#[inline(always)]
 fn step<'a>(alloc: Global, stack: &mut Stack, state: State, tokens: Tokens<'a>) -> Move<'a>
     ensures { IfOk result
         (λ r. IsMove (step kept (opened_in state stack.old) (standing state stack.old)

@@ -60,6 +60,7 @@ fn is_behind_end(after: &[u8]) -> bool
 }
 
 /// What stands next in the rest of a text of this size.
+#[inline(always)]
 fn find<'a>(rest: &'a [u8], size: usize, clauses: bool) -> Found<'a>
     ensures { StandsNext clauses size rest.now result }
 {

@@ -109,6 +109,7 @@ impl<'a> Scanner<'a> {
     }
 
     /// Adds the next token.
+    #[inline(always)]
     pub fn add(&mut self, lexeme: Lexeme<'a>, place: usize, direct: bool) -> Result<(), NoMemory>
         ensures { OnOk result
             ((before : List At) → Gathers self.old before

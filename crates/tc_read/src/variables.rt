@@ -23,7 +23,29 @@ pub struct Variables<'a> {
 fn is_anonymous(name: &[u8]) -> bool
     ensures { result ≡ is_anonymous name.now }
 {
-    name == b"_".as_slice()
+    match name {
+        [b'_'] => true,
+        _ => false,
+    }
+}
+
+/// Whether the names are the same. They are compared from their ends on, where names that are
+/// numbered differ.
+#[inline(always)]
+fn is_same(name: &[u8], known: &[u8]) -> bool
+    ensures { result ≡ bytes_eq name.now known.now }
+{
+    let mut left = name.len();
+    if left != known.len() {
+        return false;
+    }
+    while left > 0 {
+        left -= 1;
+        if name[left] != known[left] {
+            return false;
+        }
+    }
+    true
 }
 
 impl<'a> Variables<'a> {
@@ -70,7 +92,7 @@ impl<'a> Variables<'a> {
     fn place(&self, name: &[u8]) -> Option<usize>
         ensures { result ≡ position (λ known. bytes_eq name.now known.now) self.now.known.items }
     {
-        self.known.iter().position(|known| name == *known)
+        self.known.iter().position(|known| is_same(name, known))
     }
 
     fn learn(&mut self, name: &'a [u8]) -> Result<(), NoMemory>

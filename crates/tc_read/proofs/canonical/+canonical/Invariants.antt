@@ -1,8 +1,7 @@
 use Rattle.std.proofs.Common.{◌≡◌, ◌+◌, ◌-◌, ◌*◌}
 use Rattle.tc_term.specs.Text.{Alone}
-use Rattle.tc_term.specs.TreeView.{tree_of}
-use Rattle.tc_read.proofs.Cells.{prepended}
-use Rattle.tc_read.specs.Front.{arguments, before, reads}
+use Rattle.tc_read.specs.Seen.{prepended}
+use Rattle.tc_read.specs.Front.{arguments, reads}
 use Rattle.tc_read.proofs.canonical.+canonical.Given as goal
 
 abbrev pub decreases-alone : goal.decreases-alone
@@ -44,5 +43,5 @@ decreases-tail l = l.depth * 10 + 8
 -- with the arguments so far, those that are left are those of the whole
 abbrev pub invariant-from_third-loop : goal.invariant-from_third-loop
 invariant-from_third-loop l =
-    prepended l.terms.items (arguments (reads l.depth Alone) (l.most - l.counter) l.left l.rest)
-    ≡ before (tree_of l.fn.first) (before (tree_of l.fn.second) (arguments (reads l.depth Alone) l.fn.most l.fn.budget l.fn.bytes))
+    prepended l.terms.items (arguments (reads l.depth Alone) (l.most - l.counter) l.rest.budget l.rest.bytes.now)
+    ≡ prepended l.fn.terms.items (arguments (reads l.depth Alone) l.fn.most l.fn.rest.budget l.fn.rest.bytes.now)

@@ -15,24 +15,24 @@ returns-in_default-clause-none c =
 pub returns-in-Err-TooBig-clause-none : goal.returns-in-Err-TooBig-clause-none
 returns-in-Err-TooBig-clause-none c =
     let stands =
-    front-stands c.args.text.now c.args.from (tree_of c.in-Some.term) c.in-Some.field-0-1 c.in-Some.rest.now c.requires
+    front-stands c.args.text.now c.args.from (tree_of c.in-Some.term) c.in-Some.rest.budget c.in-Some.rest.bytes.now c.requires
     (ap canonical_at (sym c.rest_from.ensures) ∙ sym c.in_ok-term.ensures ∙ ap term_seen c.in-Some.is) in
     absurd (HasExcess-pattern c.in-Some.term c.in-Err-TooBig.field-0 stands.pattern c.in-Err-TooBig.ensures.err)
 
 pub returns-in-Err-TooMany-clause-none : goal.returns-in-Err-TooMany-clause-none
 returns-in-Err-TooMany-clause-none c =
     let stands =
-    front-stands c.args.text.now c.args.from (tree_of c.in-Some.term) c.in-Some.field-0-1 c.in-Some.rest.now c.requires
+    front-stands c.args.text.now c.args.from (tree_of c.in-Some.term) c.in-Some.rest.budget c.in-Some.rest.bytes.now c.requires
     (ap canonical_at (sym c.rest_from.ensures) ∙ sym c.in_ok-term.ensures ∙ ap term_seen c.in-Some.is) in
     absurd (HasExcess-pattern c.in-Some.term c.in-Err-TooMany.field-0 stands.pattern c.in-Err-TooMany.ensures.err)
 
 pub overflow_sub-result : goal.overflow_sub-result
 overflow_sub-result c =
-    front-rest c.args.text.now c.args.from (tree_of c.in-Some.term) c.in-Some.field-0-1 c.in-Some.rest.now c.requires
+    front-rest c.args.text.now c.args.from (tree_of c.in-Some.term) c.in-Some.rest.budget c.in-Some.rest.bytes.now c.requires
     (ap canonical_at (sym c.rest_from.ensures) ∙ sym c.in_ok-term.ensures ∙ ap term_seen c.in-Some.is)
 
 pub returns-clause-found : goal.returns-clause-found
 returns-clause-found c =
-    front-longest c.args.text.now c.args.from (tree_of c.in-Some.term) c.in-Some.field-0-1 c.in-Some.rest.now c.requires
+    front-longest c.args.text.now c.args.from (tree_of c.in-Some.term) c.in-Some.rest.budget c.in-Some.rest.bytes.now c.requires
     (ap canonical_at (sym c.rest_from.ensures) ∙ sym c.in_ok-term.ensures ∙ ap term_seen c.in-Some.is)
-    c.in-Ok.pattern (length c.args.text.now - length c.in-Some.rest.now) c.in-Ok.ensures.ok.0 refl
+    c.in-Ok.pattern (length c.args.text.now - length c.in-Some.rest.bytes.now) c.in-Ok.ensures.ok.0 refl

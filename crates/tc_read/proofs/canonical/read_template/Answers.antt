@@ -18,8 +18,8 @@ pub known-requires-clause-count : goal.known-requires-clause-count
 known-requires-clause-count c =
     subst HasCount (sym c.in_ok-term.ensures ∙ ap term_seen c.in-Some.is) (canonical_at-counts c.args.bytes.now)
 
-pub overflow_cast-left : goal.overflow_cast-left
-overflow_cast-left c =
+pub overflow_cast-rest : goal.overflow_cast-rest
+overflow_cast-rest c =
     let same = sym c.in_ok-term.ensures ∙ ap term_seen c.in-Some.is in
     let stands = subst (IsStanding c.args.bytes.now) same (canonical_at-stands c.args.bytes.now) in
     let count = subst HasCount same (canonical_at-counts c.args.bytes.now) in
@@ -27,5 +27,5 @@ overflow_cast-left c =
 
 pub returns : goal.returns
 returns c =
-    ap (λ t. Some (t, c.in-Some.rest.now)) c.known.ensures
+    ap (λ t. Some (t, c.in-Some.rest.bytes.now)) c.known.ensures
     ∙ ap without_room (ap term_seen (sym c.in-Some.is) ∙ c.in_ok-term.ensures)
