@@ -13,4 +13,4 @@ pub record Updates (row : ℕ) (tuple : Option Tree) (old new : List (Option Tre
 
 -- the row of a gap, at which no tuple is
 abbrev pub no_row : ℕ
-no_row = 18446744073709551615
+no_row = 4294967295

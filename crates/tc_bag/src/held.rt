@@ -276,6 +276,7 @@ impl Held {
     pub(crate) fn take(&mut self, age: u64, n: usize) -> bool
         requires order { InOrder self.old }
         requires counted { 0 < n }
+        requires few { n < 2 ^ 32 }
         ensures taken { self.new ≡ map (taken_at age n) self.old }
         ensures told { result ≡ is_some (tuple_there age self.old) }
     {
@@ -291,6 +292,7 @@ impl Held {
     fn set_gone(&mut self, age: u64, n: usize)
         requires order { InOrder self.old }
         requires counted { 0 < n }
+        requires few { n < 2 ^ 32 }
         ensures { self.new ≡ map (with_taken age n) self.old }
     {
         if let Some(codes) = self.places.codes(age) {

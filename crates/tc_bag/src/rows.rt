@@ -6,6 +6,7 @@ ghost use Rattle.tc_bag.specs.Rows.{tuple_in};
 use crate::bag::PutFault;
 use crate::codes::{Codes, codes_of};
 use crate::key::Lent;
+use crate::slots::NO_ROW;
 use slab::Slab;
 use std::alloc::Global;
 use std::marker::Model;
@@ -60,12 +61,11 @@ impl Rows {
         ensures same { OnErr result (self.new ≡ self.old) }
         ensures returned { IfErr result (λ fault. fault ≡ PutFault.NoMemory tuple) }
     {
+        if self.slab.vacant_key() >= NO_ROW as usize {
+            return Err(PutFault::NoMemory(tuple));
+        }
         match self.slab.insert(tuple) {
-            Ok(row) => {
-                // It bounds the rows.
-                let _most = self.slab.capacity();
-                Ok(row)
-            }
+            Ok(row) => Ok(row),
             Err(failed) => Err(PutFault::NoMemory(failed.value)),
         }
     }
