@@ -179,6 +179,13 @@ impl Places {
         Some(self.rows.codes(row_of(&self.places, age)?))
     }
 
+    /// The codes of the tuple of this age, where its row is there.
+    pub(crate) fn codes_there(&self, age: u64) -> Option<Codes>
+        ensures { result ≡ option_map codes_of (tuple_there age self.now) }
+    {
+        Some(self.rows.codes(row_there(&self.places, age)?))
+    }
+
     /// Enters each row that is there in an index.
     pub(crate) fn enter_all(&self, index: &mut Index) -> Result<(), NoMemory>
         ensures entered { OnOk result (All (IsEntered index.new) self.now) }
