@@ -16,8 +16,8 @@ use tc_term::{Ground, Term};
 
 /// Tuples in rows, each by its number.
 ///
-/// A tuple that stays in its row is handed out by `look` alone, and each look is a step. What lies
-/// at a row that is free is nobody's.
+/// A tuple that stays in its row is handed out by `look` alone, and each look is a step. Which rows
+/// are free is told beside them, with room for each, and nobody sees what lies there.
 #[derive(Drop)]
 pub struct Rows {
     tuples: Vec<Ground>,
@@ -90,7 +90,7 @@ impl Rows {
         if row >= NO_ROW as usize {
             return Err(PutFault::NoMemory(tuple));
         }
-        // Room to tell that it is free.
+        // Room to tell of each row that it is free.
         if let Err(_) = self.free.reserve(row + 1) {
             return Err(PutFault::NoMemory(tuple));
         }
@@ -111,7 +111,7 @@ impl Rows {
             return last_of(&mut self.tuples);
         }
         self.free.push_reserved(row as u32);
-        mem::replace(&mut self.tuples[row], nobodys())
+        mem::replace(&mut self.tuples[row], unseen())
     }
 
     /// The tuple at a row. It is a step.
@@ -158,8 +158,8 @@ fn last_of(tuples: &mut Vec<Ground>) -> Ground
     }
 }
 
-// What lies at a row that is free.
-fn nobodys() -> Ground {
+// A tuple that nobody sees, for a row that is free.
+fn unseen() -> Ground {
     match Ground::of(Term::Int(0)) {
         Ok(tuple) => tuple,
         Err(_) => unreachable!(),
