@@ -1,9 +1,10 @@
 -- How a bag keeps its rows: each in a slot, which stays while a mark may bring its row back.
 use Rattle.std.specs.Prelude.{◌≡◌, ℕ, ◌+◌, ◌-◌, ◌<◌, ◌≤◌, ◌==◌, ◌&&◌, ◌||◌, not, nat_lt}
 use Rattle.std.specs.Prelude.{Bool, IsTrue, if◌then◌else◌, List, [], ◌∷◌, ◌++◌, length}
-use Rattle.std.specs.Prelude.{map, filter, slice_get, All, Option, Some, None}
+use Rattle.std.specs.Prelude.{map, filter, slice_get, min, All, Option, Some, None}
 use Rattle.tc_lists.specs.Marks.{Climbs}
 use Rattle.tc_term.specs.Tree.{Tree, IsTuple}
+use Rattle.tc_bag.specs.declared.bag.TheConstants.{MOST_ROWS}
 use Rattle.tc_bag.specs.declared.key.Key.{Key}
 use Rattle.tc_bag.specs.declared.slots.Mark.{Mark}
 use Rattle.tc_bag.specs.Keys.{IsLike}
@@ -64,6 +65,11 @@ InOrder (s ∷ ss) = All (λ t. s.age < t.age) ss × InOrder ss
 -- where the row was taken, its age stands at that place of the list
 abbrev pub IsLogged : List ℕ → Slot → Type 0
 IsLogged log s = 0 < s.taken → slice_get log (s.taken - 1) ≡ Some s.age
+
+-- how many rows there may be, those that a mark may bring back among them, where the list of these
+-- has so much room
+abbrev pub most_rows : ℕ → ℕ
+most_rows room = min room MOST_ROWS
 
 -- no row was taken before the first mark
 abbrev pub StartsEmpty : List Mark → Type 0

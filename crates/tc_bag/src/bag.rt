@@ -10,6 +10,10 @@ use tc_lists::NoMemory;
 use tc_steps::Steps;
 use tc_term::{Ground, Term};
 
+/// The most rows of a bag, those that are there and those that a mark may bring back. So many take
+/// hundreds of gigabytes.
+pub(crate) const MOST_ROWS: usize = 4_294_967_294;
+
 /// Why a tuple was not put. It is given back.
 #[derive(Debug, Drop, thiserror::Error)]
 pub enum PutFault {
@@ -38,11 +42,12 @@ impl Model for Bag {
     ghost coded = { Prim.hlevel (codes, coded_tree) };
 
     ghost use Rattle.std.specs.Prelude.{vec_capacity};
-    ghost use Rattle.tc_bag.specs.Slots.{stock_of, IsSound};
+    ghost use Rattle.tc_bag.specs.Slots.{stock_of, most_rows, IsSound};
 
     ghost view = { λ b. stock_of b.rows b.next b.marks.items };
 
-    ghost invariant = { λ b. IsSound b.rows b.next b.log.items (vec_capacity b.log) b.marks.items };
+    ghost invariant = { λ b. IsSound b.rows b.next b.log.items
+        (most_rows (vec_capacity b.log)) b.marks.items };
 }
 
 impl Bag {
@@ -261,6 +266,9 @@ impl Bag {
         // The tuple shows that it is one, which each slot keeps.
         let _term = tuple.term();
         let room = self.rows.len() + 1;
+        if self.log.len() + room > MOST_ROWS {
+            return Err(PutFault::NoMemory(tuple));
+        }
         if let Err(_) = self.log.reserve(room) {
             return Err(PutFault::NoMemory(tuple));
         }

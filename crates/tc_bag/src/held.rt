@@ -1,5 +1,5 @@
 //! Rows by age, and an index of their ages.
-use crate::codes::{Code, code_like, codes_of};
+use crate::codes::{Code, Codes, code_like, codes_of};
 use crate::index::Index;
 use crate::key::Lent;
 use crate::places::Places;
@@ -276,26 +276,29 @@ impl Held {
     pub(crate) fn take(&mut self, age: u64, n: usize) -> bool
         requires order { InOrder self.old }
         requires counted { 0 < n }
+        requires few { n < 2 ^ 32 }
         ensures taken { self.new ≡ map (taken_at age n) self.old }
         ensures told { result ≡ is_some (tuple_there age self.old) }
     {
-        let there = self.places.is_there(age);
-        if there {
-            self.set_gone(age, n);
-            self.skip_gone();
+        match self.places.codes_there(age) {
+            Some(codes) => {
+                self.set_gone(age, codes, n);
+                self.skip_gone();
+                true
+            }
+            None => false,
         }
-        there
     }
 
-    // Notes of the row of this age that it is so manieth to be taken. The index has it no more.
-    fn set_gone(&mut self, age: u64, n: usize)
+    // Notes of the row of this age, by whose codes the index has it no more, that it is so manieth to
+    // be taken.
+    fn set_gone(&mut self, age: u64, codes: Codes, n: usize)
         requires order { InOrder self.old }
         requires counted { 0 < n }
+        requires few { n < 2 ^ 32 }
         ensures { self.new ≡ map (with_taken age n) self.old }
     {
-        if let Some(codes) = self.places.codes(age) {
-            self.index.leave_row(age, codes);
-        }
+        self.index.leave_row(age, codes);
         self.places.set_taken(age, n);
     }
 

@@ -179,6 +179,13 @@ impl Places {
         Some(self.rows.codes(row_of(&self.places, age)?))
     }
 
+    /// The codes of the tuple of this age, where its row is there.
+    pub(crate) fn codes_there(&self, age: u64) -> Option<Codes>
+        ensures { result ≡ option_map codes_of (tuple_there age self.now) }
+    {
+        Some(self.rows.codes(row_there(&self.places, age)?))
+    }
+
     /// Enters each row that is there in an index.
     pub(crate) fn enter_all(&self, index: &mut Index) -> Result<(), NoMemory>
         ensures entered { OnOk result (All (IsEntered index.new) self.now) }
@@ -197,7 +204,7 @@ impl Places {
         ensures { All (λ s. s.age ≡ age → s.taken ≡ result) self.now }
     {
         match find(&self.places, age) {
-            Some(place) => place.taken,
+            Some(place) => place.taken as usize,
             None => 0,
         }
     }
@@ -211,7 +218,7 @@ impl Places {
     {
         let places = self.places.as_slice();
         let place = first_filled(&places[point_of(places, from)..])?;
-        Some((place.age, place.taken))
+        Some((place.age, place.taken as usize))
     }
 
     /// The age of the youngest row.
@@ -234,7 +241,11 @@ impl Places {
         }
         match self.rows.put(tuple) {
             Ok(row) => {
-                self.places.push_reserved(Place { age, taken: 0, row });
+                self.places.push_reserved(Place {
+                    age,
+                    taken: 0,
+                    row: row as u32,
+                });
                 self.filled += 1;
                 Ok(())
             }
@@ -254,10 +265,11 @@ impl Places {
 
     /// Notes of the row of this age that it is so manieth to be taken, or with 0 that it is there.
     pub(crate) fn set_taken(&mut self, age: u64, n: usize)
+        requires { n < 2 ^ 32 }
         ensures { self.new ≡ map (with_taken age n) self.old }
     {
         if let Some(i) = place_of(&self.places, age) {
-            self.places[i].taken = n;
+            self.places[i].taken = n as u32;
         }
     }
 }

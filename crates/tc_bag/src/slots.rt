@@ -8,12 +8,12 @@
 #[derive(Clone, Copy)]
 pub(crate) struct Place {
     pub(crate) age: u64,
-    pub(crate) taken: usize,
-    pub(crate) row: usize,
+    pub(crate) taken: u32,
+    pub(crate) row: u32,
 }
 
-/// The row of a gap, at which no tuple is.
-pub(crate) const NO_ROW: usize = usize::MAX;
+/// The row of a gap, at which no tuple is. Rows are below it.
+pub(crate) const NO_ROW: u32 = u32::MAX;
 
 impl Place {
     ghost use Rattle.std.specs.Prelude.{◌≡◌, is_some};
@@ -35,7 +35,7 @@ impl Place {
         if self.row == NO_ROW {
             None
         } else {
-            Some(self.row)
+            Some(self.row as usize)
         }
     }
 

@@ -3,7 +3,7 @@ use Rattle.tc_lists.specs.Firsts.{NoneOf, IsFirst}
 use Rattle.tc_lists.proofs.Options.{IfNone-weaker}
 use Rattle.tc_term.specs.Tree.{IsTuple}
 use Rattle.tc_bag.specs.Stock.{Stock, row, AgesRiseBelow, IsCandidateLike}
-use Rattle.tc_bag.specs.Slots.{IsThereLike}
+use Rattle.tc_bag.specs.Slots.{IsThereLike, most_rows}
 use Rattle.tc_bag.specs.Looks.{like_between, like_from}
 use Rattle.tc_bag.specs.Lent.{lent_key, lent_tree}
 use Rattle.std.proofs.Common.{vec_capacity}
@@ -34,13 +34,13 @@ pub returns-clause-rises : goal.returns-clause-rises
 returns-clause-rises g c =
     let b = c.self.inside in
     subst (λ (stock : Stock). AgesRiseBelow stock.now stock.next) c.self.view_is
-    (sound-rises b.rows b.next b.log.items (vec_capacity b.log) b.marks.items c.self.invariant)
+    (sound-rises b.rows b.next b.log.items (most_rows (vec_capacity b.log)) b.marks.items c.self.invariant)
 
 pub returns-clause-tuples : goal.returns-clause-tuples
 returns-clause-tuples g c =
     let b = c.self.inside in
     subst (λ (stock : Stock). All (λ r. IsTuple r.tuple) stock.now) c.self.view_is
-    (sound-tuples b.rows b.next b.log.items (vec_capacity b.log) b.marks.items c.self.invariant)
+    (sound-tuples b.rows b.next b.log.items (most_rows (vec_capacity b.log)) b.marks.items c.self.invariant)
 
 pub returns-clause-looked : goal.returns-clause-looked
 returns-clause-looked g c =

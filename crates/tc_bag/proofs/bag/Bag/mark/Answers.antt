@@ -1,7 +1,7 @@
 use Rattle.std.proofs.Common.{◌≡◌, ◌++◌, ◌∷◌, [], ap, sym, subst, ◌∙◌}
 use Rattle.tc_bag.specs.declared.slots.Mark.{Mark}
 use Rattle.tc_bag.specs.Stock.{marked}
-use Rattle.tc_bag.specs.Slots.{IsSound, stock_of}
+use Rattle.tc_bag.specs.Slots.{IsSound, stock_of, most_rows}
 use Rattle.std.proofs.Common.{ℕ, length, vec_capacity, List}
 use Rattle.tc_bag.proofs.Stocks.{sound-marked, stock-marked}
 use Rattle.tc_bag.proofs.bag.Bag.mark.Goals as goal
@@ -22,14 +22,14 @@ marks c =
 pub invariant_of-self-2 : goal.invariant_of-self-2
 invariant_of-self-2 c =
     let b = c.self.inside in
-    subst (λ rows. IsSound rows b.next b.log.items (vec_capacity b.log) c.push.new.self.items) (sym c.mend.ensures)
-    (subst (IsSound b.rows b.next b.log.items (vec_capacity b.log)) (sym (marks c))
-    (sound-marked b.rows b.next b.log.items (vec_capacity b.log) b.marks.items c.self.invariant))
+    subst (λ rows. IsSound rows b.next b.log.items (most_rows (vec_capacity b.log)) c.push.new.self.items) (sym c.mend.ensures)
+    (subst (IsSound b.rows b.next b.log.items (most_rows (vec_capacity b.log))) (sym (marks c))
+    (sound-marked b.rows b.next b.log.items (most_rows (vec_capacity b.log)) b.marks.items c.self.invariant))
 
 pub returns-clause-marked : goal.returns-clause-marked
 returns-clause-marked c =
     let b = c.self.inside in
     ap (λ rows. stock_of rows b.next c.push.new.self.items) c.mend.ensures
     ∙ ap (stock_of b.rows b.next) (marks c)
-    ∙ stock-marked b.rows b.next b.log.items (vec_capacity b.log) b.marks.items c.self.invariant
+    ∙ stock-marked b.rows b.next b.log.items (most_rows (vec_capacity b.log)) b.marks.items c.self.invariant
     ∙ ap marked c.self.view_is
