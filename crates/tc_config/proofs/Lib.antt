@@ -10,5 +10,7 @@ pub mod Fillings
 pub mod Operands
 pub mod FirstCauses
 pub mod Onward
+pub mod PieceByPiece
+pub mod Sends
 pub mod OneConfig
 pub mod GoodRuns

@@ -16,6 +16,7 @@ use Rattle.tc_config.specs.Causes.{IsFaulty}
 use Rattle.tc_config.specs.Configurations.{Configuration, nothing}
 use Rattle.tc_config.specs.Drafts.{HasRoom, IsOfClauses}
 use Rattle.tc_config.specs.Meanings.{ClauseMakes, Means, centre, changed, with_clause, with_tuple}
+use Rattle.tc_config.specs.Pieces.{IsReadTo}
 use Rattle.tc_config.specs.Texts.{HasFault, IsRefused, Spells, cause_unread, config_language}
 use Rattle.tc_config.specs.declared.configs.CentreConf.{CentreConf}
 use Rattle.tc_config.specs.declared.faults.ConfigCause.{ConfigCause}
@@ -83,46 +84,51 @@ of-clauses-more count c vars (Script a lines) e h makes = subst (IsOfClauses (co
   tuples = few-more count c.centres h.tuples;
 })
 
--- the text up to a place is so many clauses, and this is what they set up
-pub record IsReadTo (text : List ℕ) (from count : ℕ) (c : Configuration) : Type 0 where
-  pub read : onward.IsReadTo config_language text nothing from count c
-  pub small : IsOfClauses count c
+-- what tc_read says of a text that is read up to a place
+clauses-to : (text : List ℕ) (from count : ℕ) (c : Configuration) → IsReadTo text from count c
+    → onward.IsReadTo config_language text nothing from count c
+clauses-to text from count c h =
+    record { terms = h.terms; clauses = h.clauses; counted = h.counted; few = h.few; inside = h.inside }
+
+read-to : (text : List ℕ) (from count : ℕ) (c : Configuration) → onward.IsReadTo config_language text nothing from count c
+    → IsOfClauses count c → IsReadTo text from count c
+read-to text from count c h small =
+    record { terms = h.terms; clauses = h.clauses; counted = h.counted; few = h.few; inside = h.inside; small = small }
 
 pub read_none : (text : List ℕ) → IsReadTo text 0 0 nothing
-read_none text = record {
-  read = onward.read_none config_language text nothing;
-  small = record { grants = omega arith; tuples = All-nil (λ (s : CentreConf). length s.tuples ≤ 0) };
-}
+read_none text =
+    read-to text 0 0 nothing (onward.read_none config_language text nothing)
+    (record { grants = omega arith; tuples = All-nil (λ (s : CentreConf). length s.tuples ≤ 0) })
 
 pub read_more : (text : List ℕ) (from count behind : ℕ) (c e : Configuration) (t : Tree) → IsReadTo text from count c
     → AnswersAt text from (Found t behind) → Means c t e → from < behind → behind ≤ length text
     → IsReadTo text behind (count + 1) e
-read_more text from count behind c e t h found means further inside = record {
-  read = onward.read_more config_language text nothing from count behind c e t h.read found means further inside;
-  small = of-clauses-more count c _ means.form e h.small means.makes;
-}
+read_more text from count behind c e t h found means further inside =
+    read-to text behind (count + 1) e
+    (onward.read_more config_language text nothing from count behind c e t (clauses-to text from count c h) found means further inside)
+    (of-clauses-more count c _ means.form e h.small means.makes)
 
 -- there is room for a clause that is found behind them
 pub room_behind : (text : List ℕ) (from count behind : ℕ) (c : Configuration) → IsReadTo text from count c → from < behind
     → behind ≤ length text → length text ≤ MOST_BYTES → HasRoom c
 room_behind text from count behind c h further inside short = record {
-  grants = omega (arith, h.small.grants, h.read.few, further, inside, short);
+  grants = omega (arith, h.small.grants, h.few, further, inside, short);
   tuples =
       All-weaker (λ (s : CentreConf). length s.tuples ≤ count) (λ (s : CentreConf). length s.tuples < MOST_TUPLES)
-      (λ s less. omega (arith, less, h.read.few, further, inside, short)) c.centres h.small.tuples;
+      (λ s less. omega (arith, less, h.few, further, inside, short)) c.centres h.small.tuples;
 }
 
 -- all clauses are read
 pub read_all : (text : List ℕ) (from count : ℕ) (c : Configuration) → IsReadTo text from count c → length text ≤ MOST_BYTES
     → AnswersAt text from Nothing → Spells text c
 read_all text from count c h short end =
-    record { short = short; clauses = onward.read_all config_language text nothing from count c h.read end }
+    record { short = short; clauses = onward.read_all config_language text nothing from count c (clauses-to text from count c h) end }
 
 -- what is wrong with the clause behind them is what is wrong with the text
 has_fault : (text : List ℕ) (from count number : ℕ) (c : Configuration) (why : ConfigCause) → IsReadTo text from count c
     → length text ≤ MOST_BYTES → number ≡ count + 1 → IsFaultyAt config_language text from c why → HasFault text number why
 has_fault text from count number c why h short counted faulty =
-    record { short = short; faulty = onward.read_fault config_language text nothing from count number c why h.read counted faulty }
+    record { short = short; faulty = onward.read_fault config_language text nothing from count number c why (clauses-to text from count c h) counted faulty }
 
 -- no form is faulty by the length of the text
 formless : (c : Configuration) (x : Form) → IsFaulty c x cause.Length → ⊥

@@ -7,5 +7,6 @@ pub mod Texts
 pub mod Answers
 pub mod Words
 pub mod Drafts
+pub mod Pieces
 pub mod Good
 pub mod Refusals

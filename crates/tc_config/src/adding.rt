@@ -2,41 +2,22 @@
 ghost use Rattle.std.specs.Prelude.{◌≡◌, IfErr, IsTrue, OnOk};
 ghost use Rattle.tc_term.specs.NameBytes.{has_read_names};
 ghost use Rattle.tc_term.specs.Variables.{IsPattern, var_bound};
-ghost use Rattle.tc_config.specs.Answers.{IsClauseFault, IsTermFault};
+ghost use Rattle.tc_config.specs.Answers.{IsClauseFault};
 ghost use Rattle.tc_config.specs.Drafts.{AddsClause, HasRoom, IsDraft, config_of};
 ghost use Rattle.tc_config.specs.Forms.{IsRight, form_term};
-ghost use Rattle.tc_config.specs.Meanings.{Means};
 
 use crate::declaring::{add_agent, add_centre, add_role};
 use crate::draft::Draft;
-use crate::faults::{ClauseFault, ConfigCause};
+use crate::faults::ClauseFault;
 use crate::filling::{add_clause, add_grant, add_script, add_tuple};
-use crate::forms::{Form, form_of};
+use crate::forms::Form;
 use std::alloc::Global;
-use tc_term::Pattern;
 
-/// Adds a clause, or tells what is wrong with it first.
+/// Adds a clause of this form, with so many variables, or tells what is wrong with it first.
 ///
 /// Takes time in the clause, however much is set up. Where it is refused, the draft isn't needed
 /// any more, and nothing is said of it.
-pub fn add(alloc: Global, draft: &mut Draft, clause: Pattern) -> Result<(), ClauseFault>
-    requires draft { IsDraft draft.old }
-    requires room { HasRoom (config_of draft.old) }
-    requires names { IsTrue (has_read_names clause) }
-    ensures added { OnOk result (Means (config_of draft.old) clause (config_of draft.new)) }
-    ensures draft { OnOk result (IsDraft draft.new) }
-    ensures fault { IfErr result (IsTermFault (config_of draft.old) clause) }
-{
-    let vars = clause.vars();
-    let found = form_of(alloc, clause.into_term())?;
-    match found {
-        Some(form) => add_form(alloc, draft, vars, form),
-        None => Err(ClauseFault::Bad(ConfigCause::Shape)),
-    }
-}
-
-// Adds a clause of this form, with so many variables.
-fn add_form(alloc: Global, draft: &mut Draft, vars: u32, form: Form) -> Result<(), ClauseFault>
+pub fn add(alloc: Global, draft: &mut Draft, vars: u32, form: Form) -> Result<(), ClauseFault>
     requires draft { IsDraft draft.old }
     requires room { HasRoom (config_of draft.old) }
     requires right { IsRight form }

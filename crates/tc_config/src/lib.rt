@@ -11,6 +11,7 @@
 #![tactic(auto)]
 
 mod adding;
+mod ahead;
 mod configs;
 mod declaring;
 mod draft;
@@ -21,6 +22,8 @@ mod growing;
 mod laws;
 mod limits;
 mod lines;
+mod pieces;
+mod progress;
 mod reading;
 mod refusals;
 mod words;
@@ -32,6 +35,6 @@ pub use laws::{
     limits_are_these,
 };
 pub use limits::{MOST_AGENTS, MOST_BYTES, MOST_CENTRES, MOST_ITEMS, MOST_ROLES, USUAL_BUDGET};
-pub use reading::read_config;
+pub use reading::{read_config, read_config_by};
 pub use refusals::{cause_text, refused_text};
 pub use tc_lists::NoMemory;

@@ -1,13 +1,16 @@
-use Rattle.std.proofs.Common.{subst}
-use Rattle.tc_config.specs.Drafts.{config_of}
-use Rattle.tc_config.specs.Forms.{IsFormOf, IsFormed}
-use Rattle.tc_term.specs.TreeView.{tree_of}
-use Rattle.tc_config.proofs.FirstCauses.{told-fault}
+use Rattle.std.proofs.Common.{codes, ap, subst, arith}
+use Rattle.tc_term.specs.Tree.{Atomic, Fits}
+use Rattle.tc_term.specs.Variables.{var_bound}
+use Rattle.tc_model.proofs.Rules.{HasVarsBelow-second}
+use Rattle.tc_config.specs.Forms.{form_term, lines_term}
+use Rattle.tc_config.specs.declared.forms.Form.{Form}
+use Rattle.tc_config.proofs.Operands.{lines-within}
 use Rattle.tc_config.proofs.adding.add.Goals as goal
 
-pub returns-in-Some-clause-fault : goal.returns-in-Some-clause-fault
-returns-in-Some-clause-fault c =
-    told-fault (config_of c.args.draft.now) c.args.clause c.in-Some.form c.add_form.result
-    (subst (IsFormOf c.in-Some.form) c.into_term.ensures.term
-    (subst (IsFormed (tree_of c.into_term.result)) c.in-Some.is c.in_ok-found.ensures))
-    c.add_form.ensures.fault
+pub add_script-requires-clause-operands : goal.add_script-requires-clause-operands
+add_script-requires-clause-operands c =
+    lines-within c.args.vars c.in-Script.lines
+    (HasVarsBelow-second c.args.vars (codes "script") (Atomic c.in-Script.agent) (lines_term c.in-Script.lines) (record {
+      bound = omega (arith, c.requires.vars, ap (λ (x : Form). var_bound (form_term x)) c.in-Script.is);
+      fits = subst (λ (x : Form). Fits (form_term x)) c.in-Script.is c.requires.pattern.template.fits;
+    }))
