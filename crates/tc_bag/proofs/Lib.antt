@@ -4,7 +4,6 @@ pub mod Ages
 pub mod PairOrder
 pub mod ByAge
 pub mod Gaps
-pub mod FreeRows
 pub mod Kept
 pub mod Searching
 pub mod Logged

@@ -1,5 +1,5 @@
 //! Tuples in rows, each by its number.
-ghost use Rattle.std.specs.Prelude.{ℕ, ◌≡◌, ◌<◌, Option, [], ◌∷◌, ◌++◌, length};
+ghost use Rattle.std.specs.Prelude.{ℕ, Option};
 ghost use Rattle.tc_term.specs.Tree.{Tree};
 ghost use Rattle.tc_bag.specs.Rows.{tuple_in};
 
@@ -7,21 +7,19 @@ use crate::bag::PutFault;
 use crate::codes::{Codes, codes_of};
 use crate::key::Lent;
 use crate::slots::NO_ROW;
+use slab::Slab;
 use std::alloc::Global;
 use std::marker::Model;
-use std::mem;
 use std::sync::ledger::Ledger;
 use tc_steps::Steps;
-use tc_term::{Ground, Term};
+use tc_term::Ground;
 
 /// Tuples in rows, each by its number.
 ///
-/// A tuple that stays in its row is handed out by `look` alone, and each look is a step. Which rows
-/// are free is told beside them, with room for each, and nobody sees what lies there.
+/// A tuple that stays in its row is handed out by `look` alone, and each look is a step.
 #[derive(Drop)]
 pub struct Rows {
-    tuples: Vec<Ground>,
-    free: Vec<u32>,
+    slab: Slab<Ground>,
 }
 
 impl Model for Rows {
@@ -34,12 +32,7 @@ impl Model for Rows {
 
     ghost coded = { Prim.hlevel (codes, coded_tree) };
 
-    ghost use Rattle.std.specs.Prelude.{vec_capacity};
-    ghost use Rattle.tc_bag.specs.Rows.{rows_of, AreRows};
-
-    ghost view = { λ r. rows_of r.tuples.items r.free.items };
-
-    ghost invariant = { λ r. AreRows r.tuples.items r.free.items (vec_capacity r.free) };
+    ghost view = { λ r. r.slab.slots };
 }
 
 impl Rows {
@@ -55,8 +48,7 @@ impl Rows {
         ensures { result ≡ [] }
     {
         Rows {
-            tuples: Vec::new(alloc),
-            free: Vec::new(alloc),
+            slab: Slab::new(alloc),
         }
     }
 
@@ -69,36 +61,13 @@ impl Rows {
         ensures same { OnErr result (self.new ≡ self.old) }
         ensures returned { IfErr result (λ fault. fault ≡ PutFault.NoMemory tuple) }
     {
-        match self.free.pop() {
-            Some(row) => {
-                self.tuples[row as usize] = tuple;
-                Ok(row as usize)
-            }
-            None => self.put_behind(tuple),
-        }
-    }
-
-    // Places a tuple at the row behind the others.
-    fn put_behind(&mut self, tuple: Ground) -> Result<usize, PutFault>
-        ensures free { IfOk result (λ row. tuple_in row self.old ≡ None) }
-        ensures put { IfOk result (λ row. Updates row (Some tuple) self.old self.new) }
-        ensures below { IfOk result (λ row. row < no_row) }
-        ensures same { OnErr result (self.new ≡ self.old) }
-        ensures returned { IfErr result (λ fault. fault ≡ PutFault.NoMemory tuple) }
-    {
-        let row = self.tuples.len();
-        if row >= NO_ROW as usize {
+        if self.slab.vacant_key() >= NO_ROW as usize {
             return Err(PutFault::NoMemory(tuple));
         }
-        // Room to tell of each row that it is free.
-        if let Err(_) = self.free.reserve(row + 1) {
-            return Err(PutFault::NoMemory(tuple));
+        match self.slab.insert(tuple) {
+            Ok(row) => Ok(row),
+            Err(failed) => Err(PutFault::NoMemory(failed.value)),
         }
-        if let Err(_) = self.tuples.reserve(1) {
-            return Err(PutFault::NoMemory(tuple));
-        }
-        self.tuples.push_reserved(tuple);
-        Ok(row)
     }
 
     /// Takes the tuple out of a row. No memory is taken.
@@ -107,11 +76,7 @@ impl Rows {
         ensures taken { tuple_in row self.old ≡ Some result }
         ensures gone { Updates row None self.old self.new }
     {
-        if self.tuples.len() == row + 1 {
-            return last_of(&mut self.tuples);
-        }
-        self.free.push_reserved(row as u32);
-        mem::replace(&mut self.tuples[row], unseen())
+        self.slab.remove(row)
     }
 
     /// The tuple at a row. It is a step.
@@ -122,7 +87,7 @@ impl Rows {
         ensures counted { steps.new ≡ steps.old + 1 }
     {
         steps.count();
-        &self.tuples[row]
+        &self.slab[row]
     }
 
     /// Whether the tuple at a row has this key, or the key is any. It isn't handed out.
@@ -131,7 +96,7 @@ impl Rows {
         ensures { IfSome (tuple_in row self.now)
             (λ t. IsTrue result ↔ IsOfKey (lent_key key.entry) t) }
     {
-        match self.tuples.get(row) {
+        match self.slab.get(row) {
             Some(tuple) => key.agrees(tuple),
             None => false,
         }
@@ -143,25 +108,6 @@ impl Rows {
         requires { IsSome (tuple_in row self.now) }
         ensures { IfSome (tuple_in row self.now) (λ t. result ≡ codes_of t) }
     {
-        codes_of(self.tuples[row].term())
-    }
-}
-
-// Takes the last of these tuples, where there is one.
-fn last_of(tuples: &mut Vec<Ground>) -> Ground
-    requires { 0 < length tuples.old.items }
-    ensures { tuples.old.items ≡ tuples.new.items ++ result ∷ [] }
-{
-    match tuples.pop() {
-        Some(tuple) => tuple,
-        None => unreachable!(),
-    }
-}
-
-// A tuple that nobody sees, for a row that is free.
-fn unseen() -> Ground {
-    match Ground::of(Term::Int(0)) {
-        Ok(tuple) => tuple,
-        Err(_) => unreachable!(),
+        codes_of(self.slab[row].term())
     }
 }
