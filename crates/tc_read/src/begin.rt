@@ -1,5 +1,5 @@
 //! The steps of the parser where a term is awaited.
-ghost use Rattle.std.specs.Prelude.{◌≡◌, IfOk, map};
+ghost use Rattle.std.specs.Prelude.{◌≡◌, IfOk, IsTrue, map};
 ghost use Rattle.tc_read.specs.Frames.{IsMove, opened};
 ghost use Rattle.tc_read.specs.Kept.{kept};
 ghost use Rattle.tc_read.specs.Machine.{begin, listed, minus, named, signed};
@@ -59,11 +59,8 @@ pub fn begin<'a>(alloc: Global, stack: &mut Stack, token: Token<'a>, rest: Token
             value,
             place,
         } => held(stack, integer(false, value, place), 0, rest),
-        Token::Word(name) => named(stack, Name::new(alloc, name)?, rest),
-        Token::Quoted(inside) => {
-            let name = Name::from_vec(alloc, unquoted(alloc, inside)?)?;
-            named(stack, name, rest)
-        }
+        Token::Word(name) => word(alloc, stack, name, rest),
+        Token::Quoted(inside) => quoted(alloc, stack, inside, rest),
         Token::Symbol(sign) => signed(alloc, stack, sign, rest),
         Token::OpenList => listed(alloc, stack, rest),
         Token::Open(_) => awaited(stack, Frame::Group, rest),
@@ -72,6 +69,53 @@ pub fn begin<'a>(alloc: Global, stack: &mut Stack, token: Token<'a>, rest: Token
         Token::Comma => Ok(None),
         Token::Bar => Ok(None),
     }
+}
+
+/// A step behind a name that stands as it is.
+#[inline(always)]
+fn word<'a>(alloc: Global, stack: &mut Stack, name: &[u8], rest: Tokens<'a>) -> Move<'a>
+    ensures { IfOk result
+        (λ r. IsMove (named kept (opened stack.old) name.now (map token_view rest.now))
+        stack.new r) }
+{
+    named(stack, Name::new(alloc, name)?, rest)
+}
+
+/// A step behind a quoted name. It mostly stands as it is between its quotes.
+#[inline(always)]
+fn quoted<'a>(alloc: Global, stack: &mut Stack, inside: &[u8], rest: Tokens<'a>) -> Move<'a>
+    ensures { IfOk result
+        (λ r. IsMove (named kept (opened stack.old) (unquoted inside.now)
+        (map token_view rest.now)) stack.new r) }
+{
+    if is_plain(inside) {
+        word(alloc, stack, inside, rest)
+    } else {
+        escaped(alloc, stack, inside, rest)
+    }
+}
+
+/// Whether the bytes between quotes stand for themselves.
+#[inline(always)]
+fn is_plain(inside: &[u8]) -> bool
+    ensures { IsTrue result → unquoted inside.now ≡ inside.now }
+{
+    for byte in inside {
+        if *byte == b'\'' || *byte == b'\\' {
+            return false;
+        }
+    }
+    true
+}
+
+/// A step behind a quoted name, byte by byte.
+fn escaped<'a>(alloc: Global, stack: &mut Stack, inside: &[u8], rest: Tokens<'a>) -> Move<'a>
+    ensures { IfOk result
+        (λ r. IsMove (named kept (opened stack.old) (unquoted inside.now)
+        (map token_view rest.now)) stack.new r) }
+{
+    let name = Name::from_vec(alloc, unquoted(alloc, inside)?)?;
+    named(stack, name, rest)
 }
 
 /// A step behind a name: its arguments come, or it is an atom.

@@ -1,10 +1,7 @@
 //! How many brackets are open.
-ghost use Rattle.std.specs.Prelude.{◌≤◌, ◌+◌, ℕ, max};
-ghost use Rattle.tc_term.specs.Faults.{open_behind};
+ghost use Rattle.std.specs.Prelude.{◌≤◌, ◌+◌, ◌-◌, ℕ, max};
 ghost use Rattle.tc_term.specs.Limits.{most_brackets};
-ghost use Rattle.tc_read.specs.Lexemes.{lexeme_view};
 
-use crate::lexeme::{Lexeme, Mark};
 use tc_term::MOST_BRACKETS;
 
 /// The brackets that are open, until they are too many at some place.
@@ -28,22 +25,18 @@ impl Brackets {
         }
     }
 
-    /// Counts the token.
-    pub fn add(&mut self, lexeme: Lexeme)
-        ensures { (n most : ℕ) → CountsTo self.old n most
-            → CountsTo self.new (open_behind n (lexeme_view lexeme.entry))
-            (max most (open_behind n (lexeme_view lexeme.entry))) }
+    /// One is closed.
+    #[inline(always)]
+    pub fn closed(&mut self)
+        ensures { (n most : ℕ) → CountsTo self.old n most → CountsTo self.new (n - 1)
+            (max most (n - 1)) }
     {
-        if let Lexeme::Punctuation(mark) = lexeme {
-            match mark {
-                Mark::Open | Mark::OpenList => self.opened(),
-                Mark::Close | Mark::CloseList => self.count = self.count.saturating_sub(1),
-                Mark::Comma | Mark::Bar => {}
-            }
-        }
+        self.count = self.count.saturating_sub(1);
     }
 
-    fn opened(&mut self)
+    /// One is opened.
+    #[inline(always)]
+    pub fn opened(&mut self)
         ensures { (n most : ℕ) → CountsTo self.old n most → CountsTo self.new (n + 1)
             (max most (n + 1)) }
     {

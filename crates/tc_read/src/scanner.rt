@@ -1,12 +1,11 @@
 //! What is gathered from the tokens of a text.
 ghost use Rattle.std.specs.Prelude.{◌≡◌, ◌∷◌, ◌++◌, [], IfOk, MatchOption, OnOk};
-ghost use Rattle.std.specs.Prelude.{None, Some, List};
-ghost use Rattle.tc_term.specs.Faults.{known_behind, mark_of, or_else, token_of, wide_at};
+ghost use Rattle.std.specs.Prelude.{None, Some, List, ℕ};
+ghost use Rattle.tc_term.specs.Faults.{or_else, wide_at};
 ghost use Rattle.tc_term.specs.Grammar.{Integer};
 ghost use Rattle.tc_term.specs.Layouts.{At};
-ghost use Rattle.tc_term.specs.Tokens.{Number, decimal_from};
+ghost use Rattle.tc_term.specs.Tokens.{Number, Punctuation, decimal_from};
 ghost use Rattle.tc_read.specs.Lexemes.{lexeme_view, mark_view};
-ghost use Rattle.tc_read.specs.Variables.{names_view};
 ghost use Rattle.tc_read.specs.Views.{token_view};
 
 use crate::brackets::Brackets;
@@ -29,31 +28,8 @@ pub struct Scanner<'a> {
     pub first: Option<usize>,
 }
 
-/// The token as the grammar sees it, but for an integer above 9223372036854775808.
-fn token<'a>(
-    variables: &mut Variables<'a>,
-    lexeme: Lexeme<'a>,
-    place: usize,
-    direct: bool,
-) -> Result<Option<Token<'a>>, NoMemory>
-    ensures token { IfOk result
-        (λ r. MatchOption r (wide_at place (lexeme_view lexeme.entry) ≡ Some place)
-        (λ t. (wide_at place (lexeme_view lexeme.entry) ≡ None)
-        × (token_view t ≡ token_of (names_view variables.old) direct place
-        (lexeme_view lexeme.entry)))) }
-    ensures variables { OnOk result (names_view variables.new
-        ≡ known_behind (names_view variables.old) (lexeme_view lexeme.entry)) }
-{
-    match lexeme {
-        Lexeme::Word(name) => Ok(Some(Token::Word(name))),
-        Lexeme::Variable(name) => Ok(Some(Token::Variable(variables.number(name)?))),
-        Lexeme::Number(digits) => Ok(integer(digits, place, direct)),
-        Lexeme::Quoted(inside) => Ok(Some(Token::Quoted(inside))),
-        Lexeme::Symbol(sign) => Ok(Some(Token::Symbol(sign))),
-        Lexeme::Punctuation(mark) => Ok(Some(punctuation(mark, direct))),
-    }
-}
-
+/// The integer as the grammar sees it, if it is at most 9223372036854775808.
+#[inline(always)]
 fn integer(digits: &[u8], place: usize, direct: bool) -> Option<Token<'static>>
     ensures { MatchOption result (wide_at place (Number (decimal_from 0 digits.now)) ≡ Some place)
         (λ t. (wide_at place (Number (decimal_from 0 digits.now)) ≡ None)
@@ -69,19 +45,6 @@ fn integer(digits: &[u8], place: usize, direct: bool) -> Option<Token<'static>>
     }
 }
 
-fn punctuation(mark: Mark, direct: bool) -> Token<'static>
-    ensures { token_view result ≡ mark_of direct (mark_view mark) }
-{
-    match mark {
-        Mark::Open => Token::Open(direct),
-        Mark::Close => Token::Close,
-        Mark::OpenList => Token::OpenList,
-        Mark::CloseList => Token::CloseList,
-        Mark::Comma => Token::Comma,
-        Mark::Bar => Token::Bar,
-    }
-}
-
 /// The place that was found before, or this one.
 fn earlier(found: Option<usize>, place: usize) -> Option<usize>
     ensures { result ≡ or_else found (Some place) }
@@ -93,7 +56,7 @@ fn earlier(found: Option<usize>, place: usize) -> Option<usize>
 }
 
 impl<'a> Scanner<'a> {
-    ghost use Rattle.tc_read.specs.Scanner.{Gathers};
+    ghost use Rattle.tc_read.specs.Scanner.{Gathers, IsPushed, Takes};
 
     /// Nothing has been gathered.
     pub fn new(alloc: Global) -> Result<Scanner<'a>, NoMemory>
@@ -117,16 +80,70 @@ impl<'a> Scanner<'a> {
             record { lexeme = lexeme_view lexeme.entry; place = place; glued = direct } ∷ [])) }
     {
         self.first = earlier(self.first, place);
-        self.brackets.add(lexeme);
-        match token(&mut self.variables, lexeme, place, direct)? {
-            Some(token) => {
-                self.tokens.push(token)?;
-                Ok(())
+        self.take(lexeme, place, direct)?;
+        Ok(())
+    }
+
+    // All that the next token changes but for the place of the first. Each kind of token is written
+    // in its own place, since the bytes that tell them apart have been looked at there.
+    #[inline(always)]
+    fn take(&mut self, lexeme: Lexeme<'a>, place: usize, direct: bool) -> Result<(), NoMemory>
+        ensures { OnOk result (Takes self.old self.new
+            (record { lexeme = lexeme_view lexeme.entry; place = place; glued = direct })) }
+    {
+        match lexeme {
+            Lexeme::Word(name) => self.push(Token::Word(name)),
+            Lexeme::Variable(name) => {
+                let number = self.variables.number(name)?;
+                self.push(Token::Variable(number))
             }
-            None => {
-                self.wide = earlier(self.wide, place);
-                Ok(())
-            }
+            Lexeme::Number(digits) => match integer(digits, place, direct) {
+                Some(token) => self.push(token),
+                None => {
+                    self.wide = earlier(self.wide, place);
+                    Ok(())
+                }
+            },
+            Lexeme::Quoted(inside) => self.push(Token::Quoted(inside)),
+            Lexeme::Symbol(sign) => self.push(Token::Symbol(sign)),
+            Lexeme::Punctuation(mark) => self.mark(mark, direct),
         }
+    }
+
+    // The same of punctuation.
+    #[inline(always)]
+    fn mark(&mut self, mark: Mark, direct: bool) -> Result<(), NoMemory>
+        ensures { OnOk result ((place : ℕ) → Takes self.old self.new
+            (record { lexeme = Punctuation (mark_view mark); place = place; glued = direct })) }
+    {
+        match mark {
+            Mark::Open => {
+                self.brackets.opened();
+                self.push(Token::Open(direct))
+            }
+            Mark::Close => {
+                self.brackets.closed();
+                self.push(Token::Close)
+            }
+            Mark::OpenList => {
+                self.brackets.opened();
+                self.push(Token::OpenList)
+            }
+            Mark::CloseList => {
+                self.brackets.closed();
+                self.push(Token::CloseList)
+            }
+            Mark::Comma => self.push(Token::Comma),
+            Mark::Bar => self.push(Token::Bar),
+        }
+    }
+
+    // The token behind those so far.
+    #[inline(always)]
+    fn push(&mut self, token: Token<'a>) -> Result<(), NoMemory>
+        ensures { OnOk result (IsPushed self.old self.new token.entry) }
+    {
+        self.tokens.push(token)?;
+        Ok(())
     }
 }
