@@ -13,7 +13,7 @@ ghost use Rattle.tucson.specs.Texts.{whole_text};
 ghost use Rattle.tucson.specs.declared.limits.TheConstants.{MOST_WORKERS};
 
 use crate::command::Command;
-use crate::reading::read_source;
+use crate::reading::read_source_by;
 use crate::refusing::stopped;
 use crate::status::Status;
 use crate::writing::write_run;
@@ -52,7 +52,7 @@ pub fn run_main<R: Threads + Wait + Sync, S: Source, K: Sink, G: Gate + Sync>(
       door_after = door;
     }) result }
 {
-    match read_source(alloc, source) {
+    match read_source_by(rt, alloc, workers, source) {
         Ok(config) => run(rt, alloc, workers, config, sink, gate),
         Err(stop) => stopped(alloc, stop, sink),
     }
