@@ -9,6 +9,8 @@ mod asking;
 #[cfg(test)]
 mod bells;
 #[cfg(test)]
+mod configurations;
+#[cfg(test)]
 mod connections;
 #[cfg(test)]
 mod driving;
