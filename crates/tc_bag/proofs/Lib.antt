@@ -2,6 +2,8 @@ pub mod Additions
 pub mod Agreement
 pub mod Ages
 pub mod PairOrder
+pub mod Bits
+pub mod Masks
 pub mod ByAge
 pub mod Gaps
 pub mod Kept

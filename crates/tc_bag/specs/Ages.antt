@@ -7,10 +7,11 @@ use Rattle.tc_bag.specs.declared.codes.Code.TheVariants.{OfKey, OfFirst}
 use Rattle.tc_bag.specs.declared.codes.Codes.{Codes}
 use Rattle.tc_bag.specs.Codes.{codes_of}
 use Rattle.tc_bag.specs.Words.{HasAge}
+use Rattle.tc_bag.specs.Blocks.{HasAgeByBlock}
 
 -- the index has the age by the code
 abbrev pub Has : Index → Code → ℕ → Type 0
-Has index (OfKey code) age = HasAge index.keys code age
+Has index (OfKey code) age = HasAgeByBlock index.keys code age
 Has index (OfFirst code) age = HasAge index.firsts code age
 
 -- the index has the age by these codes

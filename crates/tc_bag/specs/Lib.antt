@@ -4,6 +4,7 @@ pub mod Codes
 pub mod Stock
 pub mod Pairs
 pub mod Words
+pub mod Blocks
 pub mod Ages
 pub mod Rows
 pub mod Looks

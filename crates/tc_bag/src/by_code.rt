@@ -83,7 +83,7 @@ impl ByCode {
 
 // The word of a code and an age.
 #[inline(always)]
-fn word(code: u64, age: u64) -> u64
+pub(crate) fn word(code: u64, age: u64) -> u64
     requires { age < FAR }
     ensures { result ≡ word code age }
 {
@@ -92,7 +92,7 @@ fn word(code: u64, age: u64) -> u64
 
 // A code's halves in one.
 #[inline(always)]
-fn short_code(code: u64) -> u64
+pub(crate) fn short_code(code: u64) -> u64
     ensures short { result ≡ short_code code }
     ensures small { result < FAR }
 {

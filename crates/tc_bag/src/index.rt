@@ -3,6 +3,7 @@ ghost use Rattle.std.specs.Prelude.{ℕ, ◌≢◌, ◌<◌, ◌≤◌, IsTrue, 
 ghost use Rattle.tc_bag.specs.declared.codes.Code.{Code};
 ghost use Rattle.tc_bag.specs.Ages.{Has, HasCodes};
 
+use crate::by_block::ByBlock;
 use crate::by_code::ByCode;
 use crate::codes::{Code, Codes, codes_of};
 use std::alloc::Global;
@@ -12,7 +13,7 @@ use tc_term::Ground;
 /// The ages of rows by the codes of their keys, and by those of their keys and first arguments.
 #[derive(Drop)]
 pub(crate) struct Index {
-    keys: ByCode,
+    keys: ByBlock,
     firsts: ByCode,
 }
 
@@ -20,7 +21,7 @@ impl Index {
     /// No age.
     pub(crate) fn new(alloc: Global) -> Index {
         Index {
-            keys: ByCode::new(alloc),
+            keys: ByBlock::new(alloc),
             firsts: ByCode::new(alloc),
         }
     }

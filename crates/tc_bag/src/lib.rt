@@ -13,6 +13,7 @@
 #![tactic(auto)]
 
 mod bag;
+mod by_block;
 mod by_code;
 mod codes;
 mod held;
