@@ -126,8 +126,8 @@ pub none_between : (masks : ℕ → ℕ) (short block found mask a : ℕ)
 none_between masks short block found mask a at fits of before behind below =
     let few : trailing_zeros w16 mask ≤ 16 = zeros_within mask in
     elim (cases_lt (a / 16) (found % 4294967296)) [
-      | inl earlier ↦ ap (λ m. bit_at m (a % 16)) (before (short * 4294967296 + a / 16) (omega (arith, behind)) (omega (arith, of, earlier)))
-          ∙ bit_at-zero (a % 16)
+      | inl earlier ↦ ap (λ m. bit_at m (a % 16))
+          (before (short * 4294967296 + a / 16) (omega (arith, behind)) (omega (arith, of, earlier))) ∙ bit_at-zero (a % 16)
       | inr later ↦
           let own : a / 16 ≡ found % 4294967296 = omega (arith, later, below, few) in
           let same : short * 4294967296 + a / 16 ≡ found = omega (arith, own, of) in

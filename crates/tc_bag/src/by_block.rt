@@ -112,7 +112,8 @@ impl ByBlock {
 
     /// Removes an age, where it is there.
     pub(crate) fn leave(&mut self, code: u64, age: u64)
-        ensures kept { (c a : ℕ) → a ≢ age → HasAgeByBlock self.old c a → HasAgeByBlock self.new c a }
+        ensures kept { (c a : ℕ) → a ≢ age
+            → HasAgeByBlock self.old c a → HasAgeByBlock self.new c a }
     {
         if age / BLOCK >= FAR {
             self.far.leave(code, age);
