@@ -18,9 +18,9 @@ pub(crate) const BLOCK: u64 = 16;
 pub(crate) struct ByBlock {
     masks: BTreeMap<u64, u16>,
     far: Pairs,
-    // The word of the block that lost its last age last. It stays until another one does so, since
-    // the next age may be of it.
-    empty: u64,
+    // The words of the three blocks that lost their last age last, the latest first. They stay until
+    // others do so, since the next age may be of one of them.
+    emptied: [u64; 3],
 }
 
 impl ByBlock {
@@ -29,7 +29,7 @@ impl ByBlock {
         ByBlock {
             masks: BTreeMap::new(alloc),
             far: Pairs::new(alloc),
-            empty: 0,
+            emptied: [0; 3],
         }
     }
 
@@ -86,11 +86,13 @@ impl ByBlock {
     {
         let after = word(code, block).checked_add(1)?;
         let (found, mask) = self.masks.range(after..).next()?;
-        if *found / FAR == short_code(code) {
-            Some(*found % FAR * BLOCK + u64::from(mask.trailing_zeros()))
-        } else {
-            None
+        if *found / FAR != short_code(code) {
+            return None;
         }
+        if *mask == 0 {
+            return self.next_behind(code, *found % FAR);
+        }
+        Some(*found % FAR * BLOCK + u64::from(mask.trailing_zeros()))
     }
 
     /// Enters an age.
@@ -124,20 +126,25 @@ impl ByBlock {
             return;
         };
         *mask &= !bit(age);
-        if *mask == 0 && self.empty != word {
-            self.drop_empty();
-            self.empty = word;
+        if *mask == 0 {
+            self.note_emptied(word);
         }
     }
 
-    // Removes the block that lost its last age last, where it is empty still.
-    fn drop_empty(&mut self)
+    // Notes the word of a block that has lost its last age, unless it is noted. The block that was
+    // noted longest ago goes, where it is empty still.
+    fn note_emptied(&mut self, word: u64)
         ensures far { self.new.far ≡ self.old.far }
         ensures kept { (w : ℕ) → mask_at self.new w ≡ mask_at self.old w }
     {
-        if self.mask(self.empty) == 0 {
-            self.masks.remove(&self.empty);
+        let [first, second, third] = self.emptied;
+        if first == word || second == word || third == word {
+            return;
         }
+        if self.mask(third) == 0 {
+            self.masks.remove(&third);
+        }
+        self.emptied = [word, first, second];
     }
 }
 
