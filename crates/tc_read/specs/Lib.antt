@@ -5,6 +5,7 @@ pub mod Items
 pub mod Frames
 pub mod Delimiters
 pub mod Parsed
+pub mod Settled
 pub mod Lexing
 pub mod Lexemes
 pub mod Parts

@@ -21,11 +21,7 @@ use tc_term::Name;
 /// The operator at the front, and what follows it, where a term of this priority may stand left of
 /// it in the innermost open place.
 #[inline(always)]
-fn fitting<'a>(
-    stack: &Stack,
-    priority: u16,
-    tokens: Tokens<'a>,
-) -> Option<(Operator, Tokens<'a>)>
+fn fitting<'a>(stack: &Stack, priority: u16, tokens: Tokens<'a>) -> Option<(Operator, Tokens<'a>)>
     ensures { MatchOption result
         (fitting (limit (opened_below stack.now)) priority (map token_view tokens.now) ≡ None)
         (λ r. (fitting (limit (opened_below stack.now)) priority (map token_view tokens.now)
@@ -80,12 +76,7 @@ pub fn go_on<'a>(alloc: Global, stack: &mut Stack, priority: u16, tokens: Tokens
 
 /// The same, by the operator that follows, or by the end of the innermost open place.
 #[inline(always)]
-fn go_on_from<'a>(
-    alloc: Global,
-    stack: &mut Stack,
-    priority: u16,
-    tokens: Tokens<'a>,
-) -> Move<'a>
+fn go_on_from<'a>(alloc: Global, stack: &mut Stack, priority: u16, tokens: Tokens<'a>) -> Move<'a>
     ensures { IfOk result
         (λ r. IsMove (go_on kept (opened_below stack.old) (top (items_of stack.old)) priority
         (map token_view tokens.now)) stack.new r) }

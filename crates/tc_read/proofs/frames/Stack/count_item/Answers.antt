@@ -1,4 +1,4 @@
-use Rattle.std.proofs.Common.{◌≡◌, ◌-◌, ◌∷◌, suc, length, vec_len, Some, sym, ◌∙◌, ap, arith}
+use Rattle.std.proofs.Common.{◌≡◌, ◌-◌, suc, length, vec_len, Some, sym, ◌∙◌, ap, arith}
 use Rattle.tc_read.specs.Frames.{counted_more}
 use Rattle.tc_read.proofs.Framed.{reverse-set_last}
 use Rattle.tc_read.proofs.frames.Stack.count_item.Goals as goal
