@@ -1,9 +1,9 @@
 //! Texts of configurations that several workers read: the answers are those of one.
-use tc_config::{Config, ConfigCause, ConfigFault, read_config, read_config_by};
 use std::alloc::Global;
 use std::process::Abort;
 use std::test::Fail;
 use std::thread::Threads;
+use tc_config::{Config, ConfigCause, ConfigFault, read_config, read_config_by};
 use tc_lists::NoMemory;
 
 /// Four clauses, with ends of clauses and of lines where no clause ends.
