@@ -36,6 +36,7 @@ pub(crate) fn read_entry<'a>(
 }
 
 // The line of a call, behind its word.
+#[inline(always)]
 fn read_called<'a>(
     alloc: Global,
     version: Version,
@@ -138,6 +139,7 @@ fn read_looked<'a>(
 }
 
 // The agent of a call, and its number.
+#[inline(always)]
 fn call<'a>(alloc: Global, agents: &Names, bytes: &'a [u8]) -> Read<'a, CallId>
     ensures { IfOk result (λ r. seen r ≡ call_at agents.now bytes.now) }
 {
@@ -154,6 +156,7 @@ fn call<'a>(alloc: Global, agents: &Names, bytes: &'a [u8]) -> Read<'a, CallId>
 }
 
 // The agent of the name at the front.
+#[inline(always)]
 fn agent<'a>(alloc: Global, agents: &Names, bytes: &'a [u8]) -> Read<'a, u32>
     ensures { IfOk result (λ r. seen r ≡ agent_at agents.now bytes.now) }
 {

@@ -17,6 +17,7 @@ pub enum WrittenOp {
 }
 
 // The operation at the front.
+#[inline(always)]
 pub(crate) fn read_op<'a>(alloc: Global, version: Version, bytes: &'a [u8]) -> Read<'a, WrittenOp>
     ensures { IfOk result (λ r. seen r ≡ op_at version bytes.now) }
 {

@@ -12,6 +12,7 @@ use tc_lists::behind;
 use tc_model::{Effect, Outcome, Phase, Reply};
 
 // The outcome at the front.
+#[inline(always)]
 pub(crate) fn read_outcome<'a>(
     alloc: Global,
     version: Version,
@@ -90,6 +91,7 @@ pub(crate) fn read_told<'a>(
 }
 
 // The reply at the front.
+#[inline(always)]
 pub(crate) fn read_reply<'a>(alloc: Global, version: Version, bytes: &'a [u8]) -> Read<'a, Reply>
     ensures { IfOk result (λ r. seen r ≡ reply_at version bytes.now) }
 {

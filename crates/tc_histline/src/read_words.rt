@@ -156,7 +156,19 @@ pub(crate) fn quote_behind<'a>(alloc: Global, word: &[u8], bytes: &'a [u8]) -> R
 }
 
 // The name of an atom at the front, of any length.
+#[inline(always)]
 pub(crate) fn atom<'a>(alloc: Global, bytes: &'a [u8]) -> Read<'a, Name>
+    ensures { IfOk result (λ r. seen r ≡ atom_at bytes.now) }
+{
+    match bytes {
+        [first, ..] if first.is_ascii_lowercase() => name_at(alloc, bytes, bytes.len()),
+        _ => atom_apart(alloc, bytes),
+    }
+}
+
+// The same of a name that may be in brackets or in quotes.
+#[inline(never)]
+fn atom_apart<'a>(alloc: Global, bytes: &'a [u8]) -> Read<'a, Name>
     ensures { IfOk result (λ r. seen r ≡ atom_at bytes.now) }
 {
     if let Some(rest) = behind(bytes, b"[]") {

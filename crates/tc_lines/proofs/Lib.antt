@@ -1,4 +1,5 @@
 pub mod Asking
+pub mod AskedLines
 pub mod Cuts
 pub mod Filling
 pub mod Unique

@@ -29,6 +29,14 @@ IsWord t = (t ≡ request_term Poll) ⊎ ((t ≡ request_term Wait) ⊎ (t ≡ r
 abbrev pub AsksNothing : Tree → Type 0
 AsksNothing t = (asked : LineAsk) → t ≡ request_term asked → ⊥
 
+-- what a line asks that is read as this term
+abbrev pub IsRequestAs : Tree → Result LineAsk BadLine → Type 0
+IsRequestAs t (Ok asked) = t ≡ request_term asked
+IsRequestAs t (Err bad.Syntax) = ⊥
+IsRequestAs t (Err bad.Size) = ⊥
+IsRequestAs t (Err bad.Shape) = AsksNothing t
+IsRequestAs t (Err bad.NoMemory) = Unit {0}
+
 -- what the line asks, or why it asks nothing; memory may run out at any line
 abbrev pub IsRequest : List ℕ → Result LineAsk BadLine → Type 0
 IsRequest line (Ok asked) = LineReadsAs line (Found (request_term asked) (length line))

@@ -14,6 +14,7 @@
 //! ```
 #![tactic(auto)]
 
+mod asked;
 mod breaks;
 mod laws;
 mod limits;

@@ -3,6 +3,7 @@ ghost use Rattle.std.specs.Prelude.{◌≡◌, IfNone, IfOk, IfSome, Err};
 ghost use Rattle.tc_term.specs.TreeView.{tree_of};
 ghost use Rattle.tc_lines.specs.Requests.{AsksNothing, IsRequest, IsWord, request_term};
 
+use crate::asked::read_asked;
 use std::alloc::Global;
 use tc_lists::NoMemory;
 use tc_model::{Ask, line_of};
@@ -43,8 +44,18 @@ pub enum BadLine {
 /// What the line asks, without the LF behind it and a CR before that.
 ///
 /// Takes time linear in the length of the line.
-#[tactic(auto, using(crate::proofs::Asking::beyond_the_limits))]
 pub fn read_line_request(alloc: Global, line: &[u8]) -> Result<LineAsk, BadLine>
+    ensures { IsRequest line.now result }
+{
+    match read_asked(alloc, line) {
+        Some(asked) => asked,
+        None => read_any_request(alloc, line),
+    }
+}
+
+// What the line asks, however it is written.
+#[tactic(auto, using(crate::proofs::Asking::beyond_the_limits))]
+fn read_any_request(alloc: Global, line: &[u8]) -> Result<LineAsk, BadLine>
     ensures { IsRequest line.now result }
 {
     match read_term(alloc, line) {

@@ -33,6 +33,8 @@ pub mod AtFront
 pub mod Spelling
 pub mod Printed
 pub mod ReadBack
+pub mod Asked
+pub mod PlainText
 pub mod OneEnd
 pub mod Onward
 pub mod AllRead

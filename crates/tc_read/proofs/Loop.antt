@@ -1,7 +1,8 @@
-use Rattle.std.proofs.Common.{◌≡◌, ◌<◌, List, [], subst, ◌↔◌}
+use Rattle.std.proofs.Common.{◌≡◌, ◌<◌, ◌≤◌, List, [], subst, ◌↔◌, arith}
 use Rattle.tc_term.specs.Grammar.{Token, IsTerm}
 use Rattle.tc_read.specs.Kept.{Kept, kept}
 use Rattle.tc_read.specs.Machine.{Frame, Standing, Awaits, Holds, Ends, Refused, Goes_to, step}
+use Rattle.tc_read.specs.Settled.{Steps, none, further}
 use Rattle.tc_read.proofs.Steps.{Leads, Sound, IsPlaced, left_over, Follows, Moves, starts, goes}
 use Rattle.tc_read.proofs.Unique.{leads_of_term}
 
@@ -42,3 +43,14 @@ pub reads_refused : (all : List Token) (s : List (Frame Kept)) (now : Standing K
 reads_refused all s Awaits ts r g e k d = let none = subst (Moves kept s Awaits ts) e (starts kept s r.sound ts) in none k ((r.same k).0 d)
 reads_refused all s (Holds a pa) ts r g e k d = let none = subst (Moves kept s (Holds a pa) ts) e (goes kept s r.sound a pa ts r.placed) in none k ((r.same k).0 d)
 reads_refused all s (Ends a) ts r g e k d = g
+
+-- the same behind several steps
+pub reads_on : (all : List Token) {s : List (Frame Kept)} {now : Standing Kept} {ts : List Token} {s' : List (Frame Kept)} {now' : Standing Kept} {ts' : List Token}
+    → Steps s now ts s' now' ts' → Reads all s now ts → Reads all s' now' ts'
+reads_on all none r = r
+reads_on all (further p e) r = reads_next all _ _ _ _ _ _ (reads_on all p r) e
+
+pub steps_shorter : (all : List Token) {s : List (Frame Kept)} {now : Standing Kept} {ts : List Token} {s' : List (Frame Kept)} {now' : Standing Kept} {ts' : List Token}
+    → Steps s now ts s' now' ts' → Reads all s now ts → left_over kept s' now' ts' ≤ left_over kept s now ts
+steps_shorter all none r = omega arith
+steps_shorter all (further p e) r = omega (arith, steps_shorter all p r, step_shorter all _ _ _ _ _ _ (reads_on all p r) e)

@@ -295,3 +295,34 @@ module _ {A : Type 0} (m : Meaning A) where
   pub goes : (s : List (Frame A)) → Sound s → (a : A) (pa : ℕ) (ts : List Token) → pa ≤ limit s → Moves s (Holds a pa) ts (go_on m s a pa ts)
   goes s h a pa [] placed = closes_at s h a pa [] placed (λ token after op e is left fits. cc)
   goes s h a pa (token ∷ ts) placed = by_operator s h a pa token ts placed (infix_of token) refl
+
+  -- a step from a term that has been read leaves less, whatever stands open
+  abbrev pub IsShorter : ℕ → MachineStep A → Type 0
+  IsShorter n Refused = Unit {0}
+  IsShorter n (Goes_to s now ts) = left_over s now ts < n
+
+  close_shorter : (s : List (Frame A)) (a : A) (ts : List Token) → IsShorter (2 * length ts + length s + 1) (close m s a ts)
+  close_shorter [] a [] = omega arith
+  close_shorter [] a (t ∷ ts) = tt
+  close_shorter (Between op left ∷ s) a ts = omega arith
+  close_shorter (Negated ∷ s) a ts = omega arith
+  close_shorter (Group ∷ s) a (Close ∷ ts) = omega arith
+  close_shorter (Group ∷ s) a ts = tt
+  close_shorter (Args name done ∷ s) a (Close ∷ ts) = omega arith
+  close_shorter (Args name done ∷ s) a (Comma ∷ ts) = omega arith
+  close_shorter (Args name done ∷ s) a ts = tt
+  close_shorter (Elements done ∷ s) a (CloseList ∷ ts) = omega arith
+  close_shorter (Elements done ∷ s) a (Bar ∷ ts) = omega arith
+  close_shorter (Elements done ∷ s) a (Comma ∷ ts) = omega arith
+  close_shorter (Elements done ∷ s) a ts = tt
+  close_shorter (Tail done ∷ s) a (CloseList ∷ ts) = omega arith
+  close_shorter (Tail done ∷ s) a ts = tt
+
+  by_shorter : (o : Option Operator) (s : List (Frame A)) (a : A) (t : Token) (ts : List Token)
+      → IsShorter (2 * length (t ∷ ts) + length s + 1) (go_on_by m o s a (t ∷ ts))
+  by_shorter (Some op) s a t ts = omega arith
+  by_shorter None s a t ts = close_shorter s a (t ∷ ts)
+
+  pub go_on_shorter : (s : List (Frame A)) (a : A) (pa : ℕ) (ts : List Token) → IsShorter (left_over s (Holds a pa) ts) (go_on m s a pa ts)
+  go_on_shorter s a pa [] = close_shorter s a []
+  go_on_shorter s a pa (t ∷ ts) = by_shorter (fitting_operator (limit s) pa (infix_of t)) s a t ts

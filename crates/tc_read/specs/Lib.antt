@@ -5,6 +5,7 @@ pub mod Items
 pub mod Frames
 pub mod Delimiters
 pub mod Parsed
+pub mod Settled
 pub mod Lexing
 pub mod Lexemes
 pub mod Parts
@@ -15,6 +16,7 @@ pub mod Scan
 pub mod ReadAnswers
 pub mod Clauses
 pub mod Written
+pub mod Asked
 pub mod Budget
 pub mod Front
 pub mod Seen

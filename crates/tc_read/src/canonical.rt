@@ -19,7 +19,7 @@ ghost use Rattle.tc_read.specs.declared.rest.Missing.TheVariants.{NoTerm};
 use crate::budget::Budget;
 use crate::layout::next_byte;
 use crate::leaves::{Read, atom, nil, number, variable};
-use crate::printed_names::name_at;
+use crate::printed_names::{name_at, name_of, plain_word};
 use crate::read::rest_from;
 use crate::rest::{Missing, Rest};
 use std::alloc::Global;
@@ -31,10 +31,10 @@ type ReadArgs = Result<Args, Missing>;
 
 /// Whether a compound of this name and these arguments is a list cell.
 #[inline(always)]
-fn is_cell(name: &Name, args: &Args) -> bool
+fn is_cell(name: &[u8], args: &Args) -> bool
     ensures { result ≡ is_cell name.now args.now }
 {
-    name.bytes() == b".".as_slice() && args.items().len() == 2
+    name == b".".as_slice() && args.items().len() == 2
 }
 
 /// Whether the term is no list.
@@ -46,27 +46,29 @@ fn is_barred(term: &Term) -> bool
         Term::Var(_) => true,
         Term::Int(_) => true,
         Term::Atom(name) => name.bytes() != b"[]".as_slice(),
-        Term::Comp(name, args) => !is_cell(name, args),
+        Term::Comp(name, args) => !is_cell(name.bytes(), args),
     }
 }
 
 /// A compound from its arguments on.
 #[cycle(canonical)]
-fn called<'a>(alloc: Global, depth: usize, name: Name, rest: &mut Rest<'a>) -> Read
-    ensures term { IfOk result (λ t. called (reads depth) name rest.old.budget rest.old.bytes.now
+#[inline(always)]
+fn called<'a>(alloc: Global, depth: usize, name: &[u8], rest: &mut Rest<'a>) -> Read
+    ensures term { IfOk result (λ t. called (reads depth) name.now rest.old.budget rest.old.bytes.now
         ≡ read_to (tree_of t) rest.new) }
-    ensures none { IfErr result (λ e. e ≡ NoTerm → called (reads depth) name rest.old.budget rest.old.bytes.now ≡ None) }
+    ensures none { IfErr result (λ e. e ≡ NoTerm → called (reads depth) name.now rest.old.budget rest.old.bytes.now ≡ None) }
 {
-    rest.pay(name.bytes().len())?;
+    rest.pay(name.len())?;
     let args = arguments(alloc, depth, rest)?;
-    if is_cell(&name, &args) {
+    if is_cell(name, &args) {
         return Err(Missing::NoTerm);
     }
-    Ok(Term::Comp(name, args))
+    Ok(Term::Comp(name_of(alloc, name)?, args))
 }
 
 /// Arguments, up to and with the closing bracket. No vector is made for one or two.
 #[cycle(canonical)]
+#[inline(always)]
 fn arguments<'a>(alloc: Global, depth: usize, rest: &mut Rest<'a>) -> ReadArgs
     ensures term { IfOk result (λ t. arguments (reads depth Alone) rest.old.budget.room.nodes rest.old.budget rest.old.bytes.now
         ≡ read_to t rest.new) }
@@ -105,6 +107,7 @@ fn pair(alloc: Global, first: Term, second: Term) -> Result<Vec<Term>, NoMemory>
 
 /// Arguments from the second on, at most so many.
 #[cycle(canonical)]
+#[inline(always)]
 fn from_second<'a>(
     alloc: Global,
     depth: usize,
@@ -156,17 +159,18 @@ fn from_third<'a>(
 
 /// A term behind a name: a compound where a bracket follows, else an atom.
 #[cycle(canonical)]
-fn named<'a>(alloc: Global, depth: usize, name: Name, rest: &mut Rest<'a>) -> Read
-    ensures term { IfOk result (λ t. named (reads depth) rest.old.budget name rest.old.bytes.now
+#[inline(always)]
+fn named<'a>(alloc: Global, depth: usize, name: &[u8], rest: &mut Rest<'a>) -> Read
+    ensures term { IfOk result (λ t. named (reads depth) rest.old.budget name.now rest.old.bytes.now
         ≡ read_to (tree_of t) rest.new) }
-    ensures none { IfErr result (λ e. e ≡ NoTerm → named (reads depth) rest.old.budget name rest.old.bytes.now ≡ None) }
+    ensures none { IfErr result (λ e. e ≡ NoTerm → named (reads depth) rest.old.budget name.now rest.old.bytes.now ≡ None) }
 {
     match next_byte(rest.bytes) {
         Some((b'(', after)) => {
             rest.bytes = after;
             called(alloc, depth, name, rest)
         }
-        _ => atom(name, rest),
+        _ => atom(alloc, name, rest),
     }
 }
 
@@ -210,6 +214,24 @@ fn list<'a>(alloc: Global, depth: usize, rest: &mut Rest<'a>) -> Read
     }
 }
 
+/// A term by itself that begins with a name in quotes; what stands behind the quote is given.
+#[cycle(canonical)]
+#[inline(never)]
+fn in_quotes<'a>(alloc: Global, depth: usize, inside: &[u8], rest: &mut Rest<'a>) -> Read
+    requires { rest.old.bytes.now ≡ 39 ∷ inside.now }
+    ensures term { IfOk result (λ t. node (reads depth) rest.old.budget rest.old.bytes.now
+        ≡ read_to (tree_of t) rest.new) }
+    ensures none { IfErr result (λ e. e ≡ NoTerm → node (reads depth) rest.old.budget rest.old.bytes.now ≡ None) }
+{
+    match name_at(alloc, rest.bytes, rest.budget.room.name_bytes)? {
+        None => Err(Missing::NoTerm),
+        Some((name, after)) => {
+            rest.bytes = after;
+            named(alloc, depth, name.bytes(), rest)
+        }
+    }
+}
+
 /// A term by itself, whose arguments are of at most this depth.
 #[cycle(canonical)]
 fn node<'a>(alloc: Global, depth: usize, rest: &mut Rest<'a>) -> Read
@@ -227,13 +249,16 @@ fn node<'a>(alloc: Global, depth: usize, rest: &mut Rest<'a>) -> Read
             rest.bytes = after;
             list(alloc, depth, rest)
         }
-        Some(_) => match name_at(alloc, rest.bytes, rest.budget.room.name_bytes)? {
-            None => number(rest),
-            Some((name, after)) => {
-                rest.bytes = after;
-                named(alloc, depth, name, rest)
+        Some((b'\'', inside)) => in_quotes(alloc, depth, inside, rest),
+        Some((first, after)) => {
+            let limit = rest.budget.room.name_bytes;
+            if !first.is_ascii_lowercase() || limit == 0 {
+                return number(rest);
             }
-        },
+            let (word, behind) = plain_word(rest.bytes, first, after, limit);
+            rest.bytes = behind;
+            named(alloc, depth, word, rest)
+        }
     }
 }
 
@@ -268,6 +293,7 @@ fn tail<'a>(alloc: Global, depth: usize, rest: &mut Rest<'a>) -> Read
 
 /// A term of at most this depth by itself.
 #[cycle(canonical)]
+#[inline(always)]
 fn alone<'a>(alloc: Global, depth: usize, rest: &mut Rest<'a>) -> Read
     ensures term { IfOk result (λ t. reads depth Alone rest.old.budget rest.old.bytes.now
         ≡ read_to (tree_of t) rest.new) }
@@ -302,7 +328,7 @@ fn head<'a>(alloc: Global, bytes: &'a [u8]) -> Result<Option<(Term, Rest<'a>)>, 
         return Ok(None);
     };
     let mut rest = Rest { budget, bytes };
-    match atom(name, &mut rest) {
+    match atom(alloc, name.bytes(), &mut rest) {
         Ok(term) => Ok(Some((term, rest))),
         Err(Missing::NoTerm) => Ok(None),
         Err(Missing::NoMemory) => Err(NoMemory),

@@ -3,10 +3,11 @@ ghost use Rattle.std.specs.Prelude.{◌≡◌, ◌+◌, ◌++◌, Bool, IsTrue, 
 ghost use Rattle.std.specs.Prelude.{drop, false};
 ghost use Rattle.std.specs.Prelude.{length, true, ℕ};
 ghost use Rattle.tc_term.specs.Layouts.{IsBehindEnd};
-ghost use Rattle.tc_term.specs.Text.{canonical};
-ghost use Rattle.tc_term.specs.Tree.{Tree};
+ghost use Rattle.tc_term.specs.Text.{canonical, is_name};
+ghost use Rattle.tc_term.specs.Tree.{Fits, Tree};
 ghost use Rattle.tc_term.specs.Variables.{IsPattern};
 ghost use Rattle.tc_term.specs.Faults.{Answer, Found, ReadsAs};
+ghost use Rattle.tc_read.specs.Asked.{asked_of, asked_text};
 ghost use Rattle.tc_read.specs.Canonical.{EndsTerm, IsCanonicalAt};
 ghost use Rattle.tc_read.specs.Canonical.{IsLongestCanonicalAt};
 ghost use Rattle.tc_term.specs.NameBytes.{has_read_names};
@@ -61,4 +62,13 @@ pub fn printed_clause_is_read_back()
         → ReadsAs true (length (before ++ canonical t ++ codes "." ++ after))
         (drop (length before) (before ++ canonical t ++ codes "." ++ after))
         (Found t (length before + length (canonical t) + 1)) }
+{}
+
+/// A plain name, a question mark between blanks, and such a text are read back as what is asked of
+/// the name.
+pub fn printed_request_is_read_back()
+    ensures { (name : List ℕ) (t : Tree) → IsTrue (is_name name) → IsReadable t
+        → Fits (asked_of name t)
+        → ReadsAs false (length (asked_text name t)) (asked_text name t)
+        (Found (asked_of name t) (length (asked_text name t))) }
 {}

@@ -6,6 +6,7 @@ ghost use Rattle.tc_read.specs.Front.{atom, nil, number, variable};
 ghost use Rattle.tc_read.specs.Seen.{read_to};
 ghost use Rattle.tc_read.specs.declared.rest.Missing.TheVariants.{NoTerm};
 
+use crate::printed_names::name_of;
 use crate::rest::{Missing, Rest};
 use std::alloc::Global;
 use tc_lists::{read_integer, read_number};
@@ -63,15 +64,15 @@ pub fn nil<'a>(alloc: Global, rest: &mut Rest<'a>) -> Read
 
 /// The atom of this name, unless it is the empty list.
 #[inline(always)]
-pub fn atom<'a>(name: Name, rest: &mut Rest<'a>) -> Read
+pub fn atom<'a>(alloc: Global, name: &[u8], rest: &mut Rest<'a>) -> Read
     ensures term { IfOk result
-        (λ t. atom name rest.old.budget rest.old.bytes.now ≡ read_to (tree_of t) rest.new) }
+        (λ t. atom name.now rest.old.budget rest.old.bytes.now ≡ read_to (tree_of t) rest.new) }
     ensures none { IfErr result
-        (λ e. e ≡ NoTerm → atom name rest.old.budget rest.old.bytes.now ≡ None) }
+        (λ e. e ≡ NoTerm → atom name.now rest.old.budget rest.old.bytes.now ≡ None) }
 {
-    if name.bytes() == b"[]".as_slice() {
+    if name == b"[]".as_slice() {
         return Err(Missing::NoTerm);
     }
-    rest.pay(name.bytes().len())?;
-    Ok(Term::Atom(name))
+    rest.pay(name.len())?;
+    Ok(Term::Atom(name_of(alloc, name)?))
 }

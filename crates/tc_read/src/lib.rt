@@ -47,8 +47,8 @@ pub use clauses::{Unread, next_clause};
 pub use fault::ReadFault;
 pub use laws::{
     canonical_reading_is_unique, canonical_text_reads_back, each_text_has_a_reading,
-    printed_clause_is_read_back, printed_term_is_read_back, read_names_hold_no_control_bytes,
-    reading_is_unique,
+    printed_clause_is_read_back, printed_request_is_read_back, printed_term_is_read_back,
+    read_names_hold_no_control_bytes, reading_is_unique,
 };
 pub use printed_names::{ReadName, name_at};
 pub use quote::read_quoted;

@@ -1,7 +1,8 @@
 //! Names in canonical text: plain words, and quoted ones that cannot be written plainly.
-ghost use Rattle.std.specs.Prelude.{◌≡◌, ◌∷◌, IfOk, List, ℕ};
+ghost use Rattle.std.specs.Prelude.{◌≡◌, ◌∷◌, IfOk, List, true, ℕ};
 ghost use Rattle.tc_lists.specs.Seen.{seen};
-ghost use Rattle.tc_read.specs.Front.{name_at, quoted_at, unplain};
+ghost use Rattle.tc_read.specs.Front.{name_at, quoted_at, unplain, word_at};
+ghost use Rattle.tc_term.specs.Bytes.{is_name_start};
 
 use crate::layout::next_byte;
 use crate::lexeme::word_length;
@@ -28,6 +29,33 @@ fn quoted_name<'a>(alloc: Global, bytes: &'a [u8]) -> ReadName<'a>
     Ok(Some((Name::from_vec(alloc, name)?, rest_from(bytes, end))))
 }
 
+/// The name of these bytes. One of one byte or two is made without a call.
+#[inline(always)]
+pub fn name_of(alloc: Global, bytes: &[u8]) -> Result<Name, NoMemory>
+    ensures { IfOk result (λ name. name ≡ bytes.now) }
+{
+    match bytes {
+        [a] => Name::new(alloc, &[*a]),
+        [a, b] => Name::new(alloc, &[*a, *b]),
+        _ => Name::new(alloc, bytes),
+    }
+}
+
+/// The plain word at the front, of at most so many bytes, and what stands behind it.
+#[inline(always)]
+pub fn plain_word<'a>(
+    bytes: &'a [u8],
+    first: u8,
+    after: &[u8],
+    limit: usize,
+) -> (&'a [u8], &'a [u8])
+    requires bytes { bytes.now ≡ first ∷ after.now }
+    requires first { is_name_start first ≡ true }
+    ensures { (result.0.now, result.1.now) ≡ word_at limit bytes.now }
+{
+    bytes.split_at((word_length(after) + 1).min(limit))
+}
+
 /// The name at the front, as it is printed, and what stands behind it.
 ///
 /// A plain one has at most so many bytes; one in quotes is any that can't be written plainly. `[]` is
@@ -39,10 +67,10 @@ pub fn name_at<'a>(alloc: Global, bytes: &'a [u8], limit: usize) -> ReadName<'a>
     match next_byte(bytes) {
         None => Ok(None),
         Some((b'\'', _)) => quoted_name(alloc, bytes),
-        Some((first, _)) => {
+        Some((first, after)) => {
             if first.is_ascii_lowercase() && limit > 0 {
-                let (word, rest) = bytes.split_at(word_length(bytes).min(limit));
-                return Ok(Some((Name::new(alloc, word)?, rest)));
+                let (word, rest) = plain_word(bytes, first, after, limit);
+                return Ok(Some((name_of(alloc, word)?, rest)));
             }
             Ok(None)
         }

@@ -32,13 +32,16 @@ abbrev pub decreases-list : goal.decreases-list
 decreases-list l = l.depth * 10 + 2
 
 abbrev pub decreases-node : goal.decreases-node
-decreases-node l = l.depth * 10 + 6
+decreases-node l = l.depth * 10 + 7
+
+abbrev pub decreases-in_quotes : goal.decreases-in_quotes
+decreases-in_quotes l = l.depth * 10 + 6
 
 abbrev pub decreases-closed : goal.decreases-closed
-decreases-closed l = l.depth * 10 + 7
+decreases-closed l = l.depth * 10 + 8
 
 abbrev pub decreases-tail : goal.decreases-tail
-decreases-tail l = l.depth * 10 + 8
+decreases-tail l = l.depth * 10 + 9
 
 -- with the arguments so far, those that are left are those of the whole
 abbrev pub invariant-from_third-loop : goal.invariant-from_third-loop
