@@ -26,10 +26,10 @@ fn listen<R: Net<Listener = TcpListener, Stream = TcpStream>>(
 
 #[test]
 fn a_door_listens_once_at_a_port(rt: HostRuntime) -> Result<(), Fail> {
-    let mut door = TcpDoor::new(&rt);
+    let mut door = TcpDoor::new(&rt, rt.alloc());
     assert!(rt; door.accept().is_err());
     let port = listen(&rt, &mut door);
-    let mut other = TcpDoor::new(&rt);
+    let mut other = TcpDoor::new(&rt, rt.alloc());
     assert!(rt; other.listen(port).is_err());
     let _peer = TcpStream::connect(&rt, ("127.0.0.1", port))?;
     assert!(rt; door.accept().is_ok());
@@ -39,7 +39,7 @@ fn a_door_listens_once_at_a_port(rt: HostRuntime) -> Result<(), Fail> {
 #[test]
 fn bytes_go_both_ways(rt: HostRuntime) -> Result<(), Fail> {
     let alloc = rt.alloc();
-    let mut door = TcpDoor::new(&rt);
+    let mut door = TcpDoor::new(&rt, rt.alloc());
     let port = listen(&rt, &mut door);
     let mut peer = TcpStream::connect(&rt, ("127.0.0.1", port))?;
     let mut link = door.accept()?;
@@ -60,7 +60,7 @@ fn bytes_go_both_ways(rt: HostRuntime) -> Result<(), Fail> {
 #[test]
 fn the_last_bytes_come_though_others_are_unread(rt: HostRuntime) -> Result<(), Fail> {
     let alloc = rt.alloc();
-    let mut door = TcpDoor::new(&rt);
+    let mut door = TcpDoor::new(&rt, rt.alloc());
     let port = listen(&rt, &mut door);
     let mut peer = TcpStream::connect(&rt, ("127.0.0.1", port))?;
     let mut link = door.accept()?;
@@ -78,7 +78,7 @@ const CONFIGURATION: &[u8] = b"centre(c). role(r). grant(r,c,out). grant(r,c,in)
 #[test]
 fn an_agent_is_served_over_tcp(rt: HostRuntime) -> Result<(), Fail> {
     let alloc = rt.alloc();
-    let mut door = TcpDoor::new(&rt);
+    let mut door = TcpDoor::new(&rt, rt.alloc());
     let port = listen(&rt, &mut door);
     let mut peer = TcpStream::connect(&rt, ("127.0.0.1", port))?;
     peer.write_all(b"c ? in(p(X))\npoll\r\nc ? out(p(1))\n")?;
@@ -95,5 +95,30 @@ fn an_agent_is_served_over_tcp(rt: HostRuntime) -> Result<(), Fail> {
         replies.as_slice(),
         b"pending\npending\nerror waiting\n".as_slice()
     );
+    Ok(())
+}
+
+const TWO_AGENTS: &[u8] =
+    b"centre(c). role(r). grant(r,c,out). grant(r,c,in). agent(a,r). agent(b,r).";
+
+// The first agent waits for what the second one puts, who is accepted after it.
+#[test]
+fn an_agent_waits_for_one_that_comes_later(rt: HostRuntime) -> Result<(), Fail> {
+    let alloc = rt.alloc();
+    let mut door = TcpDoor::new(&rt, alloc);
+    let port = listen(&rt, &mut door);
+    let mut first = TcpStream::connect(&rt, ("127.0.0.1", port))?;
+    first.write_all(b"c ? in(x)\nwait\nquit\n")?;
+    let mut second = TcpStream::connect(&rt, ("127.0.0.1", port))?;
+    second.write_all(b"c ? out(x)\nquit\n")?;
+    let Ok(config) = read_config(alloc, TWO_AGENTS) else {
+        panic!(rt; "the configuration is refused");
+    };
+    let opened = open(alloc, config)?;
+    let service = serve(&rt, alloc, opened, &mut door)?;
+    assert!(rt; service.all && service.enough);
+    let mut replies = Vec::new(alloc);
+    first.read_to_end(&mut replies)?;
+    assert_eq!(rt; replies.as_slice(), b"pending\ntuple x\nbye\n".as_slice());
     Ok(())
 }

@@ -1,4 +1,4 @@
-//! Connections that wait for each other, served in threads.
+//! Connections that wait for each other, served by turns.
 ghost use Rattle.std.specs.Prelude.{None, Some, refl, true};
 
 use std::alloc::Global;
@@ -7,19 +7,15 @@ use std::process::Abort;
 use std::sync::Wait;
 use std::sync::atomic::{AtomicU64, Ordering};
 use std::test::Fail;
-use std::thread::{Threads, sleep};
-use std::time::{Clock, Duration};
-use tc_io::{Door, Failed, Link, NoMemory, Sink, SinkFault, Source, SureSink, SureSource};
+use std::thread::Threads;
+use tc_io::{Door, Failed, Link, NoMemory, Sink, SinkFault, Source, Stir, SureSink, SureSource};
 use tucson::{Status, serve_main};
 
-// How often a connection looks at most whether another one was sent enough.
+// How often a connection is asked at most whether something has come.
 const TURNS: u64 = 10_000;
 
-// How long it sleeps after each look, in milliseconds.
-const PAUSE: u64 = 1;
-
 // What a connection has seen: how many bytes it was sent that are those of its replies, how many
-// others, and how often the turns were over before another one was sent what it waits for.
+// others, and how often it was read before another one was sent what it waits for.
 #[derive(Drop)]
 struct Tally {
     right: AtomicU64,
@@ -44,31 +40,26 @@ impl Tally {
     }
 }
 
-// A connection that gives its bytes once another one was sent so many, or the turns are over.
+// A connection whose bytes have come once another one was sent so many, or the turns are over.
 #[derive(Drop)]
-struct Patient<'a, R: Clock> {
-    clock: &'a R,
+struct Patient<'a> {
     bytes: &'static [u8],
     replies: &'static [u8],
     tally: &'a Tally,
     other: &'a Tally,
     after: u64,
+    // How often it was asked whether something has come.
+    asked: u64,
 }
 
-impl<'a, R: Clock> Patient<'a, R> {
-    // Waits until the other connection was sent so many bytes, or the turns are over.
-    fn wait(&self) {
-        for _ in 0..TURNS {
-            if self.other.right.load(Ordering::SeqCst) >= self.after {
-                return;
-            }
-            sleep(self.clock, Duration::from_millis(PAUSE));
-        }
-        self.tally.late.fetch_add(1, Ordering::SeqCst);
+impl<'a> Patient<'a> {
+    // Whether the other connection was sent so many bytes.
+    fn is_due(&self) -> bool {
+        self.other.right.load(Ordering::SeqCst) >= self.after
     }
 }
 
-impl<'a, R: Clock> Source for Patient<'a, R> {
+impl<'a> Source for Patient<'a> {
     ghost left = { λ _. None };
 
     ghost read_faults = { λ _. 0 };
@@ -78,7 +69,9 @@ impl<'a, R: Clock> Source for Patient<'a, R> {
     ghost other = { λ _. Some (record { taken = None; write_faults = 0; sure = true }) };
 
     fn read(&mut self, into: &mut [u8]) -> Result<usize, Failed> {
-        self.wait();
+        if !self.is_due() {
+            self.tally.late.fetch_add(1, Ordering::SeqCst);
+        }
         let count = self.bytes.len().min(into.len());
         let (first, rest) = self.bytes.split_at(count);
         into[..count].copy_from_slice(first);
@@ -87,7 +80,7 @@ impl<'a, R: Clock> Source for Patient<'a, R> {
     }
 }
 
-impl<'a, R: Clock> Sink for Patient<'a, R> {
+impl<'a> Sink for Patient<'a> {
     ghost taken = { λ _. None };
 
     ghost write_faults = { λ _. 0 };
@@ -112,21 +105,41 @@ impl<'a, R: Clock> Sink for Patient<'a, R> {
     }
 }
 
-impl<'a, R: Clock> Link for Patient<'a, R> {
+impl<'a> Link for Patient<'a> {
     ghost of_source = { λ l. refl };
 
     ghost of_sink = { λ l. refl };
+
+    fn has_come(&mut self) -> bool {
+        self.asked = self.asked.saturating_add(1);
+        self.is_due() || self.asked > TURNS
+    }
+
+    fn has_more(&self) -> bool {
+        false
+    }
+
+    fn has_room(&mut self) -> bool {
+        true
+    }
+
+    fn leave(&mut self) -> bool {
+        true
+    }
 }
 
-// A door at which these connections wait, in order.
+// A door at which these connections wait, in order. After each rest it tells of all that it has
+// opened.
 #[derive(Drop)]
-struct Waiting<'a, R: Clock> {
-    links: VecDeque<Patient<'a, R>>,
+struct Waiting<'a> {
+    links: VecDeque<Patient<'a>>,
+    opened: usize,
+    told: usize,
     faults: u64,
 }
 
-impl<'a, R: Clock + Sync> Door for Waiting<'a, R> {
-    type Conn = Patient<'a, R>;
+impl<'a> Door for Waiting<'a> {
+    type Conn = Patient<'a>;
 
     ghost door_faults = { λ d. d.faults };
 
@@ -134,13 +147,36 @@ impl<'a, R: Clock + Sync> Door for Waiting<'a, R> {
 
     ghost lent = { λ _. 0 };
 
+    fn has_come(&mut self) -> bool {
+        true
+    }
+
+    fn rest(&mut self, _most: Option<u64>) {
+        self.told = 0;
+    }
+
+    fn next_stir(&mut self) -> Option<Stir> {
+        if self.told >= self.opened {
+            return None;
+        }
+        let number = self.told;
+        self.told = number.saturating_add(1);
+        Some(Stir {
+            number,
+            is_last: false,
+        })
+    }
+
     fn listen(&mut self, _port: u16) -> Result<(), Failed> {
         Ok(())
     }
 
-    fn accept(&mut self) -> Result<Patient<'a, R>, Failed> {
+    fn accept(&mut self) -> Result<Patient<'a>, Failed> {
         match self.links.pop_front() {
-            Some(link) => Ok(link),
+            Some(link) => {
+                self.opened = self.opened.saturating_add(1);
+                Ok(link)
+            }
             None => {
                 self.faults = self.faults.saturating_add(1);
                 Err(Failed)
@@ -156,16 +192,21 @@ const ONE_CENTRE: &[u8] = b"centre(c). role(r). grant(r,c,out). grant(r,c,in).
 agent(a,r). agent(b,r).";
 
 // The text that a service over these connections writes, at whose end nobody waits.
-fn served<R: Threads + Wait + Sync + Abort + Clock>(
+fn served<R: Threads + Wait + Sync + Abort>(
     rt: &R,
     alloc: Global,
     configuration: &[u8],
-    links: Vec<Patient<'_, R>>,
+    links: Vec<Patient<'_>>,
 ) -> Result<Vec<u8>, NoMemory> {
     let mut source = SureSource::new(configuration.to_vec(alloc)?);
     let mut sink = SureSink::new(alloc);
     let links = VecDeque::from_vec(links);
-    let mut door = Waiting { links, faults: 0 };
+    let mut door = Waiting {
+        links,
+        opened: 0,
+        told: 0,
+        faults: 0,
+    };
     let status = serve_main(rt, alloc, 7000, &mut source, &mut sink, &mut door);
     assert!(rt; status == Status::Ended);
     sink.taken().to_vec(alloc)
@@ -191,20 +232,20 @@ fn connections_are_served_side_by_side(rt: HostRuntime) -> Result<(), Fail> {
     let second = Tally::new();
     let links = vec![in alloc;
         Patient {
-            clock: &rt,
             bytes: b"c ? out(p(1))\nquit\n",
             replies: b"done\nbye\n",
             tally: &first,
             other: &second,
             after: 1,
+            asked: 0,
         },
         Patient {
-            clock: &rt,
             bytes: b"d ? out(q)\n",
             replies: b"done\n",
             tally: &second,
             other: &first,
             after: 0,
+            asked: 0,
         },
     ]?;
     let text = served(&rt, alloc, TWO_CENTRES, links)?;
@@ -234,20 +275,20 @@ fn replies_are_written_before_a_wait(rt: HostRuntime) -> Result<(), Fail> {
     let second = Tally::new();
     let links = vec![in alloc;
         Patient {
-            clock: &rt,
             bytes: b"c ? in(x)\nwait\n",
             replies: b"pending\ntuple x\n",
             tally: &first,
             other: &second,
             after: 0,
+            asked: 0,
         },
         Patient {
-            clock: &rt,
             bytes: b"c ? out(x)\n",
             replies: b"done\n",
             tally: &second,
             other: &first,
             after: 8,
+            asked: 0,
         },
     ]?;
     let text = served(&rt, alloc, ONE_CENTRE, links)?;

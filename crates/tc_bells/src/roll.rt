@@ -37,6 +37,14 @@ impl Roll {
         }
     }
 
+    /// Whether a number is called. One that isn't on the roll isn't.
+    pub fn has(&self, number: usize) -> bool {
+        match self.words.get(number / BITS) {
+            Some(word) => word.load(SeqCst) & bit(number) != 0,
+            None => false,
+        }
+    }
+
     /// Calls all numbers.
     pub fn call_all(&self) {
         for word in &self.words {

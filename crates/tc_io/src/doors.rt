@@ -6,7 +6,7 @@ ghost use Rattle.tc_io.specs.Doors.{MemListening, Accepts, link_opened, copy_ope
 ghost use Rattle.tc_io.specs.Memory.{GivesPiece, MakesCall, TakesPiece, no_call};
 
 use crate::calls::NumberedCalls;
-use crate::links::{Door, Link};
+use crate::links::{Door, Link, Stir};
 use crate::memory::{MemSink, MemSource};
 use crate::{Failed, Sink, SinkFault, Source};
 use std::alloc::Global;
@@ -100,6 +100,22 @@ impl Link for MemLink {
     ghost of_source = { λ l. refl };
 
     ghost of_sink = { λ l. refl };
+
+    fn has_come(&mut self) -> bool {
+        true
+    }
+
+    fn has_more(&self) -> bool {
+        true
+    }
+
+    fn has_room(&mut self) -> bool {
+        true
+    }
+
+    fn leave(&mut self) -> bool {
+        true
+    }
 }
 
 // What a door in memory keeps of a link: its bytes, and whether it is sure both ways.
@@ -114,9 +130,11 @@ pub(crate) struct LinkCopy {
 pub struct MemDoor {
     // The links that are not opened yet.
     links: VecDeque<MemLink>,
-    // Copies of all links, in order, and how many of these are opened.
+    // Copies of all links, in order, how many of these are opened, and how many of those were told
+    // of since the last rest.
     copies: Vec<LinkCopy>,
     count: usize,
+    told: usize,
     calls: NumberedCalls,
 }
 
@@ -148,6 +166,7 @@ impl MemDoor {
             links: VecDeque::from_vec(links),
             copies,
             count: 0,
+            told: 0,
             calls: NumberedCalls::new(failing),
         })
     }
@@ -161,6 +180,26 @@ impl Door for MemDoor {
     ghost opened = { λ d. Some d.opened };
 
     ghost lent = { λ _. 0 };
+
+    fn has_come(&mut self) -> bool {
+        true
+    }
+
+    fn rest(&mut self, _most: Option<u64>) {
+        self.told = 0;
+    }
+
+    fn next_stir(&mut self) -> Option<Stir> {
+        if self.told >= self.count {
+            return None;
+        }
+        let number = self.told;
+        self.told += 1;
+        Some(Stir {
+            number,
+            is_last: false,
+        })
+    }
 
     fn listen(&mut self, _port: u16) -> Result<(), Failed>
         ensures call { MakesCall self.old.calls self.new.calls (IsErr result) }

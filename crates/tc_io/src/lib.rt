@@ -23,7 +23,7 @@ mod sure;
 mod whole;
 
 pub use doors::{MemDoor, MemLink};
-pub use links::{Door, Link};
+pub use links::{Door, Link, Stir};
 pub use memory::{MemSink, MemSource};
 pub use outside::{StdSink, StdSource};
 pub use pieces::write_kept;

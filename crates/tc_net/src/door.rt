@@ -3,9 +3,10 @@ ghost use Rattle.std.specs.Prelude.{◌≡◌, None};
 ghost use Rattle.tc_io.specs.Faults.{CountRises};
 
 use crate::link::TcpLink;
-use crate::tries::{MOST_TRIES, is_passing};
-use std::net::{IpAddr, Ipv4Addr, Net, SocketAddr, TcpListener, TcpStream};
-use tc_io::{Door, Failed};
+use crate::listening::Listening;
+use std::alloc::Global;
+use std::net::{Net, TcpListener, TcpStream};
+use tc_io::{Door, Failed, Stir};
 
 /// A listener on 127.0.0.1, whose errors are counted.
 ///
@@ -13,18 +14,20 @@ use tc_io::{Door, Failed};
 #[derive(Drop)]
 pub struct TcpDoor<'a, R: Net<Listener = TcpListener, Stream = TcpStream>> {
     net: &'a R,
-    listener: Option<TcpListener>,
+    alloc: Global,
+    listening: Option<Listening>,
     faults: u64,
 }
 
 impl<'a, R: Net<Listener = TcpListener, Stream = TcpStream>> TcpDoor<'a, R> {
     /// A door that doesn't listen yet; no call has failed yet.
-    pub fn new(net: &'a R) -> TcpDoor<'a, R>
+    pub fn new(net: &'a R, alloc: Global) -> TcpDoor<'a, R>
         ensures { ⟦<TcpDoor<'a, R> as Door>⟧.door_faults result ≡ 0 }
     {
         TcpDoor {
             net,
-            listener: None,
+            alloc,
+            listening: None,
             faults: 0,
         }
     }
@@ -35,6 +38,16 @@ impl<'a, R: Net<Listener = TcpListener, Stream = TcpStream>> TcpDoor<'a, R> {
     {
         self.faults = self.faults.saturating_add(1);
         Failed
+    }
+
+    // Opens the next connection, if it listens.
+    fn open(&mut self) -> Option<TcpLink>
+        ensures { self.new.faults ≡ self.old.faults }
+    {
+        match &mut self.listening {
+            Some(listening) => listening.open(),
+            None => None,
+        }
     }
 }
 
@@ -47,36 +60,38 @@ impl<'a, R: Net<Listener = TcpListener, Stream = TcpStream>> Door for TcpDoor<'a
 
     ghost lent = { λ _. 0 };
 
-    fn listen(&mut self, port: u16) -> Result<(), Failed> {
-        let address = SocketAddr::new(IpAddr::V4(Ipv4Addr::LOCALHOST), port);
-        match TcpListener::bind(self.net, address) {
-            Ok(listener) => {
-                self.listener = Some(listener);
-                Ok(())
-            }
-            Err(_) => Err(self.fail()),
+    fn has_come(&mut self) -> bool {
+        match &mut self.listening {
+            Some(listening) => listening.has_come(),
+            None => true,
         }
+    }
+
+    fn rest(&mut self, most: Option<u64>) {
+        if let Some(listening) = &mut self.listening {
+            listening.rest(most);
+        }
+    }
+
+    fn next_stir(&mut self) -> Option<Stir> {
+        match &mut self.listening {
+            Some(listening) => listening.next_stir(),
+            None => None,
+        }
+    }
+
+    fn listen(&mut self, port: u16) -> Result<(), Failed> {
+        self.listening = Listening::new(self.net, self.alloc, port);
+        if self.listening.is_none() {
+            return Err(self.fail());
+        }
+        Ok(())
     }
 
     fn accept(&mut self) -> Result<TcpLink, Failed> {
-        match accepted(&self.listener) {
-            Some(stream) => Ok(TcpLink::new(stream)),
+        match self.open() {
+            Some(link) => Ok(link),
             None => Err(self.fail()),
         }
     }
-}
-
-// The next connection, if one can be accepted.
-fn accepted(listener: &Option<TcpListener>) -> Option<TcpStream> {
-    let Some(listener) = listener else {
-        return None;
-    };
-    for _ in 0..MOST_TRIES {
-        match listener.accept() {
-            Ok((stream, _)) => return Some(stream),
-            Err(error) if is_passing(&error) => {}
-            Err(_) => return None,
-        }
-    }
-    None
 }

@@ -1,31 +1,61 @@
 //! A TCP connection.
-ghost use Rattle.std.specs.Prelude.{◌<◌, ◌≤◌, None, Some, IfSome, false, length, refl};
+ghost use Rattle.std.specs.Prelude.{◌≡◌, ◌<◌, ◌≤◌, None, Some, IfSome, false, length, refl};
 
+use crate::arrivals::Arrivals;
 use crate::closing::close;
-use crate::tries::{MOST_TRIES, is_interrupted};
-use std::io::{Read, Write};
-use std::net::TcpStream;
+use crate::departures::Departures;
+use std::alloc::Global;
+use std::net::{Shutdown, TcpStream};
 use tc_io::{Failed, Link, Sink, SinkFault, Source};
+use tc_lists::NoMemory;
 
 /// A connection, whose errors are counted. A call that a signal interrupts is made again.
 ///
-/// Where it is dropped, what its peer has sent is read first, so that the peer gets the last bytes.
+/// No write waits: what the system doesn't take is kept, and goes on when there is room. Where that
+/// fails, each later call does. A read waits until something has come. Where the connection is
+/// dropped, what its peer has sent is read first, so that the peer gets the last bytes.
 pub struct TcpLink {
     stream: TcpStream,
+    arrivals: Arrivals,
+    departures: Departures,
+    // Whether the peer was told that nothing more is written.
+    is_shut: bool,
     read_faults: u64,
     write_faults: u64,
 }
 
 impl TcpLink {
-    /// The connection of this stream. What is written is sent at once.
-    pub(crate) fn new(stream: TcpStream) -> TcpLink {
+    /// The connection of this stream, whose reads and writes don't wait. What is written is sent at
+    /// once.
+    pub(crate) fn new(alloc: Global, stream: TcpStream) -> Result<TcpLink, NoMemory> {
         // Without it a reply may come late, but it comes.
         let _ = stream.set_nodelay(true);
-        TcpLink {
-            stream,
-            read_faults: 0,
-            write_faults: 0,
+        match Arrivals::new(alloc) {
+            Ok(arrivals) => Ok(TcpLink {
+                stream,
+                arrivals,
+                departures: Departures::new(alloc),
+                is_shut: false,
+                read_faults: 0,
+                write_faults: 0,
+            }),
+            Err(fault) => {
+                close(stream);
+                Err(fault)
+            }
         }
+    }
+
+    // Reads some bytes, or waits for some. How many, unless the connection has failed.
+    fn receive(&mut self, into: &mut [u8]) -> Option<usize>
+        ensures read { IfSome result (λ n. n ≤ length into.old) }
+        ensures reads { self.new.read_faults ≡ self.old.read_faults }
+        ensures writes { self.new.write_faults ≡ self.old.write_faults }
+    {
+        if self.departures.have_failed() {
+            return None;
+        }
+        self.arrivals.give(&mut self.stream, into)
     }
 }
 
@@ -33,6 +63,9 @@ impl Drop for TcpLink {
     fn drop(self) {
         let Self {
             stream,
+            arrivals: _,
+            departures: _,
+            is_shut: _,
             read_faults: _,
             write_faults: _,
         } = self;
@@ -51,7 +84,7 @@ impl Source for TcpLink {
         Some (record { taken = None; write_faults = l.write_faults; sure = false }) };
 
     fn read(&mut self, into: &mut [u8]) -> Result<usize, Failed> {
-        match read_some(&mut self.stream, into) {
+        match self.receive(into) {
             Some(n) => Ok(n),
             None => {
                 self.read_faults = self.read_faults.saturating_add(1);
@@ -72,9 +105,10 @@ impl Sink for TcpLink {
         Some (record { left = None; read_faults = l.read_faults; sure = false }) };
 
     fn write(&mut self, piece: &[u8]) -> Result<usize, SinkFault> {
-        match write_some(&mut self.stream, piece) {
-            Some(n) => Ok(n),
-            None => {
+        match self.departures.take(&mut self.stream, piece) {
+            Ok(n) => Ok(n),
+            Err(SinkFault::NoMemory) => Err(SinkFault::NoMemory),
+            Err(SinkFault::Failed) => {
                 self.write_faults = self.write_faults.saturating_add(1);
                 Err(SinkFault::Failed)
             }
@@ -86,32 +120,25 @@ impl Link for TcpLink {
     ghost of_source = { λ l. refl };
 
     ghost of_sink = { λ l. refl };
-}
 
-// Reads some bytes. How many, if the read hasn't failed.
-fn read_some(stream: &mut TcpStream, into: &mut [u8]) -> Option<usize>
-    ensures { IfSome result (λ n. n ≤ length into.old) }
-{
-    for _ in 0..MOST_TRIES {
-        match stream.read(into) {
-            Ok(n) => return Some(n),
-            Err(error) if is_interrupted(&error) => {}
-            Err(_) => return None,
-        }
+    fn has_come(&mut self) -> bool {
+        self.departures.have_failed() || self.arrivals.have_come(&mut self.stream)
     }
-    None
-}
 
-// Writes some bytes. How many, if the write hasn't failed.
-fn write_some(stream: &mut TcpStream, piece: &[u8]) -> Option<usize>
-    ensures { IfSome result (λ n. (0 < n) × (n ≤ length piece.now)) }
-{
-    for _ in 0..MOST_TRIES {
-        match stream.write(piece) {
-            Ok(n) if n > 0 => return Some(n),
-            Err(error) if is_interrupted(&error) => {}
-            _ => return None,
-        }
+    fn has_more(&self) -> bool {
+        self.arrivals.are_full()
     }
-    None
+
+    fn has_room(&mut self) -> bool {
+        self.departures.are_gone(&mut self.stream)
+    }
+
+    fn leave(&mut self) -> bool {
+        // Each makes the connection stir once more, so a second one would never be the last.
+        if !self.is_shut {
+            self.is_shut = true;
+            let _ = self.stream.shutdown(Shutdown::Write);
+        }
+        self.arrivals.forget(&mut self.stream)
+    }
 }

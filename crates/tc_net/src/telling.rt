@@ -2,7 +2,7 @@
 ghost use Rattle.std.specs.Prelude.{◌≡◌};
 
 use std::io::Write;
-use tc_io::{Door, Failed};
+use tc_io::{Door, Failed, Stir};
 
 /// A door that writes a line for each thing that it does: where it listens, and each connection
 /// that it opens, by its number.
@@ -54,6 +54,18 @@ impl<D: Door, W: Write> Door for TellingDoor<D, W> {
                 Err(failed)
             }
         }
+    }
+
+    fn has_come(&mut self) -> bool {
+        self.door.has_come()
+    }
+
+    fn rest(&mut self, most: Option<u64>) {
+        self.door.rest(most)
+    }
+
+    fn next_stir(&mut self) -> Option<Stir> {
+        self.door.next_stir()
     }
 
     fn accept(&mut self) -> Result<D::Conn, Failed> {

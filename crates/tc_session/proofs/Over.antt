@@ -21,7 +21,7 @@ use Rattle.tc_session.specs.Sessions.{EndsBy, IsAtEnd, Wrote, cut_text}
 use Rattle.tc_session.specs.SoFar.{EndIs, Finishes, IsOver, IsSoFar, IsStop, Moment, flow_at}
 use Rattle.tc_lines.specs.Replies.{error_line, reply_line}
 use Rattle.tc_session.specs.Answers.{Answers, FindsNoMemory, KeepsDesk}
-use Rattle.tc_session.proofs.Going.{read_on}
+use Rattle.tc_session.proofs.SoFar.{read_on}
 use Rattle.tc_session.specs.declared.endings.SessionEnd.{SessionEnd}
 use Rattle.tc_session.specs.declared.endings.SessionEnd.TheVariants as end
 

@@ -11,10 +11,12 @@
 
 mod answering;
 mod endings;
+mod going;
 mod laws;
 mod sending;
 mod session;
 mod texts;
 
 pub use endings::SessionEnd;
+pub use going::{Session, Step};
 pub use session::serve_session;

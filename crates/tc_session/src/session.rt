@@ -116,7 +116,7 @@ fn step<R: Wait, D: Desk, L: Link>(
 
 // Serves a line that asks this. Before a wait for a pending call all replies are written. How the
 // session ends, if it does.
-fn serve_line<R: Wait, D: Desk, L: Link>(
+pub(crate) fn serve_line<R: Wait, D: Desk, L: Link>(
     rt: &R,
     alloc: Global,
     desk: &mut D,
@@ -175,7 +175,7 @@ fn flush_before<L: Link>(
 }
 
 // Reads more, where no whole line is held. How the session ends, if it does.
-fn refill<L: Link>(
+pub(crate) fn refill<L: Link>(
     link: &mut L,
     lines: &mut Lines,
     replies: &mut Vec<u8>,

@@ -174,7 +174,7 @@ impl SharedCentre {
         let known = pass.known();
         let served = held.value.turn(alloc, id, op);
         vouch(&held.value);
-        let answered = answered_since(held.value.history(), known);
+        let answered = answered_since(held.value.history(), known, self.roll.as_deref());
         self.turnstile.leave(pass, held);
         wake(&self.bells, self.roll.as_deref(), &answered);
         match served {

@@ -25,45 +25,56 @@ pub(crate) fn sleep<R: Wait>(rt: &R, bells: &Bells, agent: u32, rung: u64) {
     }
 }
 
-/// How many answered agents are told apart. Where a turn answers more, all agents are woken.
-const MOST_TOLD: usize = 4;
+/// How many answered agents are noted. Where a turn answers more, all agents are woken.
+const MOST_NOTED: usize = 4;
 
 /// The agents whose requests a turn has answered.
 #[derive(Drop)]
 pub(crate) struct Answered {
-    agents: [u32; MOST_TOLD],
+    agents: [u32; MOST_NOTED],
     count: usize,
     are_more: bool,
 }
 
-/// The agents whose requests are answered by entries behind the first so many.
-pub(crate) fn answered_since(history: &[Entry], known: u64) -> Answered {
+/// The agents whose requests are answered by entries behind the first so many. Those that aren't
+/// noted are called on the roll at once.
+pub(crate) fn answered_since(history: &[Entry], known: u64, roll: Option<&Roll>) -> Answered {
     let mut answered = Answered {
-        agents: [0; MOST_TOLD],
+        agents: [0; MOST_NOTED],
         count: 0,
         are_more: false,
     };
     for entry in history.get(known as usize..).unwrap_or(&[]) {
         if let Entry::Gave { id, .. } = entry {
-            note(&mut answered, id.agent);
+            note(&mut answered, id.agent, roll);
         }
     }
     answered
 }
 
-// Notes one more agent.
-fn note(answered: &mut Answered, agent: u32) {
+// Notes one more agent, or calls it.
+fn note(answered: &mut Answered, agent: u32, roll: Option<&Roll>) {
     match answered.agents.get_mut(answered.count) {
         Some(place) => {
             *place = agent;
             answered.count += 1;
         }
-        None => answered.are_more = true,
+        None => {
+            answered.are_more = true;
+            call(roll, agent);
+        }
+    }
+}
+
+// Calls an agent on the roll, if there is one.
+fn call(roll: Option<&Roll>, agent: u32) {
+    if let Some(roll) = roll {
+        roll.call(agent as usize);
     }
 }
 
 /// Wakes these agents, and calls them on the roll, once the turn that has answered them was passed
-/// on.
+/// on. So whose request was answered is on the roll, and nobody else is called.
 ///
 /// No wake-up is lost: an agent reads how often its bell has rung before it looks, and again before
 /// it reads the count of entries, and the bell of an agent that is answered rings after that count
@@ -71,17 +82,18 @@ fn note(answered: &mut Answered, agent: u32) {
 pub(crate) fn wake(bells: &Bells, roll: Option<&Roll>, answered: &Answered) {
     if answered.are_more {
         bells.ring_all();
-        if let Some(roll) = roll {
-            roll.call_all();
-        }
-        return;
     }
     for agent in answered.agents.get(..answered.count).unwrap_or(&[]) {
-        if let Some(bell) = bells.get(*agent as usize) {
-            bell.ring();
+        if !answered.are_more {
+            ring(bells, *agent);
         }
-        if let Some(roll) = roll {
-            roll.call(*agent as usize);
-        }
+        call(roll, *agent);
+    }
+}
+
+// Rings an agent's bell.
+fn ring(bells: &Bells, agent: u32) {
+    if let Some(bell) = bells.get(agent as usize) {
+        bell.ring();
     }
 }

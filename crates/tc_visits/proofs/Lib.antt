@@ -1,6 +1,5 @@
-pub mod Sends
-pub mod Crossings
 pub mod Accepted
+pub mod Sittings
 pub mod Desks
 pub mod Doors
 pub mod Outcomes

@@ -4,9 +4,9 @@ use Rattle.tc_visits.specs.declared.served.Room.{Room}
 
 -- nothing stands in it yet, and of each kind so many find room
 pub record HasRoom {L : Type 0} (agents : ℕ) (room : Room L) : Type 0 where
-  pub no_session : room.sessions.items ≡ []
+  pub no_seat : room.seats.items ≡ []
   pub no_visit : room.visits.items ≡ []
   pub none_idle : room.idle.items ≡ []
-  pub sessions : agents ≤ vec_capacity room.sessions
+  pub seats : agents ≤ vec_capacity room.seats
   pub visits : agents ≤ vec_capacity room.visits
   pub idle : agents ≤ vec_capacity room.idle

@@ -6,7 +6,7 @@ use Rattle.tc_model.specs.declared.asks.Primitive.{Primitive}
 use Rattle.tc_policy.specs.declared.grants.Grant.{Grant}
 use Rattle.tc_session.specs.declared.endings.SessionEnd.{SessionEnd}
 use Rattle.tc_site.specs.Desks.{IsDecidedLog}
-use Rattle.tc_site.specs.Sites.{SiteState}
+use Rattle.tc_site.specs.Sites.{EndedDeskState, SiteState}
 use Rattle.tc_visits.specs.Sessions.{IsSessionAt, SessionState}
 
 -- a visit: its site, its agent, its log, how its session ended, and its connection as it was opened
@@ -16,6 +16,11 @@ pub record VisitState : Type 0 where
   pub log : List LogRow
   pub end : SessionEnd
   pub connection : Connection
+
+-- the visit that has left this desk: how its session ended, and its connection as it was opened
+abbrev pub visit_of : EndedDeskState (List Grant) → SessionEnd → Connection → VisitState
+visit_of d end connection =
+    record { site = d.site; agent = d.agent; log = d.log; end = end; connection = connection }
 
 -- a visit's session
 abbrev pub session_of : VisitState → SessionState

@@ -1,8 +1,9 @@
-//! Visits: the agents of a site, served over connections, each in a thread of its own.
+//! Visits: the agents of a site, served over connections, all in one loop.
 //!
-//! The connection that is accepted first is the first agent's, and so on. A visit keeps how its
-//! session went, from a desk that had made no call; its text goes with the connection. An agent for
-//! which no connection could be accepted keeps its kit. Nothing here knows what lines ask, where
+//! The connection that is accepted first is the first agent's, and so on. A session goes on when
+//! something has come, or when its agent's pending call was answered. A visit keeps how its session
+//! went, from a desk that had made no call; its text goes with the connection. An agent for which
+//! no connection could be accepted keeps its kit. Nothing here knows what lines ask, where
 //! connections come from, or how logs are written.
 //!
 //! ```
@@ -12,6 +13,9 @@
 //! ```
 #![tactic(auto)]
 
+mod attending;
+mod calls;
+mod seats;
 mod served;
 mod service;
 mod serving;

@@ -12,7 +12,6 @@ use crate::served::{Served, serve_all};
 use crate::visits::Visit;
 use std::alloc::Global;
 use std::sync::Wait;
-use std::thread::Threads;
 use tc_desk::Warden;
 use tc_io::{Door, Link};
 use tc_lists::NoMemory;
@@ -33,12 +32,12 @@ pub struct Service {
 }
 
 /// Serves the agents of a configuration, whose centres have just been opened, over the connections
-/// that a door accepts, each in a thread of its own, until all sessions have ended.
+/// that a door accepts, all in this thread, until all sessions have ended.
 ///
 /// The connections are the agents', in order. After the first that can't be accepted none is. Then
 /// the centres are closed, and the logs settled. No script is run. Where memory ends nothing is
 /// left of the run.
-pub fn serve<R: Threads + Wait + Sync, D: Door>(
+pub fn serve<R: Wait, D: Door>(
     rt: &R,
     alloc: Global,
     opened: Opened,
@@ -64,7 +63,7 @@ pub fn serve<R: Threads + Wait + Sync, D: Door>(
 }
 
 // The same, where there are agents.
-fn serve_some<R: Threads + Wait + Sync, D: Door>(
+fn serve_some<R: Wait, D: Door>(
     rt: &R,
     alloc: Global,
     opened: Opened,

@@ -16,7 +16,7 @@ use tucson::{Status, tucson};
 fn main(rt: HostRuntime) -> ExitCode {
     let mut source = StdSource::new(rt.stdin());
     let mut sink = StdSink::new(rt.stdout());
-    let mut door = TellingDoor::new(TcpDoor::new(&rt), rt.stderr());
+    let mut door = TellingDoor::new(TcpDoor::new(&rt, rt.alloc()), rt.stderr());
     let status = match words(&rt) {
         Ok(words) => {
             let alloc = rt.alloc();

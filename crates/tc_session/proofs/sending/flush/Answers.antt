@@ -1,5 +1,5 @@
 use Rattle.std.proofs.Common.{refl}
-use Rattle.tc_session.proofs.Going.{flushed}
+use Rattle.tc_session.proofs.SoFar.{flushed}
 use Rattle.tc_session.proofs.Over.{no_memory, stopped}
 use Rattle.tc_session.proofs.sending.flush.Goals as goal
 

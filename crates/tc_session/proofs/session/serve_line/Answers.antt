@@ -1,4 +1,4 @@
-use Rattle.tc_session.proofs.Going.{answered}
+use Rattle.tc_session.proofs.SoFar.{answered}
 use Rattle.tc_session.proofs.Over.{none_over, quit_over, unwritten_over}
 use Rattle.tc_session.proofs.session.serve_line.Goals as goal
 

@@ -1,5 +1,5 @@
 use Rattle.std.proofs.Common.{refl, sym, ◌∙◌, arith}
-use Rattle.tc_session.proofs.Going.{begins}
+use Rattle.tc_session.proofs.SoFar.{begins}
 use Rattle.tc_session.proofs.Kept.{kept_both, kept_same}
 use Rattle.tc_session.proofs.Pending.{pends_same}
 use Rattle.tc_session.proofs.session.serve_session.Goals as goal
