@@ -63,6 +63,7 @@ impl Ground {
     /// The template as a tuple, where it has no variable.
     ///
     /// It is not looked at again: takes O(1) time and no memory.
+    #[inline(always)]
     pub fn of_pattern(pattern: Pattern) -> Option<Ground>
         ensures some { IfSome result (λ tuple. (tuple ≡ pattern) × IsTuple pattern) }
         ensures none { IfNone result (is_ground pattern ≡ false) }
