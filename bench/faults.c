@@ -1,11 +1,13 @@
 // Stands before the C library's calls, and has one of them fail: LD_PRELOAD of the program in faults.py.
 //
-// FAULT_CALL   the call: memory, read, write, tell, accept, recv, send, thread, socket, bind, listen, option, shutdown
+// FAULT_CALL   the call: memory, read, write, tell, accept, recv, send, thread, socket, bind, listen, option, shutdown,
+//              poll (epoll_create1), watch (epoll_ctl), rest (epoll_wait)
 // FAULT_FIRST  the number, from 1, of the first call that fails; with FAULT_LAST the last one
 // FAULT_HOW    the error's number, or 0: the call moves a single byte
 // FAULT_COUNTS a file that gets, at the end, how often each call was made
 //
-// Reads count of standard input alone, writes of standard output, and what is told of standard error.
+// Reads count of standard input alone, writes of standard output, and what is told of standard error. What a recv that
+// was cut short leaves has not come yet, as when a peer sends it later: the next epoll_wait tells that it has.
 #define _GNU_SOURCE
 #include <dlfcn.h>
 #include <errno.h>
@@ -15,6 +17,7 @@
 #include <stdio.h>
 #include <stdlib.h>
 #include <string.h>
+#include <sys/epoll.h>
 #include <sys/socket.h>
 #include <sys/syscall.h>
 #include <unistd.h>
@@ -22,9 +25,9 @@
 void *__libc_malloc(size_t);
 void *__libc_realloc(void *, size_t);
 
-enum call { MEMORY, READ, WRITE, TELL, ACCEPT, RECV, SEND, THREAD, SOCKET, BIND, LISTEN, OPTION, SHUTDOWN, CALLS };
+enum call { MEMORY, READ, WRITE, TELL, ACCEPT, RECV, SEND, THREAD, SOCKET, BIND, LISTEN, OPTION, SHUTDOWN, POLL, WATCH, REST, CALLS };
 static const char *const names[CALLS] = {"memory", "read",   "write", "tell",   "accept", "recv",    "send",
-                                         "thread", "socket", "bind",  "listen", "option", "shutdown"};
+                                         "thread", "socket", "bind",  "listen", "option", "shutdown", "poll", "watch", "rest"};
 static atomic_long made[CALLS];
 static int ready, chosen = -1, how;
 static long first, last;
@@ -110,9 +113,50 @@ ssize_t write(int file, const void *from, size_t size) {
   return syscall(SYS_write, file, from, size);
 }
 
+enum { MOST_FILES = 1024 };
+
+// What is told of a file that is watched, and whether a recv has left some of what came there.
+static struct {
+  epoll_data_t data;
+  int is_left;
+} watched[MOST_FILES];
+static int left;
+
 ssize_t recv(int file, void *into, size_t size, int flags) {
+  size_t asked = size;
   if (breaks(RECV, &size)) return -1;
-  return syscall(SYS_recvfrom, file, into, size, flags, NULL, NULL);
+  ssize_t moved = syscall(SYS_recvfrom, file, into, size, flags, NULL, NULL);
+  if (size < asked && moved > 0 && file < MOST_FILES && !watched[file].is_left) {
+    watched[file].is_left = 1;
+    left++;
+  }
+  return moved;
+}
+
+int epoll_create1(int flags) {
+  size_t none = 0;
+  if (breaks(POLL, &none)) return -1;
+  return syscall(SYS_epoll_create1, flags);
+}
+
+int epoll_ctl(int poll, int op, int file, struct epoll_event *event) {
+  size_t none = 0;
+  if (breaks(WATCH, &none)) return -1;
+  if (event && file < MOST_FILES) watched[file].data = event->data;
+  return syscall(SYS_epoll_ctl, poll, op, file, event);
+}
+
+int epoll_wait(int poll, struct epoll_event *events, int most, int timeout) {
+  size_t none = 0;
+  if (breaks(REST, &none)) return -1;
+  int count = syscall(SYS_epoll_wait, poll, events, most, left ? 0 : timeout);
+  for (int file = 0; left && count >= 0 && count < most && file < MOST_FILES; file++)
+    if (watched[file].is_left) {
+      watched[file].is_left = 0;
+      left--;
+      events[count++] = (struct epoll_event){.events = EPOLLIN, .data = watched[file].data};
+    }
+  return count;
 }
 
 ssize_t send(int file, const void *from, size_t size, int flags) {

@@ -97,6 +97,11 @@ def no_door(case, end):
     return None if case.is_whole(end) else "another text"
 
 
+def no_port_or_no_door(case, end):
+    """The first is the listener's, the others are connections'."""
+    return None if end.status == 8 and not end.text else no_door(case, end)
+
+
 def session_ends(case, end):
     """A session has ended early, and the text is whole."""
     if end.status not in (0, 3):
@@ -137,6 +142,9 @@ NET = [Fault("socket, EMFILE", "socket", errno.EMFILE, no_text(8)),
        Fault("send, EINTR", "send", errno.EINTR, the_same),
        Fault("send, one byte", "send", 0, the_same),
        Fault("send, one byte each", "send", 0, the_same, True),
+       Fault("epoll_create, EMFILE", "poll", errno.EMFILE, no_text(8)),
+       Fault("epoll_ctl, ENOSPC", "watch", errno.ENOSPC, no_port_or_no_door),
+       Fault("epoll_wait, EINTR", "rest", errno.EINTR, the_same),
        Fault("what is told, EIO", "tell", errno.EIO, the_same),
        Fault("what is told, one byte", "tell", 0, the_same),
        Fault("setsockopt, EINVAL", "option", errno.EINVAL, no_port_or_the_same),

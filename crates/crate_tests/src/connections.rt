@@ -26,10 +26,10 @@ fn listen<R: Net<Listener = TcpListener, Stream = TcpStream>>(
 
 #[test]
 fn a_door_listens_once_at_a_port(rt: HostRuntime) -> Result<(), Fail> {
-    let mut door = TcpDoor::new(&rt, rt.alloc());
+    let mut door = TcpDoor::new(&rt, rt.alloc())?;
     assert!(rt; door.accept().is_err());
     let port = listen(&rt, &mut door);
-    let mut other = TcpDoor::new(&rt, rt.alloc());
+    let mut other = TcpDoor::new(&rt, rt.alloc())?;
     assert!(rt; other.listen(port).is_err());
     let _peer = TcpStream::connect(&rt, ("127.0.0.1", port))?;
     assert!(rt; door.accept().is_ok());
@@ -39,7 +39,7 @@ fn a_door_listens_once_at_a_port(rt: HostRuntime) -> Result<(), Fail> {
 #[test]
 fn bytes_go_both_ways(rt: HostRuntime) -> Result<(), Fail> {
     let alloc = rt.alloc();
-    let mut door = TcpDoor::new(&rt, rt.alloc());
+    let mut door = TcpDoor::new(&rt, rt.alloc())?;
     let port = listen(&rt, &mut door);
     let mut peer = TcpStream::connect(&rt, ("127.0.0.1", port))?;
     let mut link = door.accept()?;
@@ -60,7 +60,7 @@ fn bytes_go_both_ways(rt: HostRuntime) -> Result<(), Fail> {
 #[test]
 fn the_last_bytes_come_though_others_are_unread(rt: HostRuntime) -> Result<(), Fail> {
     let alloc = rt.alloc();
-    let mut door = TcpDoor::new(&rt, rt.alloc());
+    let mut door = TcpDoor::new(&rt, rt.alloc())?;
     let port = listen(&rt, &mut door);
     let mut peer = TcpStream::connect(&rt, ("127.0.0.1", port))?;
     let mut link = door.accept()?;
@@ -78,7 +78,7 @@ const CONFIGURATION: &[u8] = b"centre(c). role(r). grant(r,c,out). grant(r,c,in)
 #[test]
 fn an_agent_is_served_over_tcp(rt: HostRuntime) -> Result<(), Fail> {
     let alloc = rt.alloc();
-    let mut door = TcpDoor::new(&rt, rt.alloc());
+    let mut door = TcpDoor::new(&rt, rt.alloc())?;
     let port = listen(&rt, &mut door);
     let mut peer = TcpStream::connect(&rt, ("127.0.0.1", port))?;
     peer.write_all(b"c ? in(p(X))\npoll\r\nc ? out(p(1))\n")?;
@@ -105,7 +105,7 @@ const TWO_AGENTS: &[u8] =
 #[test]
 fn an_agent_waits_for_one_that_comes_later(rt: HostRuntime) -> Result<(), Fail> {
     let alloc = rt.alloc();
-    let mut door = TcpDoor::new(&rt, alloc);
+    let mut door = TcpDoor::new(&rt, alloc)?;
     let port = listen(&rt, &mut door);
     let mut first = TcpStream::connect(&rt, ("127.0.0.1", port))?;
     first.write_all(b"c ? in(x)\nwait\nquit\n")?;

@@ -2,17 +2,15 @@
 ghost use Rattle.std.specs.Prelude.{◌≤◌, IfSome, length};
 
 use crate::tries::{MOST_TRIES, is_interrupted};
-use std::alloc::Global;
 use std::io;
 use std::io::{ErrorKind, Read};
 use std::net::TcpStream;
-use tc_lists::NoMemory;
 
-/// How many bytes are taken from the system at most at a time.
-const MOST_TAKEN: usize = 4_096;
+/// How many bytes are taken from the system at most at a time: some dozen lines as agents send them.
+const MOST_TAKEN: usize = 1_024;
 
 /// How many pieces are dropped at most before nobody waits for the end any more.
-const MOST_DROPPED: u32 = 64;
+const MOST_DROPPED: u32 = 256;
 
 /// How a connection stands, behind the bytes that have come.
 #[derive(Clone, Copy, PartialEq, Eq)]
@@ -25,7 +23,7 @@ enum Standing {
 /// Bytes that have come and aren't read yet, those of one call of the system.
 #[derive(Drop)]
 pub(crate) struct Arrivals {
-    bytes: Vec<u8>,
+    bytes: [u8; MOST_TAKEN],
     from: usize,
     to: usize,
     standing: Standing,
@@ -35,14 +33,14 @@ pub(crate) struct Arrivals {
 
 impl Arrivals {
     /// None, of a connection that is open.
-    pub(crate) fn new(alloc: Global) -> Result<Arrivals, NoMemory> {
-        Ok(Arrivals {
-            bytes: Vec::from_elem(alloc, 0, MOST_TAKEN)?,
+    pub(crate) fn new() -> Arrivals {
+        Arrivals {
+            bytes: [0; MOST_TAKEN],
             from: 0,
             to: 0,
             standing: Standing::Open,
             dropped: 0,
-        })
+        }
     }
 
     /// Whether a read is answered at once, by bytes, the end or a fault.

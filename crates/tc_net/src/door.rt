@@ -1,12 +1,14 @@
 //! A TCP listener.
-ghost use Rattle.std.specs.Prelude.{◌≡◌, None};
+ghost use Rattle.std.specs.Prelude.{◌≡◌, None, IfOk};
 ghost use Rattle.tc_io.specs.Faults.{CountRises};
 
 use crate::link::TcpLink;
 use crate::listening::Listening;
+use crate::stirs::Stirs;
 use std::alloc::Global;
 use std::net::{Net, TcpListener, TcpStream};
 use tc_io::{Door, Failed, Stir};
+use tc_lists::NoMemory;
 
 /// A listener on 127.0.0.1, whose errors are counted.
 ///
@@ -14,22 +16,25 @@ use tc_io::{Door, Failed, Stir};
 #[derive(Drop)]
 pub struct TcpDoor<'a, R: Net<Listener = TcpListener, Stream = TcpStream>> {
     net: &'a R,
-    alloc: Global,
     listening: Option<Listening>,
+    stirs: Stirs,
     faults: u64,
 }
 
 impl<'a, R: Net<Listener = TcpListener, Stream = TcpStream>> TcpDoor<'a, R> {
     /// A door that doesn't listen yet; no call has failed yet.
-    pub fn new(net: &'a R, alloc: Global) -> TcpDoor<'a, R>
-        ensures { ⟦<TcpDoor<'a, R> as Door>⟧.door_faults result ≡ 0 }
+    ///
+    /// All memory that it and its connections need to come about is found here, so what fails later
+    /// is the system's.
+    pub fn new(net: &'a R, alloc: Global) -> Result<TcpDoor<'a, R>, NoMemory>
+        ensures { IfOk result (λ door. ⟦<TcpDoor<'a, R> as Door>⟧.door_faults door ≡ 0) }
     {
-        TcpDoor {
+        Ok(TcpDoor {
             net,
-            alloc,
             listening: None,
+            stirs: Stirs::new(alloc)?,
             faults: 0,
-        }
+        })
     }
 
     // Counts a failure.
@@ -45,7 +50,7 @@ impl<'a, R: Net<Listener = TcpListener, Stream = TcpStream>> TcpDoor<'a, R> {
         ensures { self.new.faults ≡ self.old.faults }
     {
         match &mut self.listening {
-            Some(listening) => listening.open(),
+            Some(listening) => listening.open(self.stirs.alloc()),
             None => None,
         }
     }
@@ -69,19 +74,16 @@ impl<'a, R: Net<Listener = TcpListener, Stream = TcpStream>> Door for TcpDoor<'a
 
     fn rest(&mut self, most: Option<u64>) {
         if let Some(listening) = &mut self.listening {
-            listening.rest(most);
+            listening.rest(&mut self.stirs, most);
         }
     }
 
     fn next_stir(&mut self) -> Option<Stir> {
-        match &mut self.listening {
-            Some(listening) => listening.next_stir(),
-            None => None,
-        }
+        self.stirs.next()
     }
 
     fn listen(&mut self, port: u16) -> Result<(), Failed> {
-        self.listening = Listening::new(self.net, self.alloc, port);
+        self.listening = Listening::new(self.net, port);
         if self.listening.is_none() {
             return Err(self.fail());
         }

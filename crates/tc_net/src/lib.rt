@@ -5,7 +5,7 @@
 //! thread serves them all.
 //!
 //! ```
-//! let mut door = TcpDoor::new(&rt, alloc);
+//! let mut door = TcpDoor::new(&rt, alloc)?;
 //! door.listen(7000)?;
 //! let mut link = door.accept()?;
 //! write_all(&mut link, b"done\n")?;
@@ -18,6 +18,7 @@ mod departures;
 mod door;
 mod link;
 mod listening;
+mod stirs;
 mod telling;
 mod tries;
 

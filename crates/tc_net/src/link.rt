@@ -7,7 +7,6 @@ use crate::departures::Departures;
 use std::alloc::Global;
 use std::net::{Shutdown, TcpStream};
 use tc_io::{Failed, Link, Sink, SinkFault, Source};
-use tc_lists::NoMemory;
 
 /// A connection, whose errors are counted. A call that a signal interrupts is made again.
 ///
@@ -27,22 +26,16 @@ pub struct TcpLink {
 impl TcpLink {
     /// The connection of this stream, whose reads and writes don't wait. What is written is sent at
     /// once.
-    pub(crate) fn new(alloc: Global, stream: TcpStream) -> Result<TcpLink, NoMemory> {
+    pub(crate) fn new(alloc: Global, stream: TcpStream) -> TcpLink {
         // Without it a reply may come late, but it comes.
         let _ = stream.set_nodelay(true);
-        match Arrivals::new(alloc) {
-            Ok(arrivals) => Ok(TcpLink {
-                stream,
-                arrivals,
-                departures: Departures::new(alloc),
-                is_shut: false,
-                read_faults: 0,
-                write_faults: 0,
-            }),
-            Err(fault) => {
-                close(stream);
-                Err(fault)
-            }
+        TcpLink {
+            stream,
+            arrivals: Arrivals::new(),
+            departures: Departures::new(alloc),
+            is_shut: false,
+            read_faults: 0,
+            write_faults: 0,
         }
     }
 

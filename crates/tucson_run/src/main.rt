@@ -14,24 +14,22 @@ use tc_net::{TcpDoor, TellingDoor};
 use tucson::{Status, tucson};
 
 fn main(rt: HostRuntime) -> ExitCode {
+    let alloc = rt.alloc();
+    let (Ok(words), Ok(door)) = (words(&rt), TcpDoor::new(&rt, alloc)) else {
+        return ExitCode::from(Status::NoMemory.number());
+    };
     let mut source = StdSource::new(rt.stdin());
     let mut sink = StdSink::new(rt.stdout());
-    let mut door = TellingDoor::new(TcpDoor::new(&rt, rt.alloc()), rt.stderr());
-    let status = match words(&rt) {
-        Ok(words) => {
-            let alloc = rt.alloc();
-            tucson(
-                &rt,
-                alloc,
-                &words,
-                &mut source,
-                &mut sink,
-                &NoGate,
-                &mut door,
-            )
-        }
-        Err(_) => Status::NoMemory,
-    };
+    let mut door = TellingDoor::new(door, rt.stderr());
+    let status = tucson(
+        &rt,
+        alloc,
+        &words,
+        &mut source,
+        &mut sink,
+        &NoGate,
+        &mut door,
+    );
     ExitCode::from(status.number())
 }
 
