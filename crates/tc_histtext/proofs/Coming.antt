@@ -1,5 +1,5 @@
 -- Lines that have come, one after another.
-use Rattle.std.proofs.Common.{◌≡◌, ◌≢◌, ◌<◌, ◌≤◌, ◌+◌, ℕ, Bool, List, [], ◌∷◌, ◌++◌, length, drop, Some, None, All, refl, sym, ap, subst, ◌∙◌, arith, append_assoc, append-nil}
+use Rattle.std.proofs.Common.{◌≡◌, ◌≢◌, ◌<◌, ◌≤◌, ◌+◌, ℕ, Bool, List, [], ◌∷◌, ◌++◌, length, map, drop, Some, None, All, refl, sym, ap, subst, ◌∙◌, arith, append_assoc, append-nil}
 use Rattle.std.specs.List.{flat_map}
 use Rattle.std.proofs.lemmas.Grind.{flat_map-append}
 use Rattle.std.proofs.lemmas.List.{length-append, length-drop}
@@ -10,16 +10,17 @@ use Rattle.tc_histtext.proofs.LineLaws.{IsRead, LineLaws}
 use Rattle.tc_histline.specs.Lines.{HasLine, line_text}
 use Rattle.tc_histtext.specs.Machine.{Stage, next, go_on, takes}
 use Rattle.tc_histtext.specs.Machine as stage
-use Rattle.tc_histtext.specs.Reading.{GoesOn, IsAt, IsSound, IsWhole, lines_so_far, stage_of, stage_behind}
+use Rattle.tc_histtext.specs.Reading.{GoesOn, IsAt, IsHeld, IsSound, IsWhole, lines_so_far, stage_of, stage_behind}
 use Rattle.tc_histtext.specs.ReadTexts.{IsFirstFault, IsText, lines_of}
 use Rattle.tc_histline.specs.declared.lines.Line.{Line}
-use Rattle.tc_histline.specs.declared.lines.Line.TheVariants.{First}
+use Rattle.tc_histline.specs.declared.lines.Line.TheVariants.{First, Reaction}
 use Rattle.tc_histline.specs.declared.lines.TextRow.{TextRow}
 use Rattle.tc_histtext.specs.declared.reading.Place.{Place}
 use Rattle.tc_histtext.specs.declared.reading.Place.TheVariants.{Start, Before, Within, Reacting, Telling, Done}
 use Rattle.tc_histtext.specs.declared.reading.Reading.{Reading}
 use Rattle.tc_histtext.specs.declared.read_texts.Text.{Text}
 use Rattle.tc_model.specs.declared.entries.Entry.{Entry}
+use Rattle.tc_model.specs.declared.items.Item.{Item}
 use Rattle.tc_histtext.proofs.Completing.{AreDue}
 use Rattle.tc_histtext.proofs.Decoding.{StartsWith, fault, has_end, has_first, version_or}
 use Rattle.tc_histtext.proofs.Machine.{takes-append}
@@ -32,19 +33,18 @@ some-byte A laws v l has =
     let one = laws.ends v l has in omega (arith, ap length one.ends, length-append one.front (10 ∷ []))
 
 module _ (C A : List (List ℕ)) where
-  abbrev starts_in : Place → Version → List (List Entry) → List (List TextRow) → Bool → Type 0
-  starts_in p v hs ls b = StartsWith v (lines_in C A p v hs ls b)
-
-  starts-place : (p : Place) (v : Version) (hs : List (List Entry)) (ls : List (List TextRow)) (b : Bool) → IsAt p C A hs ls → starts_in p v hs ls b
-  starts-place Start v hs ls b sound = subst (StartsWith v) (sym (nothing C A hs ls sound.0 sound.1)) tt
-  starts-place Before v hs ls b sound = refl
-  starts-place Within v hs ls b sound = refl
-  starts-place Reacting v hs ls b sound = refl
-  starts-place Telling v hs ls b sound = refl
-  starts-place Done v hs ls b sound = refl
+  starts-place : (p : Place) (v : Version) (hs : List (List Entry)) (ls : List (List TextRow)) (b : Bool) (items : List Item) → IsAt p C A hs ls → IsHeld p items
+      → StartsWith v (lines_in C A p v hs ls b ++ map Reaction items)
+  starts-place Start v hs ls b items sound held =
+      subst (StartsWith v) (sym (ap (λ x. x ++ map Reaction items) (nothing C A hs ls sound.0 sound.1) ∙ ap (map Reaction) held)) tt
+  starts-place Before v hs ls b items sound held = refl
+  starts-place Within v hs ls b items sound held = refl
+  starts-place Reacting v hs ls b items sound held = refl
+  starts-place Telling v hs ls b items sound held = refl
+  starts-place Done v hs ls b items sound held = refl
 
   starts : (r : Reading) → IsSound C A r → StartsWith r.version (lines_so_far C A r)
-  starts r sound = starts-place r.place r.version r.histories.items r.logs.items r.blocked sound
+  starts r sound = starts-place r.place r.version r.histories.items r.logs.items r.blocked r.items.items sound.0 sound.1
 
   abbrev AreNamed : Version → Stage → Type 0
   AreNamed v s = AreDue (HasLine v A) (has_first A v) (has_end A v) C A s

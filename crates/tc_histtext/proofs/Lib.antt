@@ -6,6 +6,7 @@ pub mod Machine
 pub mod Completing
 pub mod Growing
 pub mod Steps
+pub mod Settling
 pub mod LineEnds
 pub mod LineLaws
 pub mod Regrouping

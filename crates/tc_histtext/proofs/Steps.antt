@@ -9,7 +9,7 @@ use Rattle.tc_histline.specs.declared.versions.Version.{Version}
 use Rattle.tc_histtext.specs.Machine.{Stage, next, centre_head, agent_head, where_none_is_left, IsBareEntry}
 use Rattle.tc_histtext.specs.Machine as stage
 use Rattle.tc_histtext.specs.ReadTexts.{entry_lines, histories_lines, logs_lines}
-use Rattle.tc_histtext.specs.Reading.{stage_behind, first_lines, last_lines, IsAt, PutLast, PutLastReaction, is_in_histories, is_in_history, is_next, may_tell, place_behind}
+use Rattle.tc_histtext.specs.Reading.{stage_behind, first_lines, last_lines, IsAt, PutLast, PutLastReactions, is_in_histories, is_in_history, is_next, may_tell, place_behind}
 use Rattle.tc_histline.specs.declared.lines.Line.{Line}
 use Rattle.tc_histline.specs.declared.lines.Line.TheVariants.{First, Centre, Agent, Reaction, Row, End}
 use Rattle.tc_histline.specs.declared.lines.Line.TheVariants as line
@@ -207,25 +207,21 @@ module _ (C A : List (List ℕ)) where
   adds_entry Telling v hs gs ls a e is bare put sound = false_not is
   adds_entry Done v hs gs ls a e is bare put sound = false_not is
 
-  -- a reaction
-  reaction_at : (v : Version) (hs gs : List (List Entry)) (ls : List (List TextRow)) (a : Bool) (i : Item) → PutLastReaction hs i gs → IsAt Reacting C A hs ls
-      → Grows Reacting v hs ls a (Reaction i) Reacting v gs ls a
-  reaction_at v hs gs ls a i put sound =
+  -- reactions that the last entry is given
+  pub reactions_put : (v : Version) (hs gs : List (List Entry)) (ls : List (List TextRow)) (a : Bool) (items : List Item) → PutLastReactions hs items gs → IsAt Reacting C A hs ls
+      → (length gs ≡ length hs) × (lines_in Reacting v gs ls a ≡ lines_in Reacting v hs ls a ++ map Reaction items) × IsAt Reacting C A gs ls
+  reactions_put v hs gs ls a items put sound =
       let same : length gs ≡ length hs =
       ap length put.is ∙ (length-push put.before (put.entries ++ put.grown ∷ []) ∙ (sym (length-push put.before (put.entries ++ put.last ∷ [])) ∙ sym (ap length put.was))) in (
-        ap (λ k. Some (stage.Reacting (drop k C))) (sym same),
-        ap (λ x. First v ∷ x) (history_more hs gs ls (Reaction i ∷ []) sound.2
+        same,
+        ap (λ x. First v ∷ x) (history_more hs gs ls (map Reaction items) sound.2
             (ap (histories_lines C) put.is
-            ∙ (histories_lines-grow C put.before (put.entries ++ put.last ∷ []) (put.entries ++ put.grown ∷ []) (Reaction i ∷ [])
+            ∙ (histories_lines-grow C put.before (put.entries ++ put.last ∷ []) (put.entries ++ put.grown ∷ []) (map Reaction items)
             (omega (arith, sound.1, ap length put.was, length-push put.before (put.entries ++ put.last ∷ [])))
-            (entries_lines-grow put.entries put.last put.grown (Reaction i ∷ []) put.put.lines)
-            ∙ ap (λ x. histories_lines C x ++ Reaction i ∷ []) (sym put.was)))),
+            (entries_lines-grow put.entries put.last put.grown (map Reaction items) put.put.lines)
+            ∙ ap (λ x. histories_lines C x ++ map Reaction items) (sym put.was)))),
         (record { before = put.before; entries = put.entries; last = put.grown; is = put.is; reacts = put.put.reacts }, omega (arith, sound.1, same), sound.2),
       )
-
-  pub adds_reaction : (p : Place) (v : Version) (hs gs : List (List Entry)) (ls : List (List TextRow)) (a : Bool) (i : Item) → p ≡ Reacting → PutLastReaction hs i gs → IsAt p C A hs ls
-      → Grows p v hs ls a (Reaction i) p v gs ls a
-  adds_reaction p v hs gs ls a i e put = subst (λ q. IsAt q C A hs ls → Grows q v hs ls a (Reaction i) q v gs ls a) (sym e) (reaction_at v hs gs ls a i put)
 
   -- a row
   row_at : (v : Version) (hs : List (List Entry)) (ls ms : List (List TextRow)) (a : Bool) (r : TextRow) → PutLast ls r ms → IsAt Telling C A hs ls → Grows Telling v hs ls a (Row r) Telling v hs ms a

@@ -1,5 +1,5 @@
 -- A text while it is read, line by line.
-use Rattle.std.specs.Prelude.{◌≡◌, ◌<◌, ◌≤◌, ℕ, Bool, true, false, List, [], ◌∷◌, ◌++◌, length, drop, None, Some}
+use Rattle.std.specs.Prelude.{◌≡◌, ◌<◌, ◌≤◌, ℕ, Bool, true, false, List, [], ◌∷◌, ◌++◌, length, drop, map, None, Some}
 use Rattle.std.specs.Str.{bytes_eq}
 use Rattle.tc_model.specs.declared.entries.Entry.{Entry}
 use Rattle.tc_model.specs.declared.entries.Entry.TheVariants.{Called, Gave, Looked}
@@ -51,12 +51,13 @@ last_lines Reacting b = []
 last_lines Telling b = []
 last_lines Done b = End b ∷ []
 
--- the lines so far
+-- the lines so far; behind the last entry stand reactions that it doesn't have yet
 abbrev pub lines_so_far : List (List ℕ) → List (List ℕ) → Reading → List Line
 lines_so_far centres agents r =
-    first_lines r.place r.version ++
+    (first_lines r.place r.version ++
     (histories_lines centres r.histories.items ++
-    (logs_lines agents r.logs.items ++ last_lines r.place r.blocked))
+    (logs_lines agents r.logs.items ++ last_lines r.place r.blocked))) ++
+    map Reaction r.items.items
 
 -- reactions may stand behind the entry
 abbrev pub Reacts : Entry → Type 0
@@ -83,8 +84,25 @@ IsAt Telling centres agents hs ls =
     (length hs ≡ length centres) × (0 < length ls) × (length ls ≤ length agents)
 IsAt Done centres agents hs ls = (length hs ≡ length centres) × (length ls ≡ length agents)
 
+-- there are such reactions behind an entry that may have them alone
+abbrev pub IsHeld : Place → List Item → Type 0
+IsHeld Start items = items ≡ []
+IsHeld Before items = items ≡ []
+IsHeld Within items = items ≡ []
+IsHeld Reacting items = Unit {0}
+IsHeld Telling items = items ≡ []
+IsHeld Done items = items ≡ []
+
 abbrev pub IsSound : List (List ℕ) → List (List ℕ) → Reading → Type 0
-IsSound centres agents r = IsAt r.place centres agents r.histories.items r.logs.items
+IsSound centres agents r =
+    IsAt r.place centres agents r.histories.items r.logs.items × IsHeld r.place r.items.items
+
+-- the last entry has all of its reactions, and nothing else is new
+pub record Settles (centres agents : List (List ℕ)) (old new : Reading) : Type 0 where
+  pub stage : stage_of centres agents new ≡ stage_of centres agents old
+  pub lines : lines_so_far centres agents new ≡ lines_so_far centres agents old
+  pub sound : IsSound centres agents new
+  pub none : new.items.items ≡ []
 
 -- the line came, and goes behind the others
 pub record GoesOn (centres agents : List (List ℕ)) (old : Reading) (line : Line) (new : Reading)
@@ -145,21 +163,21 @@ pub record PutLast {X : Type 0} (old : List (List X)) (x : X) (new : List (List 
   pub was : old ≡ before ++ last ∷ []
   pub is : new ≡ before ++ (last ++ x ∷ []) ∷ []
 
--- a reaction was put behind those of the entry
-pub record PutReaction (old : Entry) (item : Item) (new : Entry) : Type 0 where
-  pub lines : entry_lines new ≡ entry_lines old ++ Reaction item ∷ []
+-- reactions were put behind those of the entry
+pub record PutReactions (old : Entry) (items : List Item) (new : Entry) : Type 0 where
+  pub lines : entry_lines new ≡ entry_lines old ++ map Reaction items
   pub reacts : Reacts new
 
--- a reaction was put behind those of the last entry of the last history
-pub record PutLastReaction (old : List (List Entry)) (item : Item) (new : List (List Entry))
-    : Type 0 where
+-- reactions were put behind those of the last entry of the last history
+pub record PutLastReactions (old : List (List Entry)) (items : List Item)
+    (new : List (List Entry)) : Type 0 where
   pub before : List (List Entry)
   pub entries : List Entry
   pub last : Entry
   pub grown : Entry
   pub was : old ≡ before ++ (entries ++ last ∷ []) ∷ []
   pub is : new ≡ before ++ (entries ++ grown ∷ []) ∷ []
-  pub put : PutReaction last item grown
+  pub put : PutReactions last items grown
 
 -- the text has the lines so far, a history for each centre and a log for each agent
 pub record IsWhole (centres agents : List (List ℕ)) (r : Reading) (t : Text) : Type 0 where

@@ -4,8 +4,8 @@ ghost use Rattle.std.specs.Prelude.{List, length};
 ghost use Rattle.tc_histtext.specs.Machine.{IsBare};
 ghost use Rattle.tc_histtext.specs.Machine as stage;
 ghost use Rattle.tc_histtext.specs.Reading.{Answers, IsSound, IsWhole, MayReact, PutLast};
-ghost use Rattle.tc_histtext.specs.Reading.{PutLastReaction};
-ghost use Rattle.tc_histtext.specs.Reading.{PutReaction, Reacts, is_in_histories, is_in_history};
+ghost use Rattle.tc_histtext.specs.Reading.{PutLastReactions};
+ghost use Rattle.tc_histtext.specs.Reading.{PutReactions, Reacts, Settles, is_in_histories, is_in_history};
 ghost use Rattle.tc_histtext.specs.Reading.{is_next};
 ghost use Rattle.tc_histtext.specs.Reading.{lines_so_far, may_tell, place_behind, stage_of};
 ghost use Rattle.tc_histline.specs.declared.lines.Line.TheVariants as line;
@@ -35,6 +35,8 @@ pub struct Reading {
     pub place: Place,
     pub version: Version,
     pub histories: Vec<Seq<Entry>>,
+    /// The reactions behind the last entry that it doesn't have yet.
+    pub items: Vec<Item>,
     pub logs: Vec<Seq<TextRow>>,
     pub blocked: bool,
 }
@@ -51,6 +53,7 @@ impl Reading {
             place: Place::Start,
             version: Version::Two,
             histories: Vec::new(alloc),
+            items: Vec::new(alloc),
             logs: Vec::new(alloc),
             blocked: false,
         }
@@ -71,13 +74,37 @@ impl Reading {
     {
         match line {
             Line::First(version) => Ok(self.begin(centres, agents, version)),
-            Line::Centre(name) => self.open_history(alloc, centres, agents, &name),
-            Line::Agent(name) => self.open_log(alloc, centres, agents, &name),
-            Line::Entry(entry) => self.add_entry(centres, agents, entry),
+            Line::Centre(name) => {
+                self.settle(centres, agents)?;
+                self.open_history(alloc, centres, agents, &name)
+            }
+            Line::Agent(name) => {
+                self.settle(centres, agents)?;
+                self.open_log(alloc, centres, agents, &name)
+            }
+            Line::Entry(entry) => {
+                self.settle(centres, agents)?;
+                self.add_entry(centres, agents, entry)
+            }
             Line::Reaction(item) => self.add_reaction(centres, agents, item),
             Line::Row(row) => self.add_row(centres, agents, row),
-            Line::End(blocked) => Ok(self.end(centres, agents, blocked)),
+            Line::End(blocked) => {
+                self.settle(centres, agents)?;
+                Ok(self.end(centres, agents, blocked))
+            }
         }
+    }
+
+    // Gives the last entry its reactions.
+    fn settle(&mut self, centres: &[Name], agents: &[Name]) -> Result<(), NoMemory>
+        requires sound { IsSound centres.now agents.now self.old }
+        ensures { OnOk result (Settles centres.now agents.now self.old self.new) }
+    {
+        if self.items.is_empty() {
+            return Ok(());
+        }
+        push_reactions(&mut self.histories, &mut self.items)?;
+        Ok(())
     }
 
     // Takes the first line.
@@ -104,6 +131,7 @@ impl Reading {
         name: &Name,
     ) -> Result<bool, NoMemory>
         requires sound { IsSound centres.now agents.now self.old }
+        requires settled { self.old.items.items ≡ [] }
         ensures { IfOk result (λ taken. Answers centres.now agents.now self.old
             (line.Centre name.now) taken self.new) }
     {
@@ -124,6 +152,7 @@ impl Reading {
         name: &Name,
     ) -> Result<bool, NoMemory>
         requires sound { IsSound centres.now agents.now self.old }
+        requires settled { self.old.items.items ≡ [] }
         ensures { IfOk result (λ taken. Answers centres.now agents.now self.old
             (line.Agent name.now) taken self.new) }
     {
@@ -138,6 +167,7 @@ impl Reading {
     // Takes the last line.
     fn end(&mut self, centres: &[Name], agents: &[Name], blocked: bool) -> bool
         requires sound { IsSound centres.now agents.now self.old }
+        requires settled { self.old.items.items ≡ [] }
         ensures { Answers centres.now agents.now self.old (line.End blocked) result self.new }
     {
         if !self.may_tell(centres) || self.logs.len() != agents.len() {
@@ -156,6 +186,7 @@ impl Reading {
         entry: Entry,
     ) -> Result<bool, NoMemory>
         requires sound { IsSound centres.now agents.now self.old }
+        requires settled { self.old.items.items ≡ [] }
         requires bare { IsBare (line.Entry entry) }
         ensures { IfOk result (λ taken. Answers centres.now agents.now self.old
             (line.Entry entry) taken self.new) }
@@ -181,7 +212,7 @@ impl Reading {
     {
         match self.place {
             Place::Reacting => {
-                push_reaction(&mut self.histories, item)?;
+                self.items.push(item)?;
                 Ok(true)
             }
             Place::Start | Place::Before | Place::Within | Place::Telling | Place::Done => Ok(
@@ -294,10 +325,12 @@ fn push_last<T: Drop>(lists: &mut Vec<Seq<T>>, thing: T) -> Result<(), NoMemory>
     Ok(())
 }
 
-// Puts a reaction behind those of the last entry of the last history.
-fn push_reaction(histories: &mut Vec<Seq<Entry>>, item: Item) -> Result<(), NoMemory>
+// Puts the reactions behind those of the last entry of the last history.
+fn push_reactions(histories: &mut Vec<Seq<Entry>>, items: &mut Vec<Item>) -> Result<(), NoMemory>
     requires may { MayReact histories.old.items }
-    ensures { OnOk result (PutLastReaction histories.old.items item histories.new.items) }
+    ensures put { OnOk result
+        (PutLastReactions histories.old.items items.old.items histories.new.items) }
+    ensures none { OnOk result (items.new.items ≡ []) }
 {
     let Some(history) = histories.pop() else {
         unreachable!();
@@ -306,15 +339,16 @@ fn push_reaction(histories: &mut Vec<Seq<Entry>>, item: Item) -> Result<(), NoMe
     let Some(entry) = history.pop() else {
         unreachable!();
     };
-    history.push(with_reaction(entry, item)?)?;
+    history.push(with_reactions(entry, items)?)?;
     histories.push(Seq::new(history))?;
     Ok(())
 }
 
-// The entry, with a reaction behind its others.
-fn with_reaction(entry: Entry, item: Item) -> Result<Entry, NoMemory>
+// The entry, with the reactions behind its others.
+fn with_reactions(entry: Entry, more: &mut Vec<Item>) -> Result<Entry, NoMemory>
     requires reacts { Reacts entry }
-    ensures { IfOk result (λ grown. PutReaction entry item grown) }
+    ensures put { IfOk result (λ grown. PutReactions entry more.old.items grown) }
+    ensures none { OnOk result (more.new.items ≡ []) }
 {
     match entry {
         Entry::Called {
@@ -326,22 +360,23 @@ fn with_reaction(entry: Entry, item: Item) -> Result<Entry, NoMemory>
             id,
             op,
             outcome,
-            items: push_item(items, item)?,
+            items: joined(items, more)?,
         }),
         Entry::Gave { id, outcome, items } => Ok(Entry::Gave {
             id,
             outcome,
-            items: push_item(items, item)?,
+            items: joined(items, more)?,
         }),
         Entry::Looked { .. } => unreachable!(),
     }
 }
 
-// The reactions, and one behind them.
-fn push_item(items: Seq<Item>, item: Item) -> Result<Seq<Item>, NoMemory>
-    ensures { IfOk result (λ grown. grown ≡ items ++ item ∷ []) }
+// The reactions, and more behind them.
+fn joined(items: Seq<Item>, more: &mut Vec<Item>) -> Result<Seq<Item>, NoMemory>
+    ensures all { IfOk result (λ grown. grown ≡ items ++ more.old.items) }
+    ensures none { OnOk result (more.new.items ≡ []) }
 {
     let mut items = items.into_vec();
-    items.push(item)?;
+    items.append(more)?;
     Ok(Seq::new(items))
 }

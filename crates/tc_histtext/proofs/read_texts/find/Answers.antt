@@ -6,8 +6,15 @@ use Rattle.tc_histline.specs.Lines.{IsLineAt}
 use Rattle.tc_histline.specs.declared.lines.Line.{Line}
 use Rattle.tc_histtext.specs.Reading.{Answers}
 use Rattle.tc_lists.proofs.Options.{IfNone-at, IfSome-at, none_from_never}
-use Rattle.tc_histtext.proofs.Coming.{HasCome, behind-shorter, more-come, no_line-fault, refused-fault, early-fault, whole-text}
+use Rattle.tc_histtext.proofs.Coming.{HasCome, behind-shorter, more-come, no_line-fault, none-come, refused-fault, early-fault, whole-text}
 use Rattle.tc_histtext.proofs.read_texts.find.Goals as goal
+
+pub loop-rest-init : goal.loop-rest-init
+loop-rest-init c =
+    let centres = c.args.centres.now in
+    let agents = c.args.agents.now in
+    let new = c.new-reading.ensures in
+    none-come centres agents c.args.text.now c.new-reading.result (new.start centres agents) (new.none centres agents) (new.sound centres agents)
 
 pub returns-in_default : goal.returns-in_default
 returns-in_default c =
