@@ -5,6 +5,7 @@ pub mod ClauseTexts
 pub mod ReadOperations
 pub mod ReadOutcomes
 pub mod OneLine
+pub mod EffectKinds
 pub mod ReadItems
 pub mod ReadRows
 pub mod ReadEntries

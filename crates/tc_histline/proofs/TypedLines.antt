@@ -80,7 +80,7 @@ module _ (v : Version) (agents : List (List ℕ)) where
   }
 
   -- so many bytes from the front
-  stands-at : (bytes : List ℕ) (l : Line) (rest : List ℕ) (size : ℕ) → HasLine v agents l → bytes ≡ line_text v agents l ++ rest
+  pub stands-at : (bytes : List ℕ) (l : Line) (rest : List ℕ) (size : ℕ) → HasLine v agents l → bytes ≡ line_text v agents l ++ rest
       → size + length rest ≡ length bytes → IsLineAt v agents bytes l size
   stands-at bytes l rest size has stands behind = record {
     has = has;

@@ -9,3 +9,4 @@ pub mod Rows
 pub mod Entries
 pub mod WrittenLines
 pub mod TypedLines
+pub mod EffectKinds

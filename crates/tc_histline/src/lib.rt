@@ -46,7 +46,7 @@ pub use laws::{items_are_read_again, lines_of_one_text_are_one, parts_of_lines_a
 pub use lines::{Line, TextRow, WrittenLine};
 pub use operations::print_op;
 pub use read_operations::WrittenOp;
-pub use reading::read_line;
+pub use reading::{read_line, read_reaction};
 pub use rows::{print_refusal, print_result, print_row};
 pub use versions::Version;
 

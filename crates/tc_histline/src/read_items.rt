@@ -87,11 +87,19 @@ fn place(bytes: &[u8]) -> Option<(u32, &[u8])>
     Some((number as u32, rest))
 }
 
+// Room for as many effects as most reactions have, where there is one.
+fn room(bytes: &[u8]) -> usize {
+    match bytes {
+        [b' ', ..] => 3,
+        _ => 0,
+    }
+}
+
 // The effects at the front, one behind another, and what stands behind them.
 fn effects<'a>(alloc: Global, bytes: &'a [u8]) -> Result<(Seq<Effect>, &'a [u8]), NoMemory>
     ensures { IfOk result (λ r. (r.0, r.1.now) ≡ effects_at bytes.now) }
 {
-    let mut effects = Vec::new(alloc);
+    let mut effects = Vec::with_capacity(alloc, room(bytes))?;
     let mut rest = bytes;
     for _ in 0..bytes.len() {
         let Some((effect, behind)) = read_effect(alloc, rest)? else {

@@ -3,9 +3,10 @@ ghost use Rattle.std.specs.Prelude.{◌≡◌, IfOk};
 ghost use Rattle.tc_lists.specs.Seen.{seen};
 ghost use Rattle.tc_histline.specs.Outcomes.{common_outcome_at, common_reply_at, effect_at};
 ghost use Rattle.tc_histline.specs.Outcomes.{further_outcome_at, further_reply_at, outcome_at};
+ghost use Rattle.tc_histline.specs.EffectKinds.{effect_kind_at};
 ghost use Rattle.tc_histline.specs.Outcomes.{reply_at, told_at};
 
-use crate::read_words::{Read, quote_behind, tuple_behind};
+use crate::read_words::{Read, quote_behind, tuple, tuple_behind};
 use crate::versions::Version;
 use std::alloc::Global;
 use tc_lists::behind;
@@ -146,14 +147,51 @@ fn further_reply<'a>(alloc: Global, bytes: &'a [u8]) -> Read<'a, Reply>
 pub(crate) fn read_effect<'a>(alloc: Global, bytes: &'a [u8]) -> Read<'a, Effect>
     ensures { IfOk result (λ r. seen r ≡ effect_at bytes.now) }
 {
-    if let Some((tuple, rest)) = tuple_behind(alloc, b" put ", bytes)? {
-        return Ok(Some((Effect::Put(tuple), rest)));
+    let Some((kind, rest)) = effect_kind(bytes) else {
+        return Ok(None);
+    };
+    let Some((tuple, rest)) = tuple(alloc, rest)? else {
+        return Ok(None);
+    };
+    let effect = match kind {
+        EffectKind::Put => Effect::Put(tuple),
+        EffectKind::Took => Effect::Took(tuple),
+        EffectKind::Read => Effect::Read(tuple),
+    };
+    Ok(Some((effect, rest)))
+}
+
+// What an effect did with its tuple.
+#[derive(Clone, Copy)]
+pub enum EffectKind {
+    Put,
+    Took,
+    Read,
+}
+
+// The word of an effect at the front, between spaces.
+#[inline(always)]
+fn effect_kind(bytes: &[u8]) -> Option<(EffectKind, &[u8])>
+    ensures { seen result ≡ effect_kind_at bytes.now }
+{
+    match bytes {
+        [b'\n', ..] => None,
+        [b' ', b'p', b'u', b't', b' ', rest @ ..] => Some((EffectKind::Put, rest)),
+        [b' ', b't', b'o', b'o', b'k', b' ', rest @ ..] => Some((EffectKind::Took, rest)),
+        _ => kind_apart(bytes),
     }
-    if let Some((tuple, rest)) = tuple_behind(alloc, b" took ", bytes)? {
-        return Ok(Some((Effect::Took(tuple), rest)));
+}
+
+// The same, of any.
+fn kind_apart(bytes: &[u8]) -> Option<(EffectKind, &[u8])>
+    ensures { seen result ≡ effect_kind_at bytes.now }
+{
+    if let Some(rest) = behind(bytes, b" put ") {
+        return Some((EffectKind::Put, rest));
     }
-    match tuple_behind(alloc, b" read ", bytes)? {
-        Some((tuple, rest)) => Ok(Some((Effect::Read(tuple), rest))),
-        None => Ok(None),
+    if let Some(rest) = behind(bytes, b" took ") {
+        return Some((EffectKind::Took, rest));
     }
+    let rest = behind(bytes, b" read ")?;
+    Some((EffectKind::Read, rest))
 }

@@ -4,16 +4,21 @@ ghost use Rattle.tc_model.specs.Reactions.{AreClauses, Rule, clauses_text};
 ghost use Rattle.tc_model.specs.Typed.{IsTypedOutcome};
 ghost use Rattle.tc_model.specs.declared.calls.Op.TheVariants.{SetSpec};
 ghost use Rattle.tc_model.specs.declared.entries.Entry.TheVariants.{Called};
+ghost use Rattle.tc_histline.specs.Items.{HasItemLine};
 ghost use Rattle.tc_histline.specs.Lines.{HasLine, IsLineAt, line_text};
+ghost use Rattle.tc_histline.specs.Text.{item_text};
+ghost use Rattle.tc_histline.specs.declared.versions.Version.{Version};
+ghost use Rattle.tc_model.specs.declared.items.Item.{Item};
 ghost use Rattle.tc_histline.specs.declared.lines.Line.{Line};
 ghost use Rattle.tc_histline.specs.declared.lines.Line.TheVariants as line;
 
 use crate::lines::{Line, WrittenLine};
+use crate::read_items::read_item;
 use crate::read_lines::read_written;
 use crate::versions::Version;
 use std::alloc::Global;
 use tc_lists::{NoMemory, Seq};
-use tc_model::{CallId, Clauses, Entry, Op, Outcome};
+use tc_model::{CallId, Clauses, Entry, Item, Op, Outcome};
 use tc_names::Names;
 use tc_spec::{SpecFault, print_spec, read_spec};
 
@@ -54,6 +59,21 @@ pub fn read_line(
             };
             Ok(Some((replacing(alloc, id, clauses, outcome), size)))
         }
+    }
+}
+
+/// The line of a reaction that stands at the front, and how many bytes it has: what `read_line` reads
+/// there, for a caller to whom a line of any kind is too large.
+pub fn read_reaction(alloc: Global, text: &[u8]) -> Result<Option<(Item, usize)>, NoMemory>
+    ensures found { (version : Version) (agents : List (List ℕ)) → IfOk result
+        (λ r. IfSome r (λ x. IsLineAt version agents text.now (line.Reaction x.0) x.1)) }
+    ensures none { IfOk result
+        (λ r. IfNone r ((item : Item) (rest : List ℕ) → HasItemLine item
+        → text.now ≡ item_text item ++ rest → ⊥)) }
+{
+    match read_item(alloc, text)? {
+        Some((item, rest)) => Ok(Some((item, text.len() - rest.len()))),
+        None => Ok(None),
     }
 }
 

@@ -6,11 +6,11 @@ use Rattle.std.proofs.lemmas.List.{length-append, length-drop}
 use Rattle.std.proofs.lemmas.List.Elements.{All-cons, All-drop, All-nil, All-push}
 use Rattle.tc_model.specs.Typed.{AreBytes}
 use Rattle.tc_histline.specs.declared.versions.Version.{Version}
-use Rattle.tc_histtext.proofs.LineLaws.{IsRead, LineLaws}
+use Rattle.tc_histtext.proofs.LineLaws.{LineLaws}
 use Rattle.tc_histline.specs.Lines.{HasLine, line_text}
 use Rattle.tc_histtext.specs.Machine.{Stage, next, go_on, takes}
 use Rattle.tc_histtext.specs.Machine as stage
-use Rattle.tc_histtext.specs.Reading.{GoesOn, IsAt, IsHeld, IsSound, IsWhole, lines_so_far, stage_of, stage_behind}
+use Rattle.tc_histtext.specs.Reading.{GoesOn, IsAt, IsHeld, IsSound, IsStuck, IsWhole, lines_so_far, stage_of, stage_behind}
 use Rattle.tc_histtext.specs.ReadTexts.{IsFirstFault, IsText, lines_of}
 use Rattle.tc_histline.specs.declared.lines.Line.{Line}
 use Rattle.tc_histline.specs.declared.lines.Line.TheVariants.{First, Reaction}
@@ -123,16 +123,9 @@ module _ (C A : List (List ℕ)) where
         (fault A laws.one laws.ends laws.bare C (grouped C A) r.version (lines_so_far C A r) (stage_of C A r) (starts r come.sound) come.good come.taken rest stuck early
         bytes come.split (named, all) (due-place r.version r.place r.histories.items r.logs.items named all))
 
-    -- no line stands there
-    pub no_line-fault : IsRead r.version A rest None → rest ≢ [] → IsFirstFault C A bytes (count + 1)
-    no_line-fault none some = at_fault (λ k more has front. absurd (none k more has front)) (λ empty done. some empty)
-
-    -- one that may not come does
-    pub refused-fault : (l : Line) (size : ℕ) → HasLine r.version A l → rest ≡ line_text r.version A l ++ drop size rest → rest ≢ [] → next C A (stage_of C A r) l ≡ None → IsFirstFault C A bytes (count + 1)
-    refused-fault l size has front some refused =
-        at_fault (λ k more other front_k.
-        subst (λ m. next C A (stage_of C A r) m ≡ None) (laws.one r.version l k (drop size rest) more has other (sym front ∙ front_k)).0 refused)
-        (λ empty done. some empty)
+    -- no line that stands there may come
+    pub stuck-fault : IsStuck C A r rest → rest ≢ [] → IsFirstFault C A bytes (count + 1)
+    stuck-fault stuck some = at_fault stuck (λ empty done. some empty)
 
     -- the bytes end too early
     pub early-fault : rest ≡ [] → (stage_of C A r ≡ stage.Done → ⊥) → IsFirstFault C A bytes (count + 1)

@@ -9,6 +9,7 @@ pub mod Steps
 pub mod Settling
 pub mod LineEnds
 pub mod LineLaws
+pub mod Next
 pub mod Regrouping
 pub mod Decoding
 pub mod Coming

@@ -4,6 +4,7 @@ use Rattle.std.specs.Str.{bytes_eq}
 use Rattle.tc_model.specs.declared.entries.Entry.{Entry}
 use Rattle.tc_model.specs.declared.entries.Entry.TheVariants.{Called, Gave, Looked}
 use Rattle.tc_model.specs.declared.items.Item.{Item}
+use Rattle.tc_histline.specs.Lines.{HasLine, IsLineAt, line_text}
 use Rattle.tc_histline.specs.declared.versions.Version.{Version}
 use Rattle.tc_histtext.specs.Machine.{Stage, next}
 use Rattle.tc_histtext.specs.Machine as stage
@@ -117,6 +118,20 @@ abbrev pub Answers : List (List ℕ) → List (List ℕ) → Reading → Line �
 Answers centres agents old line true new = GoesOn centres agents old line new
 Answers centres agents old line false new =
     next centres agents (stage_of centres agents old) line ≡ None
+
+-- a line stands at the front, so many bytes long, and came
+pub record Comes (centres agents : List (List ℕ)) (old : Reading) (bytes : List ℕ) (size : ℕ)
+    (new : Reading) : Type 0 where
+  pub line : Line
+  pub stands : IsLineAt old.version agents bytes line size
+  pub on : GoesOn centres agents old line new
+
+-- no line that stands at the front may come
+abbrev pub IsStuck : List (List ℕ) → List (List ℕ) → Reading → List ℕ → Type 0
+IsStuck centres agents r bytes =
+    (line : Line) (rest : List ℕ) → HasLine r.version agents line
+    → bytes ≡ line_text r.version agents line ++ rest
+    → next centres agents (stage_of centres agents r) line ≡ None
 
 -- the place is in a history, or where the first may begin
 abbrev pub is_in_histories : Place → Bool

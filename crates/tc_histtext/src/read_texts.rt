@@ -8,7 +8,7 @@ ghost use Rattle.tc_histtext.specs.declared.read_texts.Text.{Text};
 
 use crate::reading::Reading;
 use std::alloc::Global;
-use tc_histline::{TextRow, Version, read_line};
+use tc_histline::{TextRow, Version};
 use tc_lists::{NoMemory, Seq};
 use tc_model::{Entry, bytes_fit};
 use tc_names::Names;
@@ -101,12 +101,9 @@ fn find(
     let mut rest = text;
     let mut count = 0;
     while !rest.is_empty() {
-        let Some((line, size)) = read_line(alloc, reading.version, names, rest)? else {
+        let Some(size) = reading.next(alloc, centres, agents, names, rest)? else {
             return Ok(Found::Fault(count + 1));
         };
-        if !reading.take(alloc, centres, agents, line)? {
-            return Ok(Found::Fault(count + 1));
-        }
         rest = behind(rest, size);
         count += 1;
     }

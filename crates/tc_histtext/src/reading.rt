@@ -1,9 +1,9 @@
 //! A text while it is read, line by line.
 ghost use Rattle.std.specs.Prelude.{◌≡◌, ◌<◌, ◌==◌, ◌++◌, ◌∷◌, [], ℕ, IfNone, IfOk, IfSome, OnOk, drop};
-ghost use Rattle.std.specs.Prelude.{List, length};
+ghost use Rattle.std.specs.Prelude.{◌≢◌, AllPairs, List, length};
 ghost use Rattle.tc_histtext.specs.Machine.{IsBare};
 ghost use Rattle.tc_histtext.specs.Machine as stage;
-ghost use Rattle.tc_histtext.specs.Reading.{Answers, IsSound, IsWhole, MayReact, PutLast};
+ghost use Rattle.tc_histtext.specs.Reading.{Answers, Comes, IsSound, IsStuck, IsWhole, MayReact, PutLast};
 ghost use Rattle.tc_histtext.specs.Reading.{PutLastReactions};
 ghost use Rattle.tc_histtext.specs.Reading.{PutReactions, Reacts, Settles, is_in_histories, is_in_history};
 ghost use Rattle.tc_histtext.specs.Reading.{is_next};
@@ -12,9 +12,10 @@ ghost use Rattle.tc_histline.specs.declared.lines.Line.TheVariants as line;
 
 use crate::read_texts::Text;
 use std::alloc::Global;
-use tc_histline::{Line, TextRow, Version};
+use tc_histline::{Line, TextRow, Version, read_line, read_reaction};
 use tc_lists::{NoMemory, Seq};
 use tc_model::{Entry, Item};
+use tc_names::Names;
 use tc_term::Name;
 
 /// Where the next line stands: before or behind the first, in a history, behind an entry that may
@@ -57,6 +58,36 @@ impl Reading {
             logs: Vec::new(alloc),
             blocked: false,
         }
+    }
+
+    /// Takes the next line, if one stands there that may come: how many bytes it has.
+    ///
+    /// A reaction is read apart: most lines are of one, and what holds a line of any kind is large.
+    pub fn next(
+        &mut self,
+        alloc: Global,
+        centres: &[Name],
+        agents: &[Name],
+        names: &Names,
+        rest: &[u8],
+    ) -> Result<Option<usize>, NoMemory>
+        requires sound { IsSound centres.now agents.now self.old }
+        requires differ { AllPairs ◌≢◌ agents.now }
+        requires named { names.now ≡ agents.now }
+        ensures come { IfOk result (λ r. IfSome r (λ size.
+            Comes centres.now agents.now self.old rest.now size self.new)) }
+        ensures stuck { IfOk result (λ r. IfNone r
+            (IsStuck centres.now agents.now self.old rest.now)) }
+    {
+        if let [b' ', ..] = rest {
+            if let Some((item, size)) = read_reaction(alloc, rest)? {
+                return Ok(self.add_reaction(centres, agents, item)?.then_some(size));
+            }
+        }
+        let Some((line, size)) = read_line(alloc, self.version, names, rest)? else {
+            return Ok(None);
+        };
+        Ok(self.take(alloc, centres, agents, line)?.then_some(size))
     }
 
     /// Takes the next line, if it may come: whether it may.
