@@ -63,6 +63,7 @@ impl Reading {
     /// Takes the next line, if one stands there that may come: how many bytes it has.
     ///
     /// A reaction is read apart: most lines are of one, and what holds a line of any kind is large.
+    #[inline(always)]
     pub fn next(
         &mut self,
         alloc: Global,
