@@ -62,8 +62,9 @@ pub fn read_line(
     }
 }
 
-/// The line of a reaction that stands at the front, and how many bytes it has: what `read_line` reads
-/// there, for a caller to whom a line of any kind is too large.
+/// The line of a reaction that stands at the front, and how many bytes it has.
+///
+/// `read_line` reads it too. Most lines are of reactions, and this moves no line of any kind.
 pub fn read_reaction(alloc: Global, text: &[u8]) -> Result<Option<(Item, usize)>, NoMemory>
     ensures found { (version : Version) (agents : List (List ℕ)) → IfOk result
         (λ r. IfSome r (λ x. IsLineAt version agents text.now (line.Reaction x.0) x.1)) }

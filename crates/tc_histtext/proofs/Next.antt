@@ -1,5 +1,5 @@
 -- The next line, where one stands there that may come.
-use Rattle.std.proofs.Common.{◌≡◌, ℕ, Bool, true, false, List, ◌++◌, Some, None, IfNone, IfSome, drop, sym, subst, ◌∙◌}
+use Rattle.std.proofs.Common.{◌≡◌, ℕ, Bool, true, false, List, ◌++◌, None, IfNone, IfSome, drop, sym, subst, ◌∙◌}
 use Rattle.std.specs.Bool.{then_some}
 use Rattle.tc_histline.specs.Lines.{HasLine, IsLineAt, line_text}
 use Rattle.tc_histline.specs.declared.lines.Line.{Line}

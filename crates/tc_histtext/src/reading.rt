@@ -1,12 +1,11 @@
 //! A text while it is read, line by line.
-ghost use Rattle.std.specs.Prelude.{◌≡◌, ◌<◌, ◌==◌, ◌++◌, ◌∷◌, [], ℕ, IfNone, IfOk, IfSome, OnOk, drop};
-ghost use Rattle.std.specs.Prelude.{◌≢◌, AllPairs, List, length};
+ghost use Rattle.std.specs.Prelude.{◌≡◌, ◌≢◌, ◌<◌, ◌==◌, ◌++◌, [], ℕ, List, AllPairs, IfNone};
+ghost use Rattle.std.specs.Prelude.{IfOk, IfSome, OnOk, drop, length};
 ghost use Rattle.tc_histtext.specs.Machine.{IsBare};
 ghost use Rattle.tc_histtext.specs.Machine as stage;
-ghost use Rattle.tc_histtext.specs.Reading.{Answers, Comes, IsSound, IsStuck, IsWhole, MayReact, PutLast};
-ghost use Rattle.tc_histtext.specs.Reading.{PutLastReactions};
-ghost use Rattle.tc_histtext.specs.Reading.{PutReactions, Reacts, Settles, is_in_histories, is_in_history};
-ghost use Rattle.tc_histtext.specs.Reading.{is_next};
+ghost use Rattle.tc_histtext.specs.Reading.{Answers, Comes, IsSound, IsStuck, IsWhole, MayReact};
+ghost use Rattle.tc_histtext.specs.Reading.{PutLast, PutLastReactions, PutReactions, Reacts};
+ghost use Rattle.tc_histtext.specs.Reading.{Settles, is_in_histories, is_in_history, is_next};
 ghost use Rattle.tc_histtext.specs.Reading.{lines_so_far, may_tell, place_behind, stage_of};
 ghost use Rattle.tc_histline.specs.declared.lines.Line.TheVariants as line;
 

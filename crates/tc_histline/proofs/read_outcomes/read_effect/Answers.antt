@@ -1,4 +1,4 @@
-use Rattle.std.proofs.Common.{◌≡◌, None, Some, sym, ap, ap₂, ◌∙◌}
+use Rattle.std.proofs.Common.{◌≡◌, Some, sym, ap, ◌∙◌}
 use Rattle.tc_lists.specs.AtFront.{and_then, made}
 use Rattle.tc_lists.specs.Seen.{seen}
 use Rattle.tc_histline.specs.EffectKinds.{effect_of}

@@ -1,4 +1,4 @@
-use Rattle.std.proofs.Common.{◌<◌, ◌+◌, ◌==◌, ℕ, Some, None, length, true, sym, ap, subst, ◌∙◌}
+use Rattle.std.proofs.Common.{◌<◌, ◌+◌, ◌==◌, length, true, sym, ap, subst, ◌∙◌}
 use Rattle.std.proofs.lemmas.Bool.{eqb-true, true≢false}
 use Rattle.std.proofs.lemmas.List.{nil_from_length}
 use Rattle.tc_histtext.proofs.LineLaws.{is_read, line_laws}
