@@ -10,7 +10,10 @@ use std::net::TcpStream;
 const MOST_TAKEN: usize = 1_024;
 
 /// How many pieces are dropped at most before nobody waits for the end any more.
-const MOST_DROPPED: u32 = 256;
+const MOST_DROPPED: u32 = 64;
+
+/// How many bytes such a piece has at most.
+const PIECE_DROPPED: usize = 4_096;
 
 /// How a connection stands, behind the bytes that have come.
 #[derive(Clone, Copy, PartialEq, Eq)]
@@ -77,14 +80,17 @@ impl Arrivals {
 
     /// Drops what has come. Whether nothing more comes, or too much has come.
     pub(crate) fn forget(&mut self, stream: &mut TcpStream) -> bool {
+        let mut piece = [0; PIECE_DROPPED];
+        self.to = self.from;
         for _ in self.dropped..MOST_DROPPED {
-            self.from = self.to;
             if self.standing != Standing::Open {
                 return true;
             }
-            if !self.have_come(stream) {
+            let read = receive(stream, &mut piece);
+            if !self.note(read) {
                 return false;
             }
+            self.to = self.from;
             self.dropped = self.dropped.saturating_add(1);
         }
         true
