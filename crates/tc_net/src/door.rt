@@ -16,6 +16,7 @@ use tc_lists::NoMemory;
 #[derive(Drop)]
 pub struct TcpDoor<'a, R: Net<Listener = TcpListener, Stream = TcpStream>> {
     net: &'a R,
+    alloc: Global,
     listening: Option<Listening>,
     stirs: Stirs,
     faults: u64,
@@ -31,6 +32,7 @@ impl<'a, R: Net<Listener = TcpListener, Stream = TcpStream>> TcpDoor<'a, R> {
     {
         Ok(TcpDoor {
             net,
+            alloc,
             listening: None,
             stirs: Stirs::new(alloc)?,
             faults: 0,
@@ -50,7 +52,7 @@ impl<'a, R: Net<Listener = TcpListener, Stream = TcpStream>> TcpDoor<'a, R> {
         ensures { self.new.faults ≡ self.old.faults }
     {
         match &mut self.listening {
-            Some(listening) => listening.open(self.stirs.alloc()),
+            Some(listening) => listening.open(self.alloc),
             None => None,
         }
     }

@@ -14,7 +14,6 @@ pub(crate) const OWN_TOKEN: usize = 0;
 /// What the latest rest has told.
 #[derive(Drop)]
 pub(crate) struct Stirs {
-    alloc: Global,
     events: Events,
     // How many of the events were given.
     given: usize,
@@ -24,15 +23,9 @@ impl Stirs {
     /// None, with room for those of a rest.
     pub(crate) fn new(alloc: Global) -> Result<Stirs, NoMemory> {
         Ok(Stirs {
-            alloc,
             events: Events::with_capacity(alloc, MOST_EVENTS)?,
             given: 0,
         })
-    }
-
-    /// Where its memory is from.
-    pub(crate) fn alloc(&self) -> Global {
-        self.alloc
     }
 
     /// Waits until something stirs, at most so many milliseconds. Whether the listener has.

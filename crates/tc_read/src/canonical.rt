@@ -54,9 +54,11 @@ fn is_barred(term: &Term) -> bool
 #[cycle(canonical)]
 #[inline(always)]
 fn called<'a>(alloc: Global, depth: usize, name: &[u8], rest: &mut Rest<'a>) -> Read
-    ensures term { IfOk result (λ t. called (reads depth) name.now rest.old.budget rest.old.bytes.now
+    ensures term { IfOk result (λ t.
+        called (reads depth) name.now rest.old.budget rest.old.bytes.now
         ≡ read_to (tree_of t) rest.new) }
-    ensures none { IfErr result (λ e. e ≡ NoTerm → called (reads depth) name.now rest.old.budget rest.old.bytes.now ≡ None) }
+    ensures none { IfErr result (λ e. e ≡ NoTerm
+        → called (reads depth) name.now rest.old.budget rest.old.bytes.now ≡ None) }
 {
     rest.pay(name.len())?;
     let args = arguments(alloc, depth, rest)?;
@@ -70,9 +72,12 @@ fn called<'a>(alloc: Global, depth: usize, name: &[u8], rest: &mut Rest<'a>) -> 
 #[cycle(canonical)]
 #[inline(always)]
 fn arguments<'a>(alloc: Global, depth: usize, rest: &mut Rest<'a>) -> ReadArgs
-    ensures term { IfOk result (λ t. arguments (reads depth Alone) rest.old.budget.room.nodes rest.old.budget rest.old.bytes.now
+    ensures term { IfOk result (λ t.
+        arguments (reads depth Alone) rest.old.budget.room.nodes rest.old.budget rest.old.bytes.now
         ≡ read_to t rest.new) }
-    ensures none { IfErr result (λ e. e ≡ NoTerm → arguments (reads depth Alone) rest.old.budget.room.nodes rest.old.budget rest.old.bytes.now ≡ None) }
+    ensures none { IfErr result (λ e. e ≡ NoTerm
+        → arguments (reads depth Alone) rest.old.budget.room.nodes
+        rest.old.budget rest.old.bytes.now ≡ None) }
 {
     let most = rest.budget.room.nodes;
     if most == 0 {
@@ -115,9 +120,13 @@ fn from_second<'a>(
     first: Term,
     rest: &mut Rest<'a>,
 ) -> ReadArgs
-    ensures term { IfOk result (λ t. before (tree_of first) (arguments (reads depth Alone) most rest.old.budget rest.old.bytes.now)
+    ensures term { IfOk result (λ t.
+        before (tree_of first) (arguments (reads depth Alone) most
+        rest.old.budget rest.old.bytes.now)
         ≡ read_to t rest.new) }
-    ensures none { IfErr result (λ e. e ≡ NoTerm → before (tree_of first) (arguments (reads depth Alone) most rest.old.budget rest.old.bytes.now) ≡ None) }
+    ensures none { IfErr result (λ e. e ≡ NoTerm
+        → before (tree_of first) (arguments (reads depth Alone) most
+        rest.old.budget rest.old.bytes.now) ≡ None) }
 {
     if most == 0 {
         return Err(Missing::NoTerm);
@@ -139,9 +148,13 @@ fn from_third<'a>(
     mut terms: Vec<Term>,
     rest: &mut Rest<'a>,
 ) -> ReadArgs
-    ensures term { IfOk result (λ t. prepended terms.items (arguments (reads depth Alone) most rest.old.budget rest.old.bytes.now)
+    ensures term { IfOk result (λ t.
+        prepended terms.items (arguments (reads depth Alone) most
+        rest.old.budget rest.old.bytes.now)
         ≡ read_to t rest.new) }
-    ensures none { IfErr result (λ e. e ≡ NoTerm → prepended terms.items (arguments (reads depth Alone) most rest.old.budget rest.old.bytes.now) ≡ None) }
+    ensures none { IfErr result (λ e. e ≡ NoTerm
+        → prepended terms.items (arguments (reads depth Alone) most
+        rest.old.budget rest.old.bytes.now) ≡ None) }
 {
     for _ in 0..most {
         let term = alone(alloc, depth, rest)?;
@@ -163,7 +176,8 @@ fn from_third<'a>(
 fn named<'a>(alloc: Global, depth: usize, name: &[u8], rest: &mut Rest<'a>) -> Read
     ensures term { IfOk result (λ t. named (reads depth) rest.old.budget name.now rest.old.bytes.now
         ≡ read_to (tree_of t) rest.new) }
-    ensures none { IfErr result (λ e. e ≡ NoTerm → named (reads depth) rest.old.budget name.now rest.old.bytes.now ≡ None) }
+    ensures none { IfErr result (λ e. e ≡ NoTerm
+        → named (reads depth) rest.old.budget name.now rest.old.bytes.now ≡ None) }
 {
     match next_byte(rest.bytes) {
         Some((b'(', after)) => {
@@ -179,7 +193,8 @@ fn named<'a>(alloc: Global, depth: usize, name: &[u8], rest: &mut Rest<'a>) -> R
 fn element<'a>(alloc: Global, depth: usize, rest: &mut Rest<'a>) -> Read
     ensures term { IfOk result (λ t. element (reads depth) rest.old.budget rest.old.bytes.now
         ≡ read_to (tree_of t) rest.new) }
-    ensures none { IfErr result (λ e. e ≡ NoTerm → element (reads depth) rest.old.budget rest.old.bytes.now ≡ None) }
+    ensures none { IfErr result (λ e. e ≡ NoTerm
+        → element (reads depth) rest.old.budget rest.old.bytes.now ≡ None) }
 {
     rest.pay(1)?;
     let first = alone(alloc, depth, rest)?;
@@ -202,7 +217,8 @@ fn cell(alloc: Global, first: Term, last: Term) -> Result<Term, NoMemory>
 fn list<'a>(alloc: Global, depth: usize, rest: &mut Rest<'a>) -> Read
     ensures term { IfOk result (λ t. list (reads depth) rest.old.budget rest.old.bytes.now
         ≡ read_to (tree_of t) rest.new) }
-    ensures none { IfErr result (λ e. e ≡ NoTerm → list (reads depth) rest.old.budget rest.old.bytes.now ≡ None) }
+    ensures none { IfErr result (λ e. e ≡ NoTerm
+        → list (reads depth) rest.old.budget rest.old.bytes.now ≡ None) }
 {
     match next_byte(rest.bytes) {
         None => Err(Missing::NoTerm),
@@ -221,7 +237,8 @@ fn in_quotes<'a>(alloc: Global, depth: usize, inside: &[u8], rest: &mut Rest<'a>
     requires { rest.old.bytes.now ≡ 39 ∷ inside.now }
     ensures term { IfOk result (λ t. node (reads depth) rest.old.budget rest.old.bytes.now
         ≡ read_to (tree_of t) rest.new) }
-    ensures none { IfErr result (λ e. e ≡ NoTerm → node (reads depth) rest.old.budget rest.old.bytes.now ≡ None) }
+    ensures none { IfErr result (λ e. e ≡ NoTerm
+        → node (reads depth) rest.old.budget rest.old.bytes.now ≡ None) }
 {
     match name_at(alloc, rest.bytes, rest.budget.room.name_bytes)? {
         None => Err(Missing::NoTerm),
@@ -237,7 +254,8 @@ fn in_quotes<'a>(alloc: Global, depth: usize, inside: &[u8], rest: &mut Rest<'a>
 fn node<'a>(alloc: Global, depth: usize, rest: &mut Rest<'a>) -> Read
     ensures term { IfOk result (λ t. node (reads depth) rest.old.budget rest.old.bytes.now
         ≡ read_to (tree_of t) rest.new) }
-    ensures none { IfErr result (λ e. e ≡ NoTerm → node (reads depth) rest.old.budget rest.old.bytes.now ≡ None) }
+    ensures none { IfErr result (λ e. e ≡ NoTerm
+        → node (reads depth) rest.old.budget rest.old.bytes.now ≡ None) }
 {
     match next_byte(rest.bytes) {
         None => Err(Missing::NoTerm),
@@ -267,7 +285,8 @@ fn node<'a>(alloc: Global, depth: usize, rest: &mut Rest<'a>) -> Read
 fn closed<'a>(alloc: Global, depth: usize, rest: &mut Rest<'a>) -> Read
     ensures term { IfOk result (λ t. barred (node (reads depth) rest.old.budget rest.old.bytes.now)
         ≡ read_to (tree_of t) rest.new) }
-    ensures none { IfErr result (λ e. e ≡ NoTerm → barred (node (reads depth) rest.old.budget rest.old.bytes.now) ≡ None) }
+    ensures none { IfErr result (λ e. e ≡ NoTerm
+        → barred (node (reads depth) rest.old.budget rest.old.bytes.now) ≡ None) }
 {
     let term = node(alloc, depth, rest)?;
     match rest.next()? {
@@ -281,7 +300,8 @@ fn closed<'a>(alloc: Global, depth: usize, rest: &mut Rest<'a>) -> Read
 fn tail<'a>(alloc: Global, depth: usize, rest: &mut Rest<'a>) -> Read
     ensures term { IfOk result (λ t. tail (reads depth) rest.old.budget rest.old.bytes.now
         ≡ read_to (tree_of t) rest.new) }
-    ensures none { IfErr result (λ e. e ≡ NoTerm → tail (reads depth) rest.old.budget rest.old.bytes.now ≡ None) }
+    ensures none { IfErr result (λ e. e ≡ NoTerm
+        → tail (reads depth) rest.old.budget rest.old.bytes.now ≡ None) }
 {
     match rest.next()? {
         b']' => nil(alloc, rest),
@@ -297,7 +317,8 @@ fn tail<'a>(alloc: Global, depth: usize, rest: &mut Rest<'a>) -> Read
 fn alone<'a>(alloc: Global, depth: usize, rest: &mut Rest<'a>) -> Read
     ensures term { IfOk result (λ t. reads depth Alone rest.old.budget rest.old.bytes.now
         ≡ read_to (tree_of t) rest.new) }
-    ensures none { IfErr result (λ e. e ≡ NoTerm → reads depth Alone rest.old.budget rest.old.bytes.now ≡ None) }
+    ensures none { IfErr result (λ e. e ≡ NoTerm
+        → reads depth Alone rest.old.budget rest.old.bytes.now ≡ None) }
 {
     if depth == 0 {
         return Err(Missing::NoTerm);
@@ -310,7 +331,8 @@ fn alone<'a>(alloc: Global, depth: usize, rest: &mut Rest<'a>) -> Read
 fn behind<'a>(alloc: Global, depth: usize, rest: &mut Rest<'a>) -> Read
     ensures term { IfOk result (λ t. reads depth Behind rest.old.budget rest.old.bytes.now
         ≡ read_to (tree_of t) rest.new) }
-    ensures none { IfErr result (λ e. e ≡ NoTerm → reads depth Behind rest.old.budget rest.old.bytes.now ≡ None) }
+    ensures none { IfErr result (λ e. e ≡ NoTerm
+        → reads depth Behind rest.old.budget rest.old.bytes.now ≡ None) }
 {
     if depth == 0 {
         return Err(Missing::NoTerm);
