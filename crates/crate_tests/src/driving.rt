@@ -1,9 +1,10 @@
 //! Actors at desks of one centre that deny each ask: each item has its row all the same.
 ghost use Rattle.std.specs.Prelude.{◌≡◌, ◌<◌, ◌∷◌, ℕ, List, [], false, IfOk, OnErr, OnOk};
 ghost use Rattle.std.specs.Prelude.{Some, length, slice_get};
+ghost use Rattle.tc_desk.specs.Asks.{steps_of};
 ghost use Rattle.tc_desk.specs.Desks.{with_row};
 ghost use Rattle.tc_desk.specs.Logs.{any_pending};
-ghost use Rattle.tc_sched.specs.Steps.{IsReady, left_of};
+ghost use Rattle.tc_sched.specs.Steps.{ArePlaced, IsReady, left_of};
 
 use std::alloc::Global;
 use std::sync::Wait;
@@ -105,15 +106,11 @@ impl Desk for ClosedDesk {
     }
 }
 
-// An actor of one ask, at a desk of its own with ten turns.
-fn actor(alloc: Global, agent: u32) -> Result<Actor<ClosedDesk>, NoMemory>
-    ensures { IfOk result (λ a. IsReady ⟦<ClosedDesk as Desk>⟧.state 10 ((99 ∷ []) ∷ []) a
-        × (left_of ⟦<ClosedDesk as Desk>⟧.state a ≡ 2)) }
+// Scripts of one ask.
+fn one_ask(alloc: Global) -> Result<Vec<Script>, NoMemory>
+    ensures { IfOk result (λ scripts. ArePlaced 1 scripts.items
+        × (length (steps_of scripts.items) ≡ 1)) }
 {
-    let mut names = Vec::with_capacity(alloc, 1)?;
-    names.push(Name::new(alloc, b"c")?)?;
-    let mut turns = Vec::with_capacity(alloc, 1)?;
-    turns.push(10)?;
     let mut items = Vec::with_capacity(alloc, 1)?;
     items.push(ScriptItem {
         centre: 0,
@@ -121,19 +118,32 @@ fn actor(alloc: Global, agent: u32) -> Result<Actor<ClosedDesk>, NoMemory>
     })?;
     let mut scripts = Vec::with_capacity(alloc, 1)?;
     scripts.push(Script::new(0, items))?;
+    Ok(scripts)
+}
+
+// The first agent, with scripts of one ask, at a desk of its own with ten turns.
+fn actor<'a>(alloc: Global, scripts: &'a [Script]) -> Result<Actor<'a, ClosedDesk>, NoMemory>
+    requires placed { ArePlaced 1 scripts.now }
+    requires one { length (steps_of scripts.now) ≡ 1 }
+    ensures { IfOk result (λ a. IsReady ⟦<ClosedDesk as Desk>⟧.state 10 ((99 ∷ []) ∷ []) a
+        × (left_of ⟦<ClosedDesk as Desk>⟧.state a ≡ 2)) }
+{
+    let mut names = Vec::with_capacity(alloc, 1)?;
+    names.push(Name::new(alloc, b"c")?)?;
+    let mut turns = Vec::with_capacity(alloc, 1)?;
+    turns.push(10)?;
     let log = Vec::new(alloc);
-    let desk = ClosedDesk { names, turns, log };
-    Ok(Actor::new(desk, agent, scripts))
+    Ok(Actor::new(ClosedDesk { names, turns, log }, 0, scripts))
 }
 
 #[test]
 fn a_refused_ask_has_its_row(rt: HostRuntime) -> Result<(), Fail> {
     let alloc = rt.alloc();
     let names = [Name::new(alloc, b"c")?];
-    let mut one = actor(alloc, 0)?;
+    let scripts = one_ask(alloc)?;
+    let mut one = actor(alloc, &scripts)?;
     assert!(rt; one.step(&rt, alloc, &names, &NoGate)? == Step::Moved);
-    let (desk, scripts) = one.finish();
-    assert!(rt; scripts.len() == 1);
+    let desk = one.finish();
     let denied = match desk.log() {
         [row] => row.number == 1 && matches!(row.result, LogResult::Refused(Refusal::Denied)),
         _ => false,
@@ -146,10 +156,10 @@ fn a_refused_ask_has_its_row(rt: HostRuntime) -> Result<(), Fail> {
 fn agents_are_driven_to_their_ends(rt: HostRuntime) -> Result<(), Fail> {
     let alloc = rt.alloc();
     let names = [Name::new(alloc, b"c")?];
-    let mut alone = [actor(alloc, 0)?];
+    let scripts = one_ask(alloc)?;
+    let mut alone = [actor(alloc, &scripts)?];
     drive(&rt, &mut alone, alloc, &names, 2, &NoGate)?;
     let [alone] = alone;
-    let (desk, _) = alone.finish();
-    assert!(rt; desk.log().len() == 1);
+    assert!(rt; alone.finish().log().len() == 1);
     Ok(())
 }

@@ -9,6 +9,7 @@ use Rattle.tc_model.specs.declared.scripts.ScriptItem.{ScriptItem}
 use Rattle.tc_policy.specs.declared.grants.Grant.{Grant}
 use Rattle.tc_config.specs.declared.configs.AgentConf.{AgentConf}
 use Rattle.tc_config.specs.declared.configs.CentreConf.{CentreConf}
+use Rattle.tc_config.specs.declared.configs.Society.{Society}
 use Rattle.tc_config.specs.declared.limits.TheConstants.{MOST_CENTRES, MOST_ROLES, MOST_AGENTS}
 use Rattle.tc_config.specs.declared.limits.TheConstants.{MOST_ITEMS}
 
@@ -23,6 +24,10 @@ abbrev pub configuration :
     List CentreConf → List (List ℕ) → List Grant → List AgentConf → Configuration
 configuration centres role_names roles agents =
     record { centres = centres; role_names = role_names; roles = roles; agents = agents }
+
+-- the one of these centres and all else
+abbrev pub config_with : List CentreConf → Society → Configuration
+config_with centres s = configuration centres s.role_names s.roles s.agents
 
 -- the one of no clause
 abbrev pub nothing : Configuration

@@ -1,6 +1,6 @@
 //! Configurations.
 ghost use Rattle.std.specs.Prelude.{◌≡◌, map, IfOk};
-ghost use Rattle.tc_config.specs.Configurations.{IsConfig, configuration};
+ghost use Rattle.tc_config.specs.Configurations.{IsConfig, config_with};
 ghost use Rattle.tc_config.specs.declared.configs.AgentConf.{AgentConf};
 ghost use Rattle.tc_config.specs.declared.configs.CentreConf.{CentreConf};
 
@@ -29,51 +29,45 @@ pub struct AgentConf {
     pub scripts: Seq<Script>,
 }
 
+/// What is left of a configuration without its centres: the names of roles, what these may do, and
+/// the agents with their scripts.
+#[derive(Drop)]
+pub struct Society {
+    pub role_names: Seq<Name>,
+    pub roles: Roles,
+    pub agents: Seq<AgentConf>,
+}
+
 /// Centres, roles with their grants, and agents with their scripts.
 ///
 /// Names of one kind differ, and the place of each role and centre that is told is one.
 #[derive(Drop)]
 pub struct Config {
     centres: Vec<CentreConf>,
-    role_names: Vec<Name>,
-    roles: Roles,
-    agents: Vec<AgentConf>,
+    society: Society,
 }
 
 impl Model for Config {
     ghost use Rattle.std.specs.Coded.{codes};
     ghost use Rattle.tc_term.specs.TreeCode.{coded_tree, coded_trees};
-    ghost use Rattle.tc_config.specs.Configurations.{Configuration};
+    ghost use Rattle.tc_config.specs.Configurations.{Configuration, IsConfig, config_with};
 
     ghost Value = { Configuration };
 
     ghost coded = { Prim.hlevel (codes, coded_tree, coded_trees) };
 
-    ghost use Rattle.tc_config.specs.Configurations.{IsConfig, configuration};
+    ghost view = { λ c. config_with c.centres.items c.society };
 
-    ghost view = { λ c. configuration c.centres.items c.role_names.items c.roles c.agents.items };
-
-    ghost invariant = { λ c. IsConfig
-        (configuration c.centres.items c.role_names.items c.roles c.agents.items) };
+    ghost invariant = { λ c. IsConfig (config_with c.centres.items c.society) };
 }
 
 impl Config {
     /// The configuration of these.
-    pub fn new(
-        centres: Vec<CentreConf>,
-        role_names: Vec<Name>,
-        roles: Roles,
-        agents: Vec<AgentConf>,
-    ) -> Config
-        requires { IsConfig (configuration centres.items role_names.items roles agents.items) }
-        ensures { result ≡ configuration centres.items role_names.items roles agents.items }
+    pub fn new(centres: Vec<CentreConf>, society: Society) -> Config
+        requires { IsConfig (config_with centres.items society) }
+        ensures { result ≡ config_with centres.items society }
     {
-        Config {
-            centres,
-            role_names,
-            roles,
-            agents,
-        }
+        Config { centres, society }
     }
 
     /// The centres, in the order in which they are declared.
@@ -89,7 +83,7 @@ impl Config {
         ensures names { result.now ≡ self.now.role_names }
         ensures config { IsConfig self.now }
     {
-        &self.role_names
+        self.society.role_names.items()
     }
 
     /// What the roles may do.
@@ -97,7 +91,7 @@ impl Config {
         ensures roles { result.now ≡ self.now.roles }
         ensures config { IsConfig self.now }
     {
-        &self.roles
+        &self.society.roles
     }
 
     /// The agents, in the order in which they are declared.
@@ -105,16 +99,15 @@ impl Config {
         ensures agents { result.now ≡ self.now.agents }
         ensures config { IsConfig self.now }
     {
-        &self.agents
+        self.society.agents.items()
     }
 
-    /// Centres, names of roles, roles and agents, given back. No memory is taken.
-    pub fn into_parts(self) -> (Vec<CentreConf>, Vec<Name>, Roles, Vec<AgentConf>)
-        ensures parts { self
-            ≡ configuration result.0.items result.1.items result.2 result.3.items }
+    /// The centres, and what is left without them. No memory is taken.
+    pub fn into_parts(self) -> (Vec<CentreConf>, Society)
+        ensures parts { self ≡ config_with result.0.items result.1 }
         ensures config { IsConfig self }
     {
-        (self.centres, self.role_names, self.roles, self.agents)
+        (self.centres, self.society)
     }
 }
 

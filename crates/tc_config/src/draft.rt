@@ -3,8 +3,9 @@ ghost use Rattle.std.specs.Prelude.{◌≡◌};
 ghost use Rattle.tc_config.specs.Configurations.{nothing};
 ghost use Rattle.tc_config.specs.Drafts.{IsDraft, config_of};
 
-use crate::configs::{AgentConf, CentreConf, Config};
+use crate::configs::{AgentConf, CentreConf, Config, Society};
 use std::alloc::Global;
+use tc_lists::Seq;
 use tc_names::Names;
 use tc_policy::Roles;
 use tc_term::Name;
@@ -45,5 +46,10 @@ pub fn finish(draft: Draft) -> Config
     requires { IsDraft draft }
     ensures { result ≡ config_of draft }
 {
-    Config::new(draft.centres, draft.role_names, draft.roles, draft.agents)
+    let society = Society {
+        role_names: Seq::new(draft.role_names),
+        roles: draft.roles,
+        agents: Seq::new(draft.agents),
+    };
+    Config::new(draft.centres, society)
 }

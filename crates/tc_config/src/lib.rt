@@ -28,7 +28,7 @@ mod reading;
 mod refusals;
 mod words;
 
-pub use configs::{AgentConf, CentreConf, Config, agent_names, centre_names};
+pub use configs::{AgentConf, CentreConf, Config, Society, agent_names, centre_names};
 pub use faults::{ConfigCause, ConfigFault};
 pub use laws::{
     a_refused_text_spells_nothing, configuration_of_a_text_is_unique, first_good_run_is_good,

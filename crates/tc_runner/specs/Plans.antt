@@ -2,19 +2,17 @@
 use Rattle.std.specs.Prelude.{◌≡◌, ◌≢◌, ◌<◌, ◌^◌, ◌==◌, if◌then◌else◌}
 use Rattle.std.specs.Prelude.{ℕ, List, [], All, AllPairs, length, map}
 use Rattle.tc_centre.specs.Centre.{Centre, centre_from}
-use Rattle.tc_config.specs.Configurations.{Configuration, IsConfig, centre_names}
+use Rattle.tc_config.specs.Configurations.{Configuration, IsConfig, centre_names, config_with}
 use Rattle.tc_config.specs.declared.configs.AgentConf.{AgentConf}
 use Rattle.tc_config.specs.declared.configs.CentreConf.{CentreConf}
+use Rattle.tc_config.specs.declared.configs.Society.{Society}
 use Rattle.tc_model.specs.State.{IsName}
-use Rattle.tc_policy.specs.declared.grants.Grant.{Grant}
 
--- the names of the centres, the grants and the agents are those of the configuration
-pub record IsPlan (centres : List (List ℕ)) (roles : List Grant) (agents : List AgentConf)
-    (c : Configuration) : Type 0 where
+-- the names of the centres and all that isn't theirs are those of the configuration
+pub record IsPlan (centres : List (List ℕ)) (society : Society) (c : Configuration) : Type 0 where
   pub config : IsConfig c
   pub centres_are : centres ≡ centre_names c
-  pub roles_are : roles ≡ c.roles
-  pub agents_are : agents ≡ c.agents
+  pub rest_is : config_with c.centres society ≡ c
 
 -- the names of agents, in order
 abbrev pub names_of : List AgentConf → List (List ℕ)

@@ -31,11 +31,12 @@ pub fn open(alloc: Global, config: Config) -> Result<Opened, NoMemory>
     ensures fresh { IfOk result IsFresh }
 {
     let whole = Snapshot::of(&config);
-    let (centres, _, roles, agents) = config.into_parts();
+    let (centres, society) = config.into_parts();
     let names = centre_names(alloc, &centres)?;
+    let agents = society.agents.items();
     let logs = empty_logs(alloc, agents.len())?;
-    let cores = cores(alloc, &agents, centres)?;
-    let plan = Plan::new(names, roles, agents, whole);
+    let cores = cores(alloc, agents, centres)?;
+    let plan = Plan::new(names, society, whole);
     Ok(Opened { plan, cores, logs })
 }
 

@@ -2,18 +2,17 @@
 use std::alloc::Global;
 use std::marker::Model;
 use std::snapshot::Snapshot;
-use tc_config::{AgentConf, Config};
+use tc_config::{AgentConf, Config, Society};
 use tc_lists::NoMemory;
 use tc_policy::Roles;
 use tc_term::Name;
 
-/// What is left of a configuration whose centres are opened: their names, the grants, and the
-/// agents with their scripts. Contracts see it as the configuration.
+/// What is left of a configuration whose centres are opened: their names, and all that isn't theirs.
+/// Contracts see it as the configuration.
 #[derive(Drop)]
 pub struct Plan {
     centres: Vec<Name>,
-    roles: Roles,
-    agents: Vec<AgentConf>,
+    society: Society,
     config: Snapshot<Config>,
 }
 
@@ -29,7 +28,7 @@ impl Model for Plan {
 
     ghost view = { λ p. p.config.value };
 
-    ghost invariant = { λ p. IsPlan p.centres.items p.roles p.agents.items p.config.value };
+    ghost invariant = { λ p. IsPlan p.centres.items p.society p.config.value };
 }
 
 impl Plan {
@@ -38,29 +37,15 @@ impl Plan {
     ghost use Rattle.tc_runner.specs.Plans.{IsPlan};
 
     /// The plan of this configuration. No memory is taken.
-    pub fn new(
-        centres: Vec<Name>,
-        roles: Roles,
-        agents: Vec<AgentConf>,
-        config: Snapshot<Config>,
-    ) -> Plan
-        requires { IsPlan centres.items roles agents.items config.value }
+    pub fn new(centres: Vec<Name>, society: Society, config: Snapshot<Config>) -> Plan
+        requires { IsPlan centres.items society config.value }
         ensures { result ≡ config.value }
     {
         Plan {
             centres,
-            roles,
-            agents,
+            society,
             config,
         }
-    }
-
-    /// The names of the centres, the grants, and the agents, given back, beside the configuration.
-    pub fn into_parts(self) -> (Vec<Name>, Roles, Vec<AgentConf>, Snapshot<Config>)
-        ensures parts { IsPlan result.0.items result.1 result.2.items self }
-        ensures config { result.3.value ≡ self }
-    {
-        (self.centres, self.roles, self.agents, self.config)
     }
 
     /// The names of the centres, in order.
@@ -86,7 +71,7 @@ impl Plan {
     pub fn roles(&self) -> &Roles
         ensures { result.now ≡ self.now.roles }
     {
-        &self.roles
+        &self.society.roles
     }
 
     /// The agents, in order.
@@ -94,6 +79,6 @@ impl Plan {
         ensures agents { result.now ≡ self.now.agents }
         ensures config { IsConfig self.now }
     {
-        &self.agents
+        self.society.agents.items()
     }
 }

@@ -27,19 +27,19 @@ pub enum Step {
     Ended,
 }
 
-/// An agent with its scripts, at its desk.
+/// An agent with its scripts, which are lent, at its desk.
 ///
 /// The rows of the desk's log are those of the scripts' first items, whatever came of its steps.
 #[derive(Drop)]
-pub struct Actor<D: Desk> {
+pub struct Actor<'a, D: Desk> {
     desk: D,
     agent: u32,
-    scripts: Vec<Script>,
+    scripts: &'a [Script],
     // None before the first step.
     asker: Option<Asker>,
 }
 
-impl<D: Desk> Model for Actor<D> {
+impl<'a, D: Desk> Model for Actor<'a, D> {
     ghost use Rattle.std.specs.Coded.{codes};
     ghost use Rattle.tc_term.specs.TreeCode.{coded_tree, coded_trees};
     ghost use Rattle.tc_sched.specs.Clients.{Client, IsActor};
@@ -48,16 +48,16 @@ impl<D: Desk> Model for Actor<D> {
 
     ghost coded = { Prim.hlevel (codes, coded_tree, coded_trees) };
 
-    ghost view = { λ a. record { desk = a.desk; agent = a.agent; scripts = a.scripts.items } };
+    ghost view = { λ a. record { desk = a.desk; agent = a.agent; scripts = a.scripts.now } };
 
-    ghost invariant = { λ a. IsActor (D.state a.desk) a.scripts.items a.asker };
+    ghost invariant = { λ a. IsActor (D.state a.desk) a.scripts.now a.asker };
 }
 
-impl<D: Desk> Actor<D> {
+impl<'a, D: Desk> Actor<'a, D> {
     /// An actor that has asked nothing yet: the agent of this place, from 0, with its scripts.
-    pub fn new(desk: D, agent: u32, scripts: Vec<Script>) -> Actor<D>
+    pub fn new(desk: D, agent: u32, scripts: &'a [Script]) -> Actor<'a, D>
         requires empty { (D.state desk).log ≡ [] }
-        ensures { result ≡ record { desk = desk; agent = agent; scripts = scripts.items } }
+        ensures { result ≡ record { desk = desk; agent = agent; scripts = scripts.now } }
     {
         Actor {
             desk,
@@ -67,14 +67,13 @@ impl<D: Desk> Actor<D> {
         }
     }
 
-    /// The desk, and the scripts as they were given.
-    pub fn finish(self) -> (D, Vec<Script>)
-        ensures desk { result.0 ≡ self.desk }
-        ensures scripts { result.1.items ≡ self.scripts }
-        ensures rows { IsOfScripts (D.state result.0).names result.1.items (D.state result.0).log }
+    /// The desk.
+    pub fn finish(self) -> D
+        ensures desk { result ≡ self.entry.desk }
+        ensures rows { IsOfScripts (D.state result).names self.entry.scripts
+            (D.state result).log }
     {
-        let Actor { desk, scripts, .. } = self;
-        (desk, scripts)
+        self.desk
     }
 
     /// The agent's place, from 0.
@@ -143,9 +142,9 @@ impl<D: Desk> Actor<D> {
     {
         let mut asker = match self.asker.take() {
             Some(asker) => asker,
-            None => Asker::new(alloc, &self.scripts)?,
+            None => Asker::new(alloc, self.scripts)?,
         };
-        let next = asker.next_ask(alloc, &self.scripts, self.desk.log());
+        let next = asker.next_ask(alloc, self.scripts, self.desk.log());
         self.asker = Some(asker);
         next
     }

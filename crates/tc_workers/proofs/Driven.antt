@@ -20,7 +20,7 @@ use Rattle.tc_sched.specs.Clients.{Client, IsOfScripts}
 use Rattle.tc_sched.specs.Steps.{AllWent, ArePlaced, IsReady, Went, left_in, left_of}
 use Rattle.tc_site.specs.Desks.{AgentState, IsDecidedLog, desk_of}
 use Rattle.tc_site.specs.Sites.{EndedDeskState, SiteState, TURNS}
-use Rattle.tc_workers.specs.Crews.{AreAtDesks, AreLeft, CanDrive, HasRows, IsLeft, bare, ended_of, given_back, with_scripts}
+use Rattle.tc_workers.specs.Crews.{AreAtDesks, AreLeft, CanDrive, HasRows, IsLeft, ended_of}
 use Rattle.tc_workers.proofs.Seating.{scripts_in, scripts_of}
 
 -- the items of scripts, counted
@@ -63,37 +63,37 @@ module _ {W : Type 0} (permits : W → ℕ → ℕ → Primitive → Option ℕ)
       let mine : length (steps_of c.scripts) ≡ items_of a = ap (λ ss. length (steps_of ss)) (cons_head same) ∙ items-counted 0 a.scripts in
       omega (arith, rest, here, mine, sum_by-cons (left_of desk_of) c crew, sum_by-cons items_of a agents)
 
-  module _ (names : List (List ℕ)) (agents : List AgentConf) (olds : List Member) (can : CanDrive s names agents) (at : AreAtDesks permits s agents olds) where
+  module _ (agents : List AgentConf) (olds : List Member) (can : CanDrive s agents) (at : AreAtDesks permits s agents olds) where
     fresh-at : (k : ℕ) (c : Member) → slice_get olds k ≡ Some c → c.desk.log ≡ []
     fresh-at k c here = (at.each k c here).new.log_is
 
-    placed-at : (k : ℕ) (c : Member) → slice_get olds k ≡ Some c → ArePlaced (length names) c.scripts
+    placed-at : (k : ℕ) (c : Member) → slice_get olds k ≡ Some c → ArePlaced (length s.names) c.scripts
     placed-at k c here =
         let same : slice_get (map scripts_in agents) k ≡ Some c.scripts = ap (λ ss. slice_get ss k) (sym at.scripts) ∙ slice_get-map_at scripts_of olds k c here in
         let a = slice_get-map_from scripts_in agents k c.scripts same in
-        subst (ArePlaced (length names)) a.2
-        (All-slice_get (λ (b : AgentConf). ArePlaced (length names) b.scripts) agents k a.0 can.placed a.1)
+        subst (ArePlaced (length s.names)) a.2
+        (All-slice_get (λ (b : AgentConf). ArePlaced (length s.names) b.scripts) agents k a.0 can.placed a.1)
 
-    ready-at : (turns : ℕ) → turns ≤ TURNS → (k : ℕ) (c : Member) → slice_get olds k ≡ Some c → IsReady desk_of turns names c
+    ready-at : (turns : ℕ) → turns ≤ TURNS → (k : ℕ) (c : Member) → slice_get olds k ≡ Some c → IsReady desk_of turns s.names c
     ready-at turns few k c here =
         let new = (at.each k c here).new in
         record {
           free = new.is_free;
-          names = new.names_are ∙ sym can.names_are;
+          names = new.names_are;
           placed = placed-at k c here;
-          turns_left = λ j within. let all = new.turns_are j (subst (λ ns. j < length ns) can.names_are within) in omega (arith, all, few);
+          turns_left = λ j within. let all = new.turns_are j within in omega (arith, all, few);
         }
 
     -- each agent can make its steps, with turns for all of them
-    pub ready : All (IsReady desk_of (3 * left_in desk_of olds + 2) names) olds
+    pub ready : All (IsReady desk_of (3 * left_in desk_of olds + 2) s.names) olds
     ready =
         let left = left-fresh agents olds at.scripts fresh-at in
         let few = can.few_items in
-        All-from_slice_get (IsReady desk_of (3 * left_in desk_of olds + 2) names) olds
+        All-from_slice_get (IsReady desk_of (3 * left_in desk_of olds + 2) s.names) olds
         (ready-at (3 * left_in desk_of olds + 2) (omega (arith, left, few)))
 
   -- after they were driven
-  module _ (names : List (List ℕ)) (agents : List AgentConf) (olds news : List Member) (turns : ℕ) (can : CanDrive s names agents)
+  module _ (agents : List AgentConf) (olds news : List Member) (turns : ℕ) (can : CanDrive s agents)
       (at : AreAtDesks permits s agents olds) (went : WentAll turns olds news) where
     went-at : (k : ℕ) (e : Member) → slice_get news k ≡ Some e → (c : Member) × (slice_get olds k ≡ Some c) × WentOne turns c e
     went-at k e here = AllZip-slice_get (WentOne turns) olds news k e went here
@@ -116,17 +116,6 @@ module _ {W : Type 0} (permits : W → ℕ → ℕ → Primitive → Option ℕ)
     driven-free =
         All-from_slice_get (λ (e : Member). (desk_of e.desk).free ≡ true) news
         (λ k e here. let c = went-at k e here in c.2.kept.free)
-
-    dressed : (ls : List AgentConf) (es : List Member) → map scripts_of es ≡ map scripts_in ls → given_back (map bare ls) es ≡ ls
-    dressed [] [] same = refl
-    dressed [] (e ∷ es) same = refl
-    dressed (a ∷ ls) [] same = absurd (cc)
-    dressed (a ∷ ls) (e ∷ es) same =
-        ap (λ x. with_scripts a x ∷ given_back (map bare ls) es) (cons_head same) ∙ ap (λ xs. a ∷ xs) (dressed ls es (cons_tail same))
-
-    -- the agents have their scripts again
-    pub driven-agents : given_back (map bare agents) news ≡ agents
-    driven-agents = dressed agents news same-scripts
 
     of-site : (k : ℕ) (e : Member) → slice_get news k ≡ Some e → (e.desk.site ≡ s) × (e.desk.agent ≡ k)
     of-site k e here =

@@ -2,7 +2,6 @@ pub mod Grants
 pub mod Follow
 pub mod Closed
 pub mod Seating
-pub mod Leaving
 pub mod Driven
 pub mod Sharing
 pub mod Sends

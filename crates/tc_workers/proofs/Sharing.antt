@@ -14,31 +14,26 @@ use Rattle.tc_runner.specs.Cores.{AreCores, Goes}
 use Rattle.tc_sched.specs.Clients.{IsOfScripts}
 use Rattle.tc_sched.specs.Steps.{ArePlaced}
 use Rattle.tc_site.specs.Desks.{IsDecidedLog}
-use Rattle.tc_site.specs.Sites.{AllAgree, AreClosed, EndedDeskState, IsSiteOf, SiteState}
+use Rattle.tc_site.specs.Sites.{AllAgree, AreClosed, EndedDeskState, IsSiteOf, SiteState, roles_of}
 use Rattle.tc_site.proofs.Configured.{agrees-at, decided-at, origins-left, permits_by}
 use Rattle.tc_workers.specs.Crews.{AreLeft, CanDrive}
 use Rattle.tc_workers.proofs.Closed.{Goes-closed, IsWorked}
 
 module _ (c : Configuration) (config : IsConfig c) where
-  placed-all : All (λ (a : AgentConf). ArePlaced (length (centre_names c)) a.scripts) c.agents
-  placed-all =
-      let many : length (centre_names c) ≡ length c.centres = length-map c.centres (λ (s : CentreConf). s.name) in
-      All-from_slice_get (λ (a : AgentConf). ArePlaced (length (centre_names c)) a.scripts) c.agents
-      (λ k a at. subst (λ n. ArePlaced n a.scripts) (sym many) (All-slice_get (IsAgent c) c.agents k a config.agents at).scripts)
-
-  -- the agents can be driven
-  pub can-drive : (s : SiteState (List Grant)) (names copied : List (List ℕ)) (agents : List AgentConf) (cores : List Centre) (roles : List Grant)
-      → names ≡ centre_names c → copied ≡ names → agents ≡ c.agents → IsSiteOf copied cores agents roles s → CanDrive s names agents
-  can-drive s names copied agents cores roles named copies same site =
+  -- the agents can be driven at a site of its centres
+  pub can-drive : {W : Type 0} (s : SiteState W) (agents : List AgentConf) → s.names ≡ centre_names c → s.roles ≡ roles_of agents → agents ≡ c.agents
+      → CanDrive s agents
+  can-drive s agents named roles same =
       let few = config.few_items in
       let agents_few = config.few_agents in
+      let many : length s.names ≡ length c.centres = ap length named ∙ length-map c.centres (λ (x : CentreConf). x.name) in
       record {
-        names_are = sym copies ∙ sym site.names_are;
-        roles_are = site.roles_are;
+        roles_are = roles;
         few = omega (arith, agents_few, ap length same);
         placed =
-            subst (λ ns. All (λ (a : AgentConf). ArePlaced (length ns) a.scripts) agents) (sym named)
-            (subst (All (λ (a : AgentConf). ArePlaced (length (centre_names c)) a.scripts)) (sym same) placed-all);
+            subst (All (λ (a : AgentConf). ArePlaced (length s.names) a.scripts)) (sym same)
+            (All-from_slice_get (λ (a : AgentConf). ArePlaced (length s.names) a.scripts) c.agents
+            (λ k a at. subst (λ n. ArePlaced n a.scripts) (sym many) (All-slice_get (IsAgent c) c.agents k a config.agents at).scripts));
         few_items = let items = ap (sum_by items_of) same in omega (arith, few, items);
       }
 

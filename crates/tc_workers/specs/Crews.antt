@@ -10,21 +10,12 @@ use Rattle.tc_sched.specs.Steps.{ArePlaced}
 use Rattle.tc_site.specs.Desks.{AgentState, IsNewDesk, IsDecidedLog, desk_of}
 use Rattle.tc_site.specs.Sites.{AreOfSite, EndedDeskState, SiteState, TURNS, roles_of}
 
--- an agent with these scripts, and without any
-abbrev pub with_scripts : AgentConf → List Lines → AgentConf
-with_scripts a scripts = record a { scripts = scripts }
-
-abbrev pub bare : AgentConf → AgentConf
-bare a = with_scripts a []
-
--- what the names of centres and the agents of a site must be, so that these can be driven: each item
--- goes to one of the centres, and turns suffice for all items
-pub record CanDrive {W : Type 0} (s : SiteState W) (names : List (List ℕ)) (agents : List AgentConf)
-    : Type 0 where
-  pub names_are : names ≡ s.names
+-- what the agents of a site must be, so that they can be driven: each item goes to one of the
+-- centres, and turns suffice for all items
+pub record CanDrive {W : Type 0} (s : SiteState W) (agents : List AgentConf) : Type 0 where
   pub roles_are : s.roles ≡ roles_of agents
   pub few : length agents < 2 ^ 32
-  pub placed : All (λ (a : AgentConf). ArePlaced (length names) a.scripts) agents
+  pub placed : All (λ (a : AgentConf). ArePlaced (length s.names) a.scripts) agents
   pub few_items : 6 * sum_by items_of agents + 2 ≤ TURNS
 
 module _ {W : Type 0} (permits : W → ℕ → ℕ → Primitive → Option ℕ) (s : SiteState W) where
@@ -61,9 +52,3 @@ ended_of c = record { site = c.desk.site; agent = c.desk.agent; log = c.desk.log
 -- the rows of the agent's desk are those of its scripts
 abbrev pub HasRows : {W : Type 0} → Client (AgentState W) → Type 0
 HasRows c = IsOfScripts c.desk.site.names c.scripts c.desk.log
-
--- each agent has the scripts of its actor, and is otherwise as it was
-abbrev pub given_back : {W : Type 0}
-    → List AgentConf → List (Client (AgentState W)) → List AgentConf
-given_back (a ∷ agents) (c ∷ crew) = with_scripts a c.scripts ∷ given_back agents crew
-given_back agents crew = []

@@ -12,7 +12,6 @@
 #![tactic(auto)]
 
 mod crew;
-mod scripts;
 mod working;
 
 pub use tc_lists::NoMemory;

@@ -8,7 +8,7 @@ use std::sync::Wait;
 use std::thread::Threads;
 use tc_desk::{Gate, NoGate};
 use tc_lists::NoMemory;
-use tc_runner::{Opened, Plan, go_on};
+use tc_runner::{Opened, go_on};
 use tc_site::{Closed, Site};
 
 /// Runs the scripts of a configuration's agents, from their first asks to their ends.
@@ -52,10 +52,9 @@ fn shared<R: Threads + Wait + Sync, G: Gate + Sync>(
 {
     let Opened { plan, cores, .. } = opened;
     let names = plan.copy_centres(alloc)?;
-    let (centres, roles, agents, config) = plan.into_parts();
-    let (site, kits) = Site::of_cores(alloc, names, cores, &agents, roles.copy(alloc)?)?;
-    let (agents, ended) = drive_all(rt, alloc, &site, kits, agents, &centres, workers, gate)?;
+    let roles = plan.roles().copy(alloc)?;
+    let (site, kits) = Site::of_cores(alloc, names, cores, plan.agents(), roles)?;
+    let ended = drive_all(rt, alloc, &site, kits, plan.agents(), workers, gate)?;
     let Closed { cores, logs } = site.close(alloc, ended)?;
-    let plan = Plan::new(centres, roles, agents, config);
     Ok(Opened { plan, cores, logs })
 }

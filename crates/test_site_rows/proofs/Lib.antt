@@ -1,3 +1,2 @@
 pub mod Seated
 pub mod Driven
-pub mod Settings

@@ -11,7 +11,7 @@ use anyhow::anyhow;
 use std::alloc::Global;
 use std::sync::Wait;
 use std::thread::Threads;
-use tc_config::{AgentConf, Config, centre_names, read_config};
+use tc_config::{AgentConf, Config, read_config};
 use tc_desk::{Desk, NoGate, Warden};
 use tc_lists::NoMemory;
 use tc_policy::Roles;
@@ -26,11 +26,10 @@ agent(a,r). agent(b,r). script(a,[c ? in(p(X)), c ? out(q(X))]). script(b,[c ? o
 /// What the first agent's log tells, and the second's, once each has ended.
 const LOGS: &[u8] = b"1 c tuple p(1)\n2 c done\nended\n1 c done\nended\n";
 
-/// A site, with the names of its centres, its agents, and a kit for each of these.
+/// A configuration, its site, and a kit for each agent.
 #[derive(Drop)]
 struct Setting {
-    names: Vec<Name>,
-    agents: Vec<AgentConf>,
+    config: Config,
     site: Site<Roles>,
     kits: Vec<DeskKit<Roles>>,
 }
@@ -68,17 +67,10 @@ fn setting_of(alloc: Global, config: Config) -> Result<Setting, NoMemory>
     requires some { 0 < length config.agents }
     ensures kits { IfOk result (λ s. AreOfSite (λ (k : KitState (List Grant)). k.site)
         (λ (k : KitState (List Grant)). k.agent) s.site s.kits.items) }
-    ensures can { IfOk result (λ s. CanDrive s.site s.names.items s.agents.items) }
+    ensures can { IfOk result (λ s. CanDrive s.site s.config.agents) }
 {
-    let names = centre_names(alloc, config.centres())?;
     let (site, kits) = Site::new(alloc, &config, config.roles().copy(alloc)?)?;
-    let (_, _, _, agents) = config.into_parts();
-    Ok(Setting {
-        names,
-        agents,
-        site,
-        kits,
-    })
+    Ok(Setting { config, site, kits })
 }
 
 // Drives the agents at their desks. What each log then tells, and what a step more of its agent says.
@@ -91,17 +83,12 @@ fn driven<R: Threads + Wait + Sync>(
     requires workers { 0 < workers }
     requires kits { AreOfSite (λ (k : KitState (List Grant)). k.site)
         (λ (k : KitState (List Grant)). k.agent) setting.site setting.kits.items }
-    requires can { CanDrive setting.site setting.names.items setting.agents.items }
+    requires can { CanDrive setting.site setting.config.agents }
 {
-    let Setting {
-        names,
-        agents,
-        site,
-        kits,
-    } = setting;
-    let mut crew = at_desks(alloc, &site, kits, agents)?;
-    drive(rt, &mut crew, alloc, &names, workers, &NoGate)?;
-    Ok(last_steps(rt, alloc, &names, crew)?)
+    let Setting { config, site, kits } = setting;
+    let mut crew = at_desks(alloc, &site, kits, config.agents())?;
+    drive(rt, &mut crew, alloc, site.names(), workers, &NoGate)?;
+    Ok(last_steps(rt, alloc, site.names(), crew)?)
 }
 
 // Each agent at a desk, with its scripts.
@@ -109,16 +96,16 @@ fn at_desks<'a>(
     alloc: Global,
     site: &'a Site<Roles>,
     kits: Vec<DeskKit<Roles>>,
-    agents: Vec<AgentConf>,
-) -> anyhow::Result<Vec<Actor<AgentDesk<'a, Roles>>>>
+    agents: &'a [AgentConf],
+) -> anyhow::Result<Vec<Actor<'a, AgentDesk<'a, Roles>>>>
     requires kits { AreOfSite (λ (k : KitState (List Grant)). k.site)
         (λ (k : KitState (List Grant)). k.agent) site.now kits.items }
-    requires whole { site.now.roles ≡ roles_of agents.items }
+    requires whole { site.now.roles ≡ roles_of agents.now }
     ensures { IfOk result (λ crew.
-        AreAtDesks ⟦<Roles as Warden>⟧.permits site.now agents.items crew.items) }
+        AreAtDesks ⟦<Roles as Warden>⟧.permits site.now agents.now crew.items) }
 {
     let mut crew = Vec::with_capacity(alloc, kits.len())?;
-    let mut agents = agents.into_iter();
+    let mut agents = agents.iter();
     for kit in kits {
         let Some(agent) = agents.next() else {
             return Err(anyhow!("a kit is no agent's"));
@@ -127,7 +114,7 @@ fn at_desks<'a>(
             return Err(anyhow!("the agents are too many"));
         };
         let desk = AgentDesk::new(alloc, site, kit);
-        crew.push(Actor::new(desk, place, agent.scripts.into_vec()))?;
+        crew.push(Actor::new(desk, place, agent.scripts.items()))?;
     }
     Ok(crew)
 }
@@ -137,15 +124,14 @@ fn last_steps<'a, R: Wait>(
     rt: &R,
     alloc: Global,
     names: &[Name],
-    crew: Vec<Actor<AgentDesk<'a, Roles>>>,
+    crew: Vec<Actor<'a, AgentDesk<'a, Roles>>>,
 ) -> Result<Vec<u8>, NoMemory>
     requires { All (IsReady desk_of 1 names.now) crew.items }
 {
     let mut text = Vec::new(alloc);
     for mut member in crew {
         let step = member.step(rt, alloc, names, &NoGate)?;
-        let (desk, _) = member.finish();
-        append_log(alloc, desk.log(), &mut text)?;
+        append_log(alloc, member.finish().log(), &mut text)?;
         text.extend_from_slice(told(step))?;
     }
     Ok(text)

@@ -1,5 +1,6 @@
 use denote.Param
 use denote.Param.Send.{param_send}
+use mir.Syntax.{named}
 use Rattle.tc_sched.proofs.crowd.round.Lts as lts
 use Rattle.tc_sched.proofs.Sending.{actor_send}
 use Rattle.std.proofs.Common.{◌*◌, ◌+◌, length, sym, arith, subst, List, take, drop, All}
@@ -43,7 +44,7 @@ returns g c = settled g (goal.at.returns g c).After-for_each_chunk_mut
 
 pub for_each_chunk_mut-requires-send-T : goal.for_each_chunk_mut-requires-send-T
 for_each_chunk_mut-requires-send-T g c κs within =
-    let actor = actor_send (denote.Param.param 1 g.row.D) (denote.Param.param 3 g.row.D-Bond) g.D.Desk c.type_bounds.send-D in
+    let actor = actor_send (record { mir = named 0; lft = κs.1.1.1.1.1.1.0 }) (denote.Param.param 1 g.row.D) (denote.Param.param 3 g.row.D-Bond) g.D.Desk c.type_bounds.send-D in
     param_send 1
     (lts.arg-1-1 g.row.R g.row.D g.row.G g.row.D-Bond g.R.laws g.D.laws g.G.laws g.D.Bond.laws g.R.Threads g.R.Threads-dict g.R.Wait g.R.Wait-dict g.D.Desk g.D.Desk-dict g.G.Gate g.G.Gate-dict κs)
     (record { owned = actor.owned; leaving = actor.leaving })

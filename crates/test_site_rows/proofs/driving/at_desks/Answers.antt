@@ -12,19 +12,19 @@ use Rattle.test_site_rows.proofs.driving.at_desks.Goals as goal
 pub loop-kit-preserved : goal.loop-kit-preserved
 loop-kit-preserved c =
     let s = c.args.site.now in
-    let all = c.args.agents.items in
+    let all = c.args.agents.now in
     let crew = c.loop-kit.crew.items in
     let rest = c.next.new.self.rest.items in
-    let left = c.next-in-loop-kit.new.self.rest.items in
-    let agent = c.in-Some-next.agent in
+    let left = c.next-in-loop-kit.new.self.rest in
+    let agent = c.in-Some-next.agent.now in
     let member = c.new.result in
-    let agents : c.loop-kit.agents.rest.items ≡ agent ∷ left = search rules in
-    let kits : Seated permits_by s all (c.in-Some.kit ∷ rest) c.loop-kit.agents.rest.items crew =
-    subst (λ (ks : List (KitState (List Grant))). Seated permits_by s all ks c.loop-kit.agents.rest.items crew) c.in-Some.ensures.steps.0 c.loop-kit.invariant in
+    let agents : c.loop-kit.agents.rest ≡ agent ∷ left = search rules in
+    let kits : Seated permits_by s all (c.in-Some.kit ∷ rest) c.loop-kit.agents.rest crew =
+    subst (λ (ks : List (KitState (List Grant))). Seated permits_by s all ks c.loop-kit.agents.rest crew) c.in-Some.ensures.steps.0 c.loop-kit.invariant in
     let seated : Seated permits_by s all (c.in-Some.kit ∷ rest) (agent ∷ left) crew =
     subst (λ (xs : List AgentConf). Seated permits_by s all (c.in-Some.kit ∷ rest) xs crew) agents kits in
     let desk-is : member.desk ≡ c.new-desk.result = ap (λ (x : Client (AgentState (List Grant))). x.desk) c.new.ensures in
-    let scripts-are : member.scripts ≡ agent.scripts = ap (λ (x : Client (AgentState (List Grant))). x.scripts) c.new.ensures ∙ c.into_vec.ensures in
+    let scripts-are : member.scripts ≡ agent.scripts = ap (λ (x : Client (AgentState (List Grant))). x.scripts) c.new.ensures ∙ c.items.ensures in
     let kit = (seated.kits_are 0 c.in-Some.kit refl).1 in
     let at : IsAtDesk permits_by s (length crew) member = record {
       site = ap (λ (d : AgentState (List Grant)). d.site) desk-is ∙ c.new-desk.ensures.site;

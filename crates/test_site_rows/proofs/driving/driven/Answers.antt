@@ -16,9 +16,9 @@ drive-requires-send-D g c κs within = search (sendable, roles_desk_send) depth 
 pub drive-requires-clause-ready : goal.drive-requires-clause-ready
 drive-requires-clause-ready g c κs within =
     let crew = c.in_ok-crew.crew.items in
-    subst (λ (cs : List Member). All (IsReady desk_of (3 * left_in desk_of cs + 2) c.deref.result.now) cs) (sym c.deref_mut.ensures.value)
-    (subst (λ (ns : List (List ℕ)). All (IsReady desk_of (3 * left_in desk_of crew + 2) ns) crew) (sym c.deref.ensures.value)
-    (ready permits_by c.args.setting.site c.args.setting.names.items c.args.setting.agents.items crew c.requires.can c.in_ok-crew.ensures))
+    subst (λ (cs : List Member). All (IsReady desk_of (3 * left_in desk_of cs + 2) c.names.result.now) cs) (sym c.deref_mut.ensures.value)
+    (subst (λ (ns : List (List ℕ)). All (IsReady desk_of (3 * left_in desk_of crew + 2) ns) crew) (sym c.names.ensures.names)
+    (ready permits_by c.args.setting.site c.args.setting.config.agents crew c.requires.can c.in_ok-crew.ensures))
 
 pub last_steps-requires : goal.last_steps-requires
 last_steps-requires g c =
@@ -26,6 +26,6 @@ last_steps-requires g c =
     let news : List Member = c.drive.new.actors in
     let same = take-append_all news crew c.in_ok-crew.crew.len (search rules) (search rules) in
     let went : Driven crew news = subst (λ (cs : List Member). Driven cs news) c.deref_mut.ensures.value c.in_ok-drive.ensures.went in
-    subst (λ (ns : List (List ℕ)). All (IsReady desk_of 1 ns) (take c.in_ok-crew.crew.len (news ++ drop (length news) crew))) (sym c.deref-2.ensures.value)
-    (subst (All (IsReady desk_of 1 c.args.setting.names.items)) (sym same)
-    (ready-again permits_by c.args.setting.site c.args.setting.names.items c.args.setting.agents.items crew news c.requires.can c.in_ok-crew.ensures went))
+    subst (λ (ns : List (List ℕ)). All (IsReady desk_of 1 ns) (take c.in_ok-crew.crew.len (news ++ drop (length news) crew))) (sym c.names-2.ensures.names)
+    (subst (All (IsReady desk_of 1 c.args.setting.site.names)) (sym same)
+    (ready-again permits_by c.args.setting.site c.args.setting.config.agents crew news c.requires.can c.in_ok-crew.ensures went))

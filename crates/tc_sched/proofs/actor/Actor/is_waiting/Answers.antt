@@ -7,7 +7,7 @@ use Rattle.tc_sched.proofs.actor.Actor.is_waiting.Goals as goal
 pub returns-then-count-gt0 : goal.returns-then-count-gt0
 returns-then-count-gt0 g c =
     let desk = g.D.Desk.state c.self.inside.desk in
-    let scripts = c.self.inside.scripts.items in
+    let scripts = c.self.inside.scripts.now in
     let log = c.log-log.result.now in
     let same : log ≡ desk.log = c.log-log.ensures in
     let of : IsOfScripts desk.names scripts log = subst (IsOfScripts desk.names scripts) (sym same) c.self.invariant.rows in

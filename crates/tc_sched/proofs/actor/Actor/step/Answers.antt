@@ -12,7 +12,7 @@ invariant_of-self g c =
     let e = g.D.Desk.state c.look.new.self in
     let looks = rw c.in-Ok-Answered.field-0-is at c.in-Ok-Answered.ensures.became in
     let gets : Gets d e = looks.0 in
-    answered-actor d e c.self.inside.scripts.items gets.reply c.self.invariant.rows gets.answered c.self.inside.asker c.self.invariant c.look.ensures.kept.names
+    answered-actor d e c.self.inside.scripts.now gets.reply c.self.invariant.rows gets.answered c.self.inside.asker c.self.invariant c.look.ensures.kept.names
 
 pub unreachable-requires-in-Err-TurnsSpent : goal.unreachable-requires-in-Err-TurnsSpent
 unreachable-requires-in-Err-TurnsSpent g c =
@@ -24,17 +24,17 @@ unreachable-requires-in-Err-TurnsSpent g c =
 
 pub call_at-called-requires-clause-inside : goal.call_at-called-requires-clause-inside
 call_at-called-requires-clause-inside g c =
-    next-inside g.D.Desk.state c.args.names.now c.args.self.now (record { desk = c.self-2.inside.desk; agent = c.self-2.inside.agent; scripts = c.self-2.inside.scripts.items }) c.in_ok-next.field-0 c.in-Some.next
+    next-inside g.D.Desk.state c.args.names.now c.args.self.now (record { desk = c.self-2.inside.desk; agent = c.self-2.inside.agent; scripts = c.self-2.inside.scripts.now }) c.in_ok-next.field-0 c.in-Some.next
     (c.self-2.view_is ∙ c.next_ask.ensures.same) c.requires.ready c.in-Some.is c.in_ok-next.ensures.some
 
 -- what has come of the call
 came : (g : Over) (c : After-moved g)
     → Stepped g.D.Desk.state g.D.Desk.bond g.D.Desk.sound c.args.self.now
-    (record { desk = c.self-2.inside.desk; agent = c.self-2.inside.agent; scripts = c.self-2.inside.scripts.items })
+    (record { desk = c.self-2.inside.desk; agent = c.self-2.inside.agent; scripts = c.self-2.inside.scripts.now })
     c.call_at-called.new.self c.self-2.inside.asker c.moved.result
 came g c =
     stepped g.D.Desk.state g.D.Desk.bond g.D.Desk.sound c.args.self.now
-    (record { desk = c.self-2.inside.desk; agent = c.self-2.inside.agent; scripts = c.self-2.inside.scripts.items })
+    (record { desk = c.self-2.inside.desk; agent = c.self-2.inside.agent; scripts = c.self-2.inside.scripts.now })
     c.call_at-called.new.self c.self-2.inside.asker (c.self-2.view_is ∙ c.next_ask.ensures.same)
     (record {
       bound = c.call_at-called.ensures.bond;
