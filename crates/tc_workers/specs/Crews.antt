@@ -1,9 +1,8 @@
 -- Agents at the desks of a site, before they are driven and afterwards.
 use Rattle.std.specs.Prelude.{◌≡◌, ℕ, ◌+◌, ◌*◌, ◌^◌, ◌<◌, ◌≤◌, Option, Some}
-use Rattle.std.specs.Prelude.{List, [], ◌∷◌, All, length, map, slice_get, sum_by}
+use Rattle.std.specs.Prelude.{List, All, length, map, slice_get, sum_by}
 use Rattle.tc_config.specs.Configurations.{items_of}
 use Rattle.tc_config.specs.declared.configs.AgentConf.{AgentConf}
-use Rattle.tc_model.specs.Scripts.{Lines}
 use Rattle.tc_model.specs.declared.asks.Primitive.{Primitive}
 use Rattle.tc_sched.specs.Clients.{Client, IsOfScripts}
 use Rattle.tc_sched.specs.Steps.{ArePlaced}

@@ -53,8 +53,9 @@ fn shared<R: Threads + Wait + Sync, G: Gate + Sync>(
     let Opened { plan, cores, .. } = opened;
     let names = plan.copy_centres(alloc)?;
     let roles = plan.roles().copy(alloc)?;
-    let (site, kits) = Site::of_cores(alloc, names, cores, plan.agents(), roles)?;
-    let ended = drive_all(rt, alloc, &site, kits, plan.agents(), workers, gate)?;
+    let agents = plan.agents();
+    let (site, kits) = Site::of_cores(alloc, names, cores, agents, roles)?;
+    let ended = drive_all(rt, alloc, &site, kits, agents, workers, gate)?;
     let Closed { cores, logs } = site.close(alloc, ended)?;
     Ok(Opened { plan, cores, logs })
 }

@@ -1,4 +1,5 @@
-use Rattle.std.proofs.Common.{◌≡◌, ◌∙◌, ◌<◌, ◌++◌, ◌∷◌, [], List, length, get_or, refl, sym, ap, subst, rules, arith}
+use Rattle.std.proofs.Common.{◌≡◌, ◌∙◌, ◌∷◌, List, length, get_or, refl, sym, ap, subst, rules, arith}
+use Rattle.tc_config.specs.declared.configs.AgentConf.{AgentConf}
 use Rattle.tc_policy.specs.declared.grants.Grant.{Grant}
 use Rattle.tc_sched.specs.Clients.{Client}
 use Rattle.tc_site.specs.Desks.{AgentState, IsNewDesk, IsDecidedLog, desk_of}
@@ -41,9 +42,10 @@ loop-kit-preserved c =
     let seating : Seating permits_by s agents (c.in-Some.kit ∷ rest) crew =
     subst (λ (kits : List (KitState (List Grant))). Seating permits_by s agents kits crew) c.in-Some.ensures.steps.0 c.loop-kit.invariant in
     let is : a ≡ get_or agents (length crew) a = search rules in
+    let place : get_or agents c.len-agent.result a ≡ a = search rules in
     let desk-is : member.desk ≡ c.new-desk.result = ap (λ (x : Client (AgentState (List Grant))). x.desk) c.new.ensures in
     let scripts-are : member.scripts ≡ a.scripts =
-    ap (λ (x : Client (AgentState (List Grant))). x.scripts) c.new.ensures ∙ c.items.ensures in
+    ap (λ (x : Client (AgentState (List Grant))). x.scripts) c.new.ensures ∙ c.items.ensures ∙ ap (λ (x : AgentConf). x.scripts) place in
     let kit = (seating.kits 0 c.in-Some.kit refl).1 in
     let at : IsAtDesk permits_by s (length crew) member = record {
       site = ap (λ (d : AgentState (List Grant)). d.site) desk-is ∙ c.new-desk.ensures.site;

@@ -1,5 +1,5 @@
 use denote.Param.Send.{sendable}
-use Rattle.std.proofs.Common.{◌≡◌, ◌∙◌, ◌+◌, ◌*◌, true, List, All, map, sym, ap, subst, rules}
+use Rattle.std.proofs.Common.{◌≡◌, ◌∙◌, ◌+◌, ◌*◌, ℕ, true, List, All, map, sym, ap, subst, rules}
 use Rattle.tc_lists.proofs.Parts.{take-append_all}
 use Rattle.tc_lists.proofs.Results.{IfOk-both}
 use Rattle.tc_sched.specs.Steps.{IsReady, left_in}

@@ -1,4 +1,6 @@
-use Rattle.std.proofs.Common.{◌≡◌, ◌∙◌, ◌++◌, ◌∷◌, [], true, List, All, map, sym, ap, subst}
+use Rattle.std.proofs.Common.{◌≡◌, ◌∙◌, ◌++◌, ◌∷◌, [], true, List, All, map, map-id, rules, sym, ap, subst}
+use Rattle.std.proofs.lemmas.Iterator.Adapters.{YieldsList-from_vec}
+use Rattle.std.proofs.lemmas.Iterator.Consumers.{YieldsList-end}
 use Rattle.std.proofs.lemmas.List.{map_push}
 use Rattle.std.proofs.lemmas.List.Elements.{All-append, All-cons, All-nil, All-tail}
 use Rattle.tc_policy.specs.declared.grants.Grant.{Grant}
@@ -7,6 +9,12 @@ use Rattle.tc_site.specs.Desks.{AgentState, desk_of}
 use Rattle.tc_site.specs.Sites.{EndedDeskState}
 use Rattle.tc_workers.specs.Crews.{HasRows, ended_of}
 use Rattle.tc_workers.proofs.crew.end_all.Goals as goal
+
+pub returns-clause-rows : goal.returns-clause-rows
+returns-clause-rows c =
+    let all = YieldsList-end (YieldsList-from_vec {s = c.into_iter-member-iterator.result} c.args.crew.items (search rules) (search rules))
+    c.loop-member.yielded c.loop-member.member-iterator c.loop-member.yielded_by c.next.result c.next.new.self c.in-None.is c.next.ensures.steps in
+    subst (All HasRows) (sym (map-id c.loop-member.yielded) ∙ all.0) c.loop-member.invariant.rows
 
 pub loop-member-preserved : goal.loop-member-preserved
 loop-member-preserved c =
