@@ -1,5 +1,5 @@
 -- The agents once they were driven.
-use Rattle.std.proofs.Common.{◌≡◌, ◌∙◌, ℕ, ◌+◌, ◌*◌, ◌<◌, List, Option, Some, All, length, sym, subst, arith}
+use Rattle.std.proofs.Common.{◌≡◌, ◌∙◌, ℕ, ◌+◌, ◌*◌, List, Option, Some, All, length, sym, subst, arith}
 use Rattle.std.specs.List.{slice_get}
 use Rattle.tc_config.specs.declared.configs.AgentConf.{AgentConf}
 use Rattle.tc_lists.proofs.Elements.{All-slice_get, All-from_slice_get}

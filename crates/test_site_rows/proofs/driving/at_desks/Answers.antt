@@ -15,12 +15,12 @@ loop-kit-preserved c =
     let all = c.args.agents.now in
     let crew = c.loop-kit.crew.items in
     let rest = c.next.new.self.rest.items in
-    let left = c.next-in-loop-kit.new.self.rest in
+    let left = c.next-in-loop-kit.new.self.rest.now in
     let agent = c.in-Some-next.agent.now in
     let member = c.new.result in
-    let agents : c.loop-kit.agents.rest ≡ agent ∷ left = search rules in
-    let kits : Seated permits_by s all (c.in-Some.kit ∷ rest) c.loop-kit.agents.rest crew =
-    subst (λ (ks : List (KitState (List Grant))). Seated permits_by s all ks c.loop-kit.agents.rest crew) c.in-Some.ensures.steps.0 c.loop-kit.invariant in
+    let agents : c.loop-kit.agents.rest.now ≡ agent ∷ left = search rules in
+    let kits : Seated permits_by s all (c.in-Some.kit ∷ rest) c.loop-kit.agents.rest.now crew =
+    subst (λ (ks : List (KitState (List Grant))). Seated permits_by s all ks c.loop-kit.agents.rest.now crew) c.in-Some.ensures.steps.0 c.loop-kit.invariant in
     let seated : Seated permits_by s all (c.in-Some.kit ∷ rest) (agent ∷ left) crew =
     subst (λ (xs : List AgentConf). Seated permits_by s all (c.in-Some.kit ∷ rest) xs crew) agents kits in
     let desk-is : member.desk ≡ c.new-desk.result = ap (λ (x : Client (AgentState (List Grant))). x.desk) c.new.ensures in

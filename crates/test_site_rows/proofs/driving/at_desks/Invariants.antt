@@ -3,4 +3,4 @@ use Rattle.tc_site.proofs.Configured.{permits_by}
 use Rattle.test_site_rows.proofs.driving.at_desks.Given as goal
 
 abbrev pub invariant-loop-kit : goal.invariant-loop-kit
-invariant-loop-kit l = Seated permits_by l.site l.fn.agents l.kit-iterator.rest.items l.agents.rest l.crew.items
+invariant-loop-kit l = Seated permits_by l.site l.fn.agents l.kit-iterator.rest.items l.agents.rest.now l.crew.items
