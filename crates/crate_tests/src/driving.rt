@@ -159,7 +159,10 @@ fn agents_are_driven_to_their_ends(rt: HostRuntime) -> Result<(), Fail> {
     let scripts = one_ask(alloc)?;
     let mut alone = [actor(alloc, &scripts)?];
     drive(&rt, &mut alone, alloc, &names, 2, &NoGate)?;
-    let [alone] = alone;
-    assert!(rt; alone.finish().log().len() == 1);
+    let rows = match alone.into_iter().next() {
+        Some(alone) => alone.finish().log().len(),
+        None => 0,
+    };
+    assert!(rt; rows == 1);
     Ok(())
 }
