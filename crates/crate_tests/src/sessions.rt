@@ -123,6 +123,10 @@ impl<'a> Link for Patient<'a> {
         true
     }
 
+    fn set_blocking(&mut self) -> bool {
+        false
+    }
+
     fn leave(&mut self) -> bool {
         true
     }

@@ -113,6 +113,10 @@ impl Link for MemLink {
         true
     }
 
+    fn set_blocking(&mut self) -> bool {
+        true
+    }
+
     fn leave(&mut self) -> bool {
         true
     }

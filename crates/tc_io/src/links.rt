@@ -12,8 +12,8 @@ use crate::{Failed, Sink, Source};
 ///
 /// A read leaves what it keeps as a sink, and a write what it keeps as a source.
 pub trait Link: Source + Sink {
-    /// Whether a read is answered without a wait. Nothing is claimed of that: it is a hint, as the
-    /// two that follow are.
+    /// Whether a read is answered without a wait, or may wait. Nothing is claimed of that: it is a
+    /// hint, as what the next three calls tell is.
     fn has_come(&mut self) -> bool
         ensures source { source_of Self.Source.left Self.Source.read_faults Self.Source.sure self.new
             ≡ source_of Self.Source.left Self.Source.read_faults Self.Source.sure self.old }
@@ -30,8 +30,16 @@ pub trait Link: Source + Sink {
         ensures sink { sink_of Self.Sink.taken Self.Sink.write_faults Self.Sink.sure self.new
             ≡ sink_of Self.Sink.taken Self.Sink.write_faults Self.Sink.sure self.old };
 
+    /// Has reads and writes block from now on, by who has nothing else to do meanwhile. Whether they
+    /// do.
+    fn set_blocking(&mut self) -> bool
+        ensures source { source_of Self.Source.left Self.Source.read_faults Self.Source.sure self.new
+            ≡ source_of Self.Source.left Self.Source.read_faults Self.Source.sure self.old }
+        ensures sink { sink_of Self.Sink.taken Self.Sink.write_faults Self.Sink.sure self.new
+            ≡ sink_of Self.Sink.taken Self.Sink.write_faults Self.Sink.sure self.old };
+
     /// Tells the peer that nothing more is written, and forgets what has come from it. Whether the
-    /// peer has ended, too.
+    /// peer has ended, too. It doesn't block.
     fn leave(&mut self) -> bool;
 
     ghost of_source: { (l : Self) → Self.Source.other l

@@ -10,13 +10,16 @@ use tc_io::{Failed, Link, Sink, SinkFault, Source};
 
 /// A connection, whose errors are counted. A call that a signal interrupts is made again.
 ///
-/// No write waits: what the system doesn't take is kept, and goes on when there is room. Where that
-/// fails, each later call does. A read waits until something has come. Where the connection is
-/// dropped, what its peer has sent is read first, so that the peer gets the last bytes.
+/// No write waits, unless it is set to block: what the system doesn't take is kept, and goes on when
+/// there is room. Where that fails, each later call does. A read waits until something has come.
+/// Where the connection is dropped, what its peer has sent is read first, so that the peer gets the
+/// last bytes.
 pub struct TcpLink {
     stream: TcpStream,
     arrivals: Arrivals,
     departures: Departures,
+    // Whether reads and writes block.
+    is_blocking: bool,
     // Whether the peer was told that nothing more is written.
     is_shut: bool,
     read_faults: u64,
@@ -33,6 +36,7 @@ impl TcpLink {
             stream,
             arrivals: Arrivals::new(),
             departures: Departures::new(alloc),
+            is_blocking: false,
             is_shut: false,
             read_faults: 0,
             write_faults: 0,
@@ -58,6 +62,7 @@ impl Drop for TcpLink {
             stream,
             arrivals: _,
             departures: _,
+            is_blocking: _,
             is_shut: _,
             read_faults: _,
             write_faults: _,
@@ -115,7 +120,9 @@ impl Link for TcpLink {
     ghost of_sink = { λ l. refl };
 
     fn has_come(&mut self) -> bool {
-        self.departures.have_failed() || self.arrivals.have_come(&mut self.stream)
+        self.is_blocking
+            || self.departures.have_failed()
+            || self.arrivals.have_come(&mut self.stream)
     }
 
     fn has_more(&self) -> bool {
@@ -126,7 +133,16 @@ impl Link for TcpLink {
         self.departures.are_gone(&mut self.stream)
     }
 
+    fn set_blocking(&mut self) -> bool {
+        self.is_blocking = self.is_blocking || self.stream.set_nonblocking(false).is_ok();
+        self.is_blocking
+    }
+
     fn leave(&mut self) -> bool {
+        if self.is_blocking && self.stream.set_nonblocking(true).is_err() {
+            return true;
+        }
+        self.is_blocking = false;
         // Each makes the connection stir once more, so a second one would never be the last.
         if !self.is_shut {
             self.is_shut = true;

@@ -146,6 +146,17 @@ impl<D: Desk + Drop, L: Link + Drop> Session<D, L> {
         }
     }
 
+    /// Has reads and writes of the link block from now on. Whether they do.
+    pub fn set_blocking(&mut self) -> bool
+        ensures underway { (from : Moment) → IsUnderway D.state L.Source.left L.Source.read_faults
+            L.Source.sure L.Sink.taken L.Sink.write_faults L.Sink.sure from self.old
+            → IsUnderway D.state L.Source.left L.Source.read_faults L.Source.sure L.Sink.taken
+            L.Sink.write_faults L.Sink.sure from self.new }
+        ensures desk { self.new.desk ≡ self.old.desk }
+    {
+        self.link.set_blocking()
+    }
+
     /// Whether a call is pending.
     pub fn is_pending(&self) -> bool
         ensures { result ≡ any_pending (D.state self.now.desk).log }

@@ -1,5 +1,5 @@
 -- How a seat stands after its session has gone on.
-use Rattle.std.proofs.Common.{◌≡◌, ◌∙◌, ◌⊎◌, ◌&&◌, ℕ, Bool, true, false, IsTrue, List, [], Option, Some, None, refl, sym, ap, subst, ⊎_elim}
+use Rattle.std.proofs.Common.{◌≡◌, ◌∙◌, ◌&&◌, ℕ, Bool, true, false, IsTrue, List, [], Option, Some, None, IfSome, IsSomeAnd, refl, sym, ap, subst}
 use Rattle.tc_desk.specs.Desks.{DeskState}
 use Rattle.tc_io.specs.Links.{connection_of}
 use Rattle.tc_io.specs.Sinks.{sink_of}
@@ -88,6 +88,20 @@ module _ {L : Type 0} (left : L → Option (List ℕ)) (read_faults : L → ℕ)
         };
       })
 
+-- a session that goes on with the same desk
+module _ {L : Type 0} (left : L → Option (List ℕ)) (read_faults : L → ℕ) (read_sure : L → Bool)
+    (taken : L → Option (List ℕ)) (write_faults : L → ℕ) (write_sure : L → Bool)
+    (permits : List Grant → ℕ → ℕ → Primitive → Option ℕ) (kit : KitState (List Grant)) (opened : L) where
+  pub sits-same : (s t : Sitting (AgentState (List Grant)) L)
+      → IsSitting left read_faults read_sure taken write_faults write_sure permits kit opened s → t.desk ≡ s.desk
+      → ((from : Moment) → IsUnderway desk_of left read_faults read_sure taken write_faults write_sure from s
+      → IsUnderway desk_of left read_faults read_sure taken write_faults write_sure from t)
+      → IsSitting left read_faults read_sure taken write_faults write_sure permits kit opened t
+  sits-same s t sits same =
+      sits-on left read_faults read_sure taken write_faults write_sure permits kit opened s t sits
+      (ap (λ (d : AgentState (List Grant)). (d.site, d.agent)) same)
+      (subst (λ (d : AgentState (List Grant)). IsDecidedLog permits d.site d.agent d.log) (sym same))
+
 -- a session that begins
 module _ {L : Type 0} (left : L → Option (List ℕ)) (read_faults : L → ℕ) (read_sure : L → Bool)
     (taken : L → Option (List ℕ)) (write_faults : L → ℕ) (write_sure : L → Bool)
@@ -140,13 +154,20 @@ module _ {L : Type 0} (left : L → Option (List ℕ)) (read_faults : L → ℕ)
       subst (λ (x : SessionEnd). IsLeft permits kit (connection_of left read_sure write_sure opened) e x) (sym is)
       (subst (λ (x : EndedDeskState (List Grant)). IsLeft permits kit (connection_of left read_sure write_sure opened) x end) (sym desk) one)
 
+  -- where a session has ended and is taken, what it leaves is left
+  pub seat-ended : (session : Option (Sitting (AgentState (List Grant)) L)) (rest : Option (Left L)) (d : EndedDeskState (List Grant)) (end : SessionEnd)
+      → session ≡ None → IsSomeAnd rest (λ (l : Left L). l.desk ≡ d) → IfSome rest (λ (l : Left L). l.end ≡ end)
+      → IsLeft permits kit (connection_of left read_sure write_sure opened) d end
+      → IsSeat left read_faults read_sure taken write_faults write_sure permits kit opened session rest
+  seat-ended session None d end none some is one = absurd some
+  seat-ended session (Some l) d end none desk is one = seat-left session l none (left-same d l.desk end l.end desk is one)
+
 -- a session that isn't over is underway
 pub not-over : {D L : Type 0} (state : D → DeskState) (left : L → Option (List ℕ)) (read_faults : L → ℕ) (read_sure : L → Bool)
     (taken : L → Option (List ℕ)) (write_faults : L → ℕ) (write_sure : L → Bool) (from : Moment) (step : Step) (s : Sitting D L)
-    → (step ≡ Answered) ⊎ ((step ≡ Read) ⊎ (step ≡ Paused)) → GoesOn state left read_faults read_sure taken write_faults write_sure from step s
+    → ((end : SessionEnd) → step ≡ Over end → ⊥) → GoesOn state left read_faults read_sure taken write_faults write_sure from step s
     → IsUnderway state left read_faults read_sure taken write_faults write_sure from s
-not-over {D} {L} state left read_faults read_sure taken write_faults write_sure from step s is goes =
-    ⊎_elim (λ (e : step ≡ Answered). subst (λ (x : Step). GoesOn state left read_faults read_sure taken write_faults write_sure from x s) e goes)
-    (λ (o : (step ≡ Read) ⊎ (step ≡ Paused)).
-    ⊎_elim (λ (e : step ≡ Read). subst (λ (x : Step). GoesOn state left read_faults read_sure taken write_faults write_sure from x s) e goes)
-    (λ (e : step ≡ Paused). subst (λ (x : Step). GoesOn state left read_faults read_sure taken write_faults write_sure from x s) e goes) o) is
+not-over state left read_faults read_sure taken write_faults write_sure from Answered s on goes = goes
+not-over state left read_faults read_sure taken write_faults write_sure from Read s on goes = goes
+not-over state left read_faults read_sure taken write_faults write_sure from Paused s on goes = goes
+not-over state left read_faults read_sure taken write_faults write_sure from (Over end) s on goes = absurd (on end refl)

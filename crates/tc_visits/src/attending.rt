@@ -54,7 +54,8 @@ pub(crate) fn attend_to_the_end<R: Wait, D: Door>(
     attend_till_done(rt, alloc, door, calls, seats, buffer);
 }
 
-// Attends to sessions until each has ended, and what it has written has gone on.
+// Attends to sessions until each has ended, and what it has written has gone on. Where all others
+// are done, the last one goes on alone.
 fn attend_till_over<R: Wait, D: Door>(
     rt: &R,
     alloc: Global,
@@ -69,13 +70,38 @@ fn attend_till_over<R: Wait, D: Door>(
     ensures seats { seats.new ≡ seats.old }
 {
     let mut over = 0;
+    let mut undone = 0;
+    let mut others = 0;
     for _ in rt.forever() {
         over = pass_over(seats, over);
         if over >= seats.len() {
             return;
         }
-        attend(rt, alloc, door, calls, seats, buffer, None);
+        undone = pass_done(seats, undone);
+        others = pass_done(seats, others.max(over + 1));
+        let is_last = undone == over && others >= seats.len();
+        if !end_last(rt, alloc, calls, seats, over, is_last, buffer) {
+            attend(rt, alloc, door, calls, seats, buffer, None);
+        }
     }
+}
+
+// Has the session at a place end, for which it waits, where it is the last one and that can be.
+// Whether it has ended now.
+fn end_last<R: Wait, L: Link + Drop>(
+    rt: &R,
+    alloc: Global,
+    calls: &Calls,
+    seats: &mut [Seat<L>],
+    place: usize,
+    is_last: bool,
+    buffer: &mut [u8],
+) -> bool
+    requires inside { place < length seats.old }
+    requires buffer { 0 < length buffer.old }
+    ensures seats { seats.new ≡ seats.old }
+{
+    is_last && seats[place].end_alone(rt, alloc, place, calls, buffer)
 }
 
 // Attends to sessions that have ended until their peers have, too, as long as something stirs.

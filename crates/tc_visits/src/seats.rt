@@ -1,8 +1,10 @@
 //! Seats: each has an agent's session, and then what is left of it.
-ghost use Rattle.std.specs.Prelude.{◌≡◌, ◌<◌, length};
+ghost use Rattle.std.specs.Prelude.{◌≡◌, ◌<◌, List, None, Some, IfSome, IsSomeAnd, length};
 ghost use Rattle.tc_io.specs.Links.{connection_of};
+ghost use Rattle.tc_policy.specs.declared.grants.Grant.{Grant};
 ghost use Rattle.tc_session.specs.SoFar.{Moment};
-ghost use Rattle.tc_session.specs.Underway.{GoesOn, IsUnderway};
+ghost use Rattle.tc_session.specs.Underway.{GoesOn, IsUnderway, Sitting};
+ghost use Rattle.tc_site.specs.Desks.{AgentState};
 ghost use Rattle.tc_visits.specs.Serving.{kit_of};
 
 use crate::calls::Calls;
@@ -161,19 +163,41 @@ impl<'s, L: Link + Drop> Seat<'s, L> {
         requires { 0 < length buffer.old }
         ensures { self.new ≡ self.old }
     {
-        let Some(mut session) = self.session.take() else {
+        let Some(session) = &mut self.session else {
             if let Some(left) = &mut self.left {
                 left.let_go();
             }
             return;
         };
-        match go_on(rt, alloc, &mut session, number, calls, buffer) {
-            Step::Over(end) => {
-                self.left = Some(Left::new(session, end));
-                calls.stir(number);
-            }
-            Step::Answered | Step::Read | Step::Paused => self.session = Some(session),
+        if let Step::Over(end) = go_on(rt, alloc, session, number, calls, buffer) {
+            self.left = leave(&mut self.session, end);
+            calls.stir(number);
         }
+    }
+
+    /// Goes on to the end of the session, for which it waits, where its connection can block.
+    /// Whether the session has ended now. `number` is the seat's.
+    pub(crate) fn end_alone<R: Wait>(
+        &mut self,
+        rt: &R,
+        alloc: Global,
+        number: usize,
+        calls: &Calls,
+        buffer: &mut [u8],
+    ) -> bool
+        requires { 0 < length buffer.old }
+        ensures { self.new ≡ self.old }
+    {
+        let Some(session) = &mut self.session else {
+            return false;
+        };
+        if !session.set_blocking() {
+            return false;
+        }
+        let end = finish(rt, alloc, session, buffer);
+        self.left = leave(&mut self.session, end);
+        calls.stir(number);
+        true
     }
 
     /// The visit, at the end of the session, for which it waits.
@@ -198,6 +222,24 @@ impl<'s, L: Link + Drop> Seat<'s, L> {
         };
         Visit::new(desk, end, opened)
     }
+}
+
+// Takes the session, if there is one: what it leaves that has ended so.
+fn leave<'s, L: Link + Drop>(
+    session: &mut Option<Session<AgentDesk<'s, Roles>, L>>,
+    end: SessionEnd,
+) -> Option<Left<L>>
+    ensures taken { session.new ≡ None }
+    ensures desk { (s : Sitting (AgentState (List Grant)) L) → session.old ≡ Some s
+        → IsSomeAnd result (λ left. left.desk ≡ record {
+          site = s.desk.site;
+          agent = s.desk.agent;
+          log = s.desk.log;
+        }) }
+    ensures end { IfSome result (λ left. left.end ≡ end) }
+{
+    let session = session.take()?;
+    Some(Left::new(session, end))
 }
 
 // Goes on with a session until it pauses or is over. It reads once.
