@@ -5,14 +5,13 @@ use Rattle.std.proofs.lemmas.Bool.Decides.{nat_tests}
 use Rattle.std.proofs.lemmas.List.Elements.{All-head, All-tail, All-weaker, All-cons, All-map, All-push, filter_passes}
 use Rattle.tc_term.specs.Tree.{Tree}
 use Rattle.tc_bag.specs.Places.{slot_at, IsFindable}
-use Rattle.std.specs.Option.{IfSome, option_map}
+use Rattle.std.specs.Option.{option_map}
 use Rattle.tc_bag.specs.declared.index.Index.{Index}
-use Rattle.tc_bag.specs.declared.codes.Code.{Code}
-use Rattle.tc_bag.specs.declared.codes.Code.TheVariants.{OfKey, OfFirst}
 use Rattle.tc_bag.specs.declared.codes.Codes.{Codes}
-use Rattle.tc_bag.specs.Ages.{Has, HasCodes, HasRow}
-use Rattle.tc_bag.specs.Codes.{first_code, codes_of}
+use Rattle.tc_bag.specs.Ages.{HasCodes, Keeps}
+use Rattle.tc_bag.specs.Codes.{codes_of}
 use Rattle.tc_bag.specs.Slots.{Slot, InOrder, IsYoungest, is_there, is_older, is_not_of, stays, taken_at, revived_at, with_taken, tuple_there}
+use Rattle.tc_bag.proofs.Keeping.{HasRow-kept, HasRow-by}
 use Rattle.tc_lists.proofs.Filters.{filter_all}
 use Rattle.tc_lists.proofs.Elements.{All-append_left, All-append_right}
 use Rattle.std.proofs.lemmas.List.Folds.{map_fixed}
@@ -70,28 +69,28 @@ slot_at-all age (s ∷ ss) found order is =
     ]
 
 -- by the codes of what is found
-pub slot_at-codes : (age : ℕ) (ss : List Slot) (codes : Codes) → InOrder ss → option_map (λ s. codes_of s.tuple) (slot_at age ss) ≡ Some codes
-    → All (λ s. s.age ≡ age → codes_of s.tuple ≡ codes) ss
-slot_at-codes age ss codes order = go (slot_at age ss) refl
+pub slot_at-codes : (all : Bool) (age : ℕ) (ss : List Slot) (codes : Codes) → InOrder ss → option_map (λ s. codes_of all s.tuple) (slot_at age ss) ≡ Some codes
+    → All (λ s. s.age ≡ age → codes_of all s.tuple ≡ codes) ss
+slot_at-codes all age ss codes order = go (slot_at age ss) refl
   where
-    go : (o : Option Slot) → slot_at age ss ≡ o → option_map (λ s. codes_of s.tuple) o ≡ Some codes
-        → All (λ s. s.age ≡ age → codes_of s.tuple ≡ codes) ss
+    go : (o : Option Slot) → slot_at age ss ≡ o → option_map (λ s. codes_of all s.tuple) o ≡ Some codes
+        → All (λ s. s.age ≡ age → codes_of all s.tuple ≡ codes) ss
     go None at is =
         let nothing : None ≡ Some codes = is in
         absurd (cc)
     go (Some found) at is =
-        let known : Some (codes_of found.tuple) ≡ Some codes = is in
-        let same : codes_of found.tuple ≡ codes = cc in
-        All-weaker (λ s. s.age ≡ age → s ≡ found) (λ s. s.age ≡ age → codes_of s.tuple ≡ codes)
-        (λ s equal of_age. ap (λ (r : Slot). codes_of r.tuple) (equal of_age) ∙ same) ss (slot_at-all age ss found order at)
+        let known : Some (codes_of all found.tuple) ≡ Some codes = is in
+        let same : codes_of all found.tuple ≡ codes = cc in
+        All-weaker (λ s. s.age ≡ age → s ≡ found) (λ s. s.age ≡ age → codes_of all s.tuple ≡ codes)
+        (λ s equal of_age. ap (λ (r : Slot). codes_of all r.tuple) (equal of_age) ∙ same) ss (slot_at-all age ss found order at)
 
-pub slot_at-no_codes : (age : ℕ) (ss : List Slot) → option_map (λ s. codes_of s.tuple) (slot_at age ss) ≡ None → All (λ s. s.age ≢ age) ss
-slot_at-no_codes age ss = go (slot_at age ss) refl
+pub slot_at-no_codes : (all : Bool) (age : ℕ) (ss : List Slot) → option_map (λ s. codes_of all s.tuple) (slot_at age ss) ≡ None → All (λ s. s.age ≢ age) ss
+slot_at-no_codes all age ss = go (slot_at age ss) refl
   where
-    go : (o : Option Slot) → slot_at age ss ≡ o → option_map (λ s. codes_of s.tuple) o ≡ None → All (λ s. s.age ≢ age) ss
+    go : (o : Option Slot) → slot_at age ss ≡ o → option_map (λ s. codes_of all s.tuple) o ≡ None → All (λ s. s.age ≢ age) ss
     go None at is = slot_at-none age ss at
     go (Some found) at is =
-        let nothing : Some (codes_of found.tuple) ≡ None = is in
+        let nothing : Some (codes_of all found.tuple) ≡ None = is in
         absurd (cc)
 
 -- slots of other ages are passed over
@@ -126,37 +125,27 @@ pub filter-others : (age : ℕ) (ss : List Slot) → All (λ s. s.age ≢ age) s
 filter-others age ss others =
     filter_all (is_not_of age) ss (All-weaker (λ s. s.age ≢ age) (λ s. is_not_of age s ≡ true) (λ s other. ap not (ne_eqb s.age age other)) ss others)
 
--- an index that keeps an age keeps its row
-HasSome-kept : (old new : Index) (age : ℕ) (code : Option ℕ) → ((c : Code) → Has old c age → Has new c age)
-    → IfSome code (λ c. Has old (OfFirst c) age) → IfSome code (λ c. Has new (OfFirst c) age)
-HasSome-kept old new age None kept has = tt
-HasSome-kept old new age (Some c) kept has = kept (OfFirst c) has
-
-pub HasRow-kept : (old new : Index) (age : ℕ) (t : Tree) → ((c : Code) → Has old c age → Has new c age)
-    → HasRow old age t → HasRow new age t
-HasRow-kept old new age t kept has = (kept (OfKey _) has.0, HasSome-kept old new age (first_code t) kept has.1)
-
 module _ (start : ℕ) (whole : Bool) (old new : Index) where
   -- rows are found as before by an index that keeps the other ages
-  pub findable_kept : (age : ℕ) (ss : List Slot) → ((c : Code) (a : ℕ) → a ≢ age → Has old c a → Has new c a)
+  pub findable_kept : (age : ℕ) (ss : List Slot) → ((a : ℕ) → a ≢ age → Keeps old new a)
       → All (λ s. s.age ≢ age) ss → All (IsFindable start whole old) ss → All (IsFindable start whole new) ss
   findable_kept age ss kept others found = λ k d inside there.
       let s = get_or ss k d in
       let has = found k d inside there in
-      (has.0, λ is_whole. HasRow-kept old new s.age s.tuple (λ c. kept c s.age (others k d inside)) (has.1 is_whole))
+      (has.0, λ is_whole. HasRow-kept old new s.age s.tuple (kept s.age (others k d inside)) (has.1 is_whole))
 
   -- or by one that has more, from an earlier start
-  pub findable_more : (earlier : ℕ) (ss : List Slot) → earlier ≤ start → ((c : Code) (a : ℕ) → Has old c a → Has new c a)
+  pub findable_more : (earlier : ℕ) (ss : List Slot) → earlier ≤ start → ((a : ℕ) → Keeps old new a)
       → All (IsFindable start whole old) ss → All (IsFindable earlier whole new) ss
   findable_more earlier ss early kept found = λ k d inside there.
       let s = get_or ss k d in
       let has = found k d inside there in (
         omega (arith, early, has.0),
-        λ is_whole. HasRow-kept old new s.age s.tuple (λ c. kept c s.age) (has.1 is_whole),
+        λ is_whole. HasRow-kept old new s.age s.tuple (kept s.age) (has.1 is_whole),
       )
 
   -- or with a row that isn't there any more
-  pub findable_gone : (age n : ℕ) (ss : List Slot) → 0 < n → ((c : Code) (a : ℕ) → a ≢ age → Has old c a → Has new c a)
+  pub findable_gone : (age n : ℕ) (ss : List Slot) → 0 < n → ((a : ℕ) → a ≢ age → Keeps old new a)
       → All (IsFindable start whole old) ss → All (IsFindable start whole new) (map (with_taken age n) ss)
   findable_gone age n ss counted kept found =
       All-map (IsFindable start whole new) (with_taken age n) ss
@@ -169,29 +158,29 @@ module _ (start : ℕ) (whole : Bool) (old new : Index) where
             let was = has (sym (ap (λ b. cond b n s.taken == 0) other) ∙ there) in (
               was.0,
               λ is_whole. HasRow-kept old new s.age s.tuple
-                  (λ c. kept c s.age (λ same. true≢false (sym (eq-eqb s.age age same) ∙ other))) (was.1 is_whole),
+                  (kept s.age (λ same. true≢false (sym (eq-eqb s.age age same) ∙ other))) (was.1 is_whole),
             )
       ]) ss found)
 
   -- or with one that is there again, from its age on and in an index that got it, or isn't whole
-  pub findable_again : (less age : ℕ) (still : Bool) (codes : Codes) (ss : List Slot) → less ≤ start → less ≤ age
-      → ((c : Code) (a : ℕ) → Has old c a → Has new c a) → (IsTrue still → IsTrue whole × HasCodes new age codes)
-      → All (λ s. s.age ≡ age → codes_of s.tuple ≡ codes) ss
+  pub findable_again : (less age : ℕ) (still all : Bool) (codes : Codes) (ss : List Slot) → less ≤ start → less ≤ age
+      → ((a : ℕ) → Keeps old new a) → (IsTrue still → IsTrue whole × HasCodes new age codes)
+      → new.on ≡ all → All (λ s. s.age ≡ age → codes_of all s.tuple ≡ codes) ss
       → All (IsFindable start whole old) ss → All (IsFindable less still new) (map (with_taken age 0) ss)
-  findable_again less age still codes ss early before kept got same_codes found =
+  findable_again less age still all codes ss early before kept got on same_codes found =
       All-map (IsFindable less still new) (with_taken age 0) ss (λ k d inside.
       let s = get_or ss k d in
       elim (cases_Bool (s.age == age)) [
         | inl same ↦ λ there.
             let equal = eqb-true s.age age same in (
               omega (arith, before, equal),
-              λ is_still. subst (HasCodes new s.age) (sym (same_codes k d inside equal))
-                  (subst (λ a. HasCodes new a codes) (sym equal) (got is_still).1),
+              λ is_still. HasRow-by new s.age s.tuple all on (subst (HasCodes new s.age) (sym (same_codes k d inside equal))
+                  (subst (λ a. HasCodes new a codes) (sym equal) (got is_still).1)),
             )
         | inr other ↦ λ there.
             let was = found k d inside (sym (ap (λ b. cond b 0 s.taken == 0) other) ∙ there) in (
               omega (arith, early, was.0),
-              λ is_still. HasRow-kept old new s.age s.tuple (λ c. kept c s.age) (was.1 (got is_still).0),
+              λ is_still. HasRow-kept old new s.age s.tuple (kept s.age) (was.1 (got is_still).0),
             )
       ])
 

@@ -1,9 +1,12 @@
 pub mod Additions
 pub mod Agreement
+pub mod Seconds
+pub mod Matched
 pub mod Ages
 pub mod PairOrder
 pub mod Bits
 pub mod Masks
+pub mod Keeping
 pub mod ByAge
 pub mod Gaps
 pub mod Kept

@@ -1,17 +1,24 @@
 -- Finding the first row.
-use Rattle.std.proofs.Common.{◌≡◌, ◌<◌, ◌≤◌, ◌==◌, ◌+◌, inl, inr, max, IsTrue, ℕ, Bool, true, cond, Option, Some, None, List, [], ◌∷◌, get_or, All, refl, ap, sym, subst, ◌∙◌, arith}
+use Rattle.std.proofs.Common.{◌≡◌, ◌<◌, ◌≤◌, ◌==◌, ◌+◌, inl, inr, max, IsTrue, ℕ, Bool, true, false, cond, Option, Some, None, List, [], ◌∷◌, get_or, All, refl, ap, sym, subst, ◌∙◌, arith}
 use Rattle.std.proofs.lemmas.Bool.{cases_Bool, eqb-true, eq-eqb, ne_eqb, cases_lt}
 use Rattle.std.proofs.lemmas.List.Elements.{All-head, All-tail, All-cons, All-nil}
 use Rattle.std.specs.Option.{IfSome}
 use Rattle.tc_lists.specs.Firsts.{IsFirst}
-use Rattle.tc_term.specs.Tree.{Tree, Variable, Atomic, Number, Compound}
-use Rattle.tc_bag.specs.declared.codes.Code.TheVariants.{OfKey, OfFirst}
+use Rattle.std.specs.Option.{option_map}
+use Rattle.tc_term.specs.Same.{same_tree, same_tree-Decides}
+use Rattle.tc_term.specs.Tree.{Tree, Variable, Atomic, Number, Compound, Last, More}
+use Rattle.tc_term.specs.TreeView.{tree_of}
+use Rattle.tc_bag.specs.declared.codes.Base.TheVariants.{OfKey, OfFirst}
 use Rattle.tc_bag.specs.declared.index.Index.{Index}
 use Rattle.tc_bag.specs.declared.key.Key.{Key}
+use Rattle.tc_bag.specs.declared.key.Known.{Known}
+use Rattle.tc_bag.specs.declared.key.Second.{Second}
+use Rattle.tc_bag.specs.declared.key.Second.TheVariants.{Unknown, Is, AsFirst}
 use Rattle.tc_bag.specs.declared.key.Key.TheVariants.{Any}
-use Rattle.tc_bag.specs.Ages.{Has, HasRow}
-use Rattle.tc_bag.specs.Codes.{key_code, first_code, code_like}
-use Rattle.tc_bag.specs.Keys.{first_of, first_argument, key_of, IsLike}
+use Rattle.tc_bag.specs.Ages.{Has, HasBase, HasLate, HasRow}
+use Rattle.tc_bag.specs.Codes.{key_code, first_code, base_like, second_like, code_like, second_code, second_code_of, same_code, same_code_of}
+use Rattle.tc_bag.specs.Keys.{first_of, first_argument, second_argument, key_of, BeginsTwice, HasFirst, HasSecond, IsLike}
+use Rattle.tc_bag.specs.Lent.{lent_tree}
 use Rattle.tc_bag.specs.Places.{IsFindable}
 use Rattle.tc_bag.specs.Slots.{Slot, slot, InOrder, IsThereLike, is_there, tuple_there}
 use Rattle.tc_lists.proofs.Elements.{All-append_right}
@@ -80,24 +87,72 @@ there_found (s ∷ ss) order =
     (ne_eqb s.age u.age (λ same. absurd (omega (arith, same, older))))
     ∙ there_found ss order.1 k d inside there)
 
--- a tuple that is asked for by a code is in the index for it
+-- a tuple that is asked for by a code is in the index for it: by a first argument,
 code_first : (index : Index) (age : ℕ) (key : Key) (t f : Tree) → key ≡ key_of t → first_argument t ≡ Some f
-    → IfSome (first_code t) (λ c. Has index (OfFirst c) age) → Has index (code_like key (Some f)) age
+    → IfSome (first_code t) (λ c. HasBase index (OfFirst c) age) → HasBase index (base_like key (Some f)) age
 code_first index age key (Variable n) f same is has = absurd (cc)
 code_first index age key (Atomic name) f same is has = absurd (cc)
 code_first index age key (Number n) f same is has = absurd (cc)
 code_first index age key (Compound name args) f same is has =
     let first : first_of args ≡ f = cc in
-    subst (λ u. Has index (code_like key (Some u)) age) first
-    (subst (λ k. Has index (code_like k (Some (first_of args))) age) (sym same) has)
+    subst (λ u. HasBase index (base_like key (Some u)) age) first
+    (subst (λ k. HasBase index (base_like k (Some (first_of args))) age) (sym same) has)
 
-pub like_has : (index : Index) (key : Key) (first : Option Tree) (s : Slot) → (key ≡ Any → ⊥) → HasRow index s.age s.tuple
-    → IsLike key first s.tuple → Has index (code_like key first) s.age
-like_has index key first s known indexed (inl any, has) = absurd (known any)
-like_has index key None s known indexed (inr own, has) = subst (λ k. Has index (OfKey (key_code k)) s.age) (sym own) indexed.0
-like_has index key (Some f) s known indexed (inr own, has) = code_first index s.age key s.tuple f own has indexed.1
+-- by a second one,
+code_second : (index : Index) (age : ℕ) (key : Key) (t s : Tree) → key ≡ key_of t → second_argument t ≡ Some s
+    → IfSome (second_code_of t) (λ c. HasLate index c age) → HasLate index (second_code (key_code key) s) age
+code_second index age key (Variable n) s same is has = absurd (cc)
+code_second index age key (Atomic name) s same is has = absurd (cc)
+code_second index age key (Number n) s same is has = absurd (cc)
+code_second index age key (Compound name args) s same is has =
+    subst (λ k. HasLate index (second_code (key_code k) s) age) (sym same)
+    (subst (λ o. IfSome (option_map (second_code (key_code (key_of (Compound name args)))) o) (λ c. HasLate index c age)) is has)
 
-module _ (key : Key) (first : Option Tree) (from at age : ℕ) (ss : List Slot) where
+-- and by two that are the same
+code_same : (index : Index) (age : ℕ) (key : Key) (t : Tree) → key ≡ key_of t → BeginsTwice t
+    → IfSome (same_code_of t) (λ c. HasLate index c age) → HasLate index (same_code (key_code key)) age
+code_same index age key (Variable n) same twice has =
+    let never : None ≡ Some twice.argument = twice.first in
+    absurd (cc)
+code_same index age key (Atomic name) same twice has =
+    let never : None ≡ Some twice.argument = twice.first in
+    absurd (cc)
+code_same index age key (Number n) same twice has =
+    let never : None ≡ Some twice.argument = twice.first in
+    absurd (cc)
+code_same index age key (Compound name (Last t)) same twice has =
+    let never : None ≡ Some twice.argument = twice.second in
+    absurd (cc)
+code_same index age key (Compound name (More t ts)) same twice has =
+    let whole = Compound name (More t ts) in
+    let first : Some t ≡ Some twice.argument = twice.first in
+    let second : Some (first_of ts) ≡ Some twice.argument = twice.second in
+    let equal : t ≡ first_of ts = cc in
+    let told : same_tree t (first_of ts) ≡ true = (same_tree-Decides t (first_of ts)).1 equal in
+    subst (λ k. HasLate index (same_code (key_code k)) age) (sym same)
+    (subst (λ b. IfSome (cond b (Some (same_code (key_code (key_of whole)))) None) (λ c. HasLate index c age)) told has)
+
+base_has : (index : Index) (key : Key) (first : Option Tree) (age : ℕ) (t : Tree) → key ≡ key_of t → HasRow index age t → HasFirst first t
+    → HasBase index (base_like key first) age
+base_has index key None age t own indexed has = subst (λ k. HasBase index (OfKey (key_code k)) age) (sym own) indexed.key
+base_has index key (Some f) age t own indexed has = code_first index age key t f own has indexed.first
+
+second_has : (index : Index) (key : Key) (second : Second) (age : ℕ) (t : Tree) → key ≡ key_of t → HasRow index age t → HasSecond second t
+    → IfSome (second_like key second) (λ c. HasLate index c age)
+second_has index key Unknown age t own indexed has = tt
+second_has index key (Is term) age t own indexed has = code_second index age key t (tree_of term.now) own has indexed.second
+second_has index key AsFirst age t own indexed has = code_same index age key t own has indexed.same
+
+pub like_has : (index : Index) (all : Bool) (key : Key) (known : Known) (s : Slot) → (key ≡ Any → ⊥) → HasRow index s.age s.tuple
+    → IsLike key known s.tuple → Has index (code_like all key known) s.age
+like_has index all key known s some indexed (inl any, has) = absurd (some any)
+like_has index true key known s some indexed (inr own, has) = (
+  base_has index key (lent_tree known.first) s.age s.tuple own indexed has.0,
+  second_has index key known.second s.age s.tuple own indexed has.1,
+)
+like_has index false key known s some indexed (inr own, has) = (base_has index key (lent_tree known.first) s.age s.tuple own indexed has.0, tt)
+
+module _ (key : Key) (first : Known) (from at age : ℕ) (ss : List Slot) where
   -- what was passed over up to an age
   pub passed_to : All (λ s. s.age < at → IsThereLike key first from s → ⊥) ss
       → All (λ s. at ≤ s.age → s.age < age → IsThereLike key first at s → ⊥) ss

@@ -1,5 +1,5 @@
 -- A bag after each change of its slots, its list and its marks.
-use Rattle.std.proofs.Common.{◌≡◌, ◌≢◌, ◌<◌, ◌≤◌, ◌+◌, ◌-◌, ◌==◌, ◌&&◌, ◌||◌, ◌⊎◌, Option, IsTrue, not, nat_lt, is_some, ℕ, Bool, true, false, cond, inl, inr, Some, None, List, [], ◌∷◌, ◌++◌, length, get_or, slice_get, take, map, filter, All, refl, ap, sym, subst, ◌∙◌, length-append, arith}
+use Rattle.std.proofs.Common.{◌≡◌, ◌≢◌, ◌<◌, ◌≤◌, ◌+◌, ◌-◌, ◌==◌, ◌&&◌, ◌||◌, ◌⊎◌, IsTrue, not, nat_lt, is_some, ℕ, Bool, true, false, cond, inl, inr, Some, None, List, [], ◌∷◌, ◌++◌, length, get_or, slice_get, take, map, filter, All, refl, ap, sym, subst, ◌∙◌, length-append, arith}
 use Rattle.std.proofs.lemmas.Bool.{cases_Bool, ltb-true, eqb-true, eq-eqb, ne_eqb, true≢false}
 use Rattle.std.proofs.lemmas.Bool.Decides.{nat_tests}
 use Rattle.std.proofs.lemmas.List.{map-append, append-nil, same_from_push, length-take, nil_from_length}
@@ -7,6 +7,7 @@ use Rattle.std.proofs.lemmas.List.Elements.{All-nil, All-head, All-tail, All-wea
 use Rattle.tc_term.specs.Tree.{Tree, IsTuple}
 use Rattle.tc_lists.specs.Firsts.{NoneOf, IsFirst}
 use Rattle.tc_bag.specs.declared.key.Key.{Key}
+use Rattle.tc_bag.specs.declared.key.Known.{Known}
 use Rattle.tc_bag.specs.declared.slots.Mark.{Mark}
 use Rattle.tc_bag.specs.Stock.{Row, row, IsCandidateLike, Saved, AgesRiseBelow, tuple_at, with_tuple, saved_of, marked, without_age}
 use Rattle.tc_bag.specs.Slots.{Slot, slot, row_of, is_there, is_older, was_there, rows_now, rows_then, saved_at, stock_of, InOrder, IsLogged, IsThereLike, StartsEmpty, IsSound, is_not_of, taken_at, revived, tuple_there}
@@ -278,7 +279,7 @@ none_there P ss none =
     (λ k d inside. All-filter is_there (λ s. IsTrue (is_there s) → P (row_of s) → ⊥) ss none k d inside
     (filter_passes is_there ss k d inside)))
 
-module _ (key : Key) (first : Option Tree) (from : ℕ) (ss : List Slot) where
+module _ (key : Key) (first : Known) (from : ℕ) (ss : List Slot) where
   pub none-like : NoneOf (IsThereLike key first from) ss → NoneOf (IsCandidateLike key first from) (rows_now ss)
   none-like none =
       none_there (IsCandidateLike key first from) ss

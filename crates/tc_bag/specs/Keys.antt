@@ -1,8 +1,14 @@
 -- Keys, by which most tuples that a template doesn't match are told without matching.
-use Rattle.std.specs.Prelude.{◌≡◌, ℕ, ◌+◌, ◌⊎◌, if◌then◌else◌, Option, Some, None, IfSome}
+use Rattle.std.specs.Prelude.{◌≡◌, ℕ, ◌+◌, ◌⊎◌, ◌&&◌, if◌then◌else◌, not, Bool, false, Option, Some, None, IfSome}
 use Rattle.tc_term.specs.Tree.{Tree, Variable, Atomic, Number, Compound, Trees, Last, More, is_ground}
+use Rattle.tc_term.specs.Same.{same_tree}
+use Rattle.tc_term.specs.TreeView.{tree_of}
 use Rattle.tc_bag.specs.declared.key.Key.{Key}
 use Rattle.tc_bag.specs.declared.key.Key.TheVariants.{Any, Int, Atom, Comp}
+use Rattle.tc_bag.specs.declared.key.Known.{Known}
+use Rattle.tc_bag.specs.declared.key.Second.{Second}
+use Rattle.tc_bag.specs.declared.key.Second.TheVariants.{Unknown, Is, AsFirst}
+use Rattle.tc_bag.specs.Lent.{lent_tree}
 
 -- how many arguments there are
 abbrev pub arity : Trees → ℕ
@@ -44,6 +50,55 @@ known_first (Compound name args) = if is_ground (first_of args) then Some (first
 abbrev pub HasFirst : Option Tree → Tree → Type 0
 HasFirst first tuple = IfSome first (λ t. first_argument tuple ≡ Some t)
 
--- the tuple agrees with the key and has this first argument, where one is given
-abbrev pub IsLike : Key → Option Tree → Tree → Type 0
-IsLike key first tuple = IsOfKey key tuple × HasFirst first tuple
+-- the second of some arguments, where there is one
+abbrev pub second_of : Trees → Option Tree
+second_of (Last t) = None
+second_of (More t ts) = Some (first_of ts)
+
+-- the second argument of a term, where there is one
+abbrev pub second_argument : Tree → Option Tree
+second_argument (Variable n) = None
+second_argument (Atomic name) = None
+second_argument (Number n) = None
+second_argument (Compound name args) = second_of args
+
+-- the term, where one is given and it is ground
+abbrev pub if_ground : Option Tree → Option Tree
+if_ground None = None
+if_ground (Some t) = if is_ground t then Some t else None
+
+-- the second argument of a term, where there is one and it is ground
+abbrev pub known_second : Tree → Option Tree
+known_second t = if_ground (second_argument t)
+
+-- whether the second of some arguments isn't ground and is the same as the first
+abbrev pub is_again : Trees → Bool
+is_again (Last t) = false
+is_again (More t ts) = not (is_ground (first_of ts)) && same_tree t (first_of ts)
+
+-- whether the second argument of a term isn't ground and is the same as the first
+abbrev pub repeats_first : Tree → Bool
+repeats_first (Variable n) = false
+repeats_first (Atomic name) = false
+repeats_first (Number n) = false
+repeats_first (Compound name args) = is_again args
+
+-- the first two arguments of the tuple are the same
+pub record BeginsTwice (tuple : Tree) : Type 0 where
+  pub argument : Tree
+  pub first : first_argument tuple ≡ Some argument
+  pub second : second_argument tuple ≡ Some argument
+
+-- the tuple's second argument is as is known
+abbrev pub HasSecond : Second → Tree → Type 0
+HasSecond Unknown tuple = Unit {0}
+HasSecond (Is term) tuple = second_argument tuple ≡ Some (tree_of term.now)
+HasSecond AsFirst tuple = BeginsTwice tuple
+
+-- the tuple has the arguments that are known
+abbrev pub HasKnown : Known → Tree → Type 0
+HasKnown known tuple = HasFirst (lent_tree known.first) tuple × HasSecond known.second tuple
+
+-- the tuple agrees with the key and has the arguments that are known
+abbrev pub IsLike : Key → Known → Tree → Type 0
+IsLike key known tuple = IsOfKey key tuple × HasKnown known tuple

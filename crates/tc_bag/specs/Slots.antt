@@ -6,6 +6,7 @@ use Rattle.tc_lists.specs.Marks.{Climbs}
 use Rattle.tc_term.specs.Tree.{Tree, IsTuple}
 use Rattle.tc_bag.specs.declared.bag.TheConstants.{MOST_ROWS}
 use Rattle.tc_bag.specs.declared.key.Key.{Key}
+use Rattle.tc_bag.specs.declared.key.Known.{Known}
 use Rattle.tc_bag.specs.declared.slots.Mark.{Mark}
 use Rattle.tc_bag.specs.Keys.{IsLike}
 use Rattle.tc_bag.specs.Stock.{Row, Saved, Stock, tuples_of}
@@ -91,10 +92,10 @@ pub record IsSound
   pub starts : StartsEmpty marks
   pub fits : length log + length (filter is_there slots) ≤ room
 
--- the row is there, not older than this age, its tuple agrees with the key and has this first
--- argument, where one is given
-abbrev pub IsThereLike : Key → Option Tree → ℕ → Slot → Type 0
-IsThereLike key first from s = IsTrue (is_there s) × (from ≤ s.age) × IsLike key first s.tuple
+-- the row is there, not older than this age, its tuple agrees with the key and has the
+-- arguments that are known
+abbrev pub IsThereLike : Key → Known → ℕ → Slot → Type 0
+IsThereLike key known from s = IsTrue (is_there s) × (from ≤ s.age) × IsLike key known s.tuple
 
 -- the last slot has this age
 pub record IsYoungest (slots : List Slot) (age : ℕ) : Type 0 where

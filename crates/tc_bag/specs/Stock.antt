@@ -4,6 +4,7 @@ use Rattle.std.specs.Prelude.{◌∷◌, ◌++◌, map, slice_index_or, All, Con
 use Rattle.tc_lists.specs.Marks.{with_mark}
 use Rattle.tc_term.specs.Tree.{Tree}
 use Rattle.tc_bag.specs.declared.key.Key.{Key}
+use Rattle.tc_bag.specs.declared.key.Known.{Known}
 use Rattle.tc_bag.specs.Keys.{IsOfKey, IsLike}
 
 -- a tuple with its age, a number that rises from tuple to tuple
@@ -49,9 +50,9 @@ pub record AddsYounger (old new : Stock) : Type 0 where
 abbrev pub IsCandidate : Key → ℕ → Row → Type 0
 IsCandidate key from row = (from ≤ row.age) × IsOfKey key row.tuple
 
--- the same, and the tuple has this first argument, where one is given
-abbrev pub IsCandidateLike : Key → Option Tree → ℕ → Row → Type 0
-IsCandidateLike key first from row = (from ≤ row.age) × IsLike key first row.tuple
+-- the same, and the tuple has the arguments that are known
+abbrev pub IsCandidateLike : Key → Known → ℕ → Row → Type 0
+IsCandidateLike key known from row = (from ≤ row.age) × IsLike key known row.tuple
 
 -- the tuple of the first row of this age
 abbrev pub tuple_at : ℕ → List Row → Option Tree

@@ -1,6 +1,6 @@
 //! The bag.
 use crate::held::Held;
-use crate::key::{Key, Lent};
+use crate::key::{Key, Known, Lent, known_of};
 use crate::log::{discard, unwind};
 use crate::slots::Mark;
 use std::alloc::Global;
@@ -52,14 +52,14 @@ impl Model for Bag {
 
 impl Bag {
     ghost use Rattle.std.specs.Prelude.{◌≡◌, ◌+◌, ◌^◌, ◌<◌, ◌≤◌, [], length, slice_get, All};
-    ghost use Rattle.std.specs.Prelude.{OnOk, OnErr, IfErr, IfSome, IfNone, None};
+    ghost use Rattle.std.specs.Prelude.{OnOk, OnErr, IfErr, IfSome, IfNone};
     ghost use Rattle.std.specs.Option.{option_copied};
     ghost use Rattle.tc_lists.specs.Firsts.{NoneOf, IsFirst};
     ghost use Rattle.tc_lists.specs.Marks.{IsBack, IsGivenUp};
     ghost use Rattle.tc_term.specs.Tree.{Fits, IsTuple};
     ghost use Rattle.tc_term.specs.TreeView.{tree_of};
     ghost use Rattle.tc_bag.specs.Keys.{key_of};
-    ghost use Rattle.tc_bag.specs.Lent.{lent_key, lent_tree};
+    ghost use Rattle.tc_bag.specs.Lent.{lent_key, nothing_known};
     ghost use Rattle.tc_bag.specs.Looks.{like_between, like_from};
     ghost use Rattle.tc_bag.specs.Stock.{row, tuples_of, AgesRiseBelow, IsCandidate, IsCandidateLike};
     ghost use Rattle.tc_bag.specs.Stock.{tuple_at, without_age, with_tuple, saved_of, marked};
@@ -100,25 +100,25 @@ impl Bag {
         ensures limit { self.now.next < 2 ^ 64 }
         ensures tuples { All (λ r. IsTuple r.tuple) self.now.now }
     {
-        self.first_candidate(key.lend(), None, from, steps)
+        self.first_candidate(key.lend(), Known::NOTHING, from, steps)
     }
 
-    /// The oldest tuple that agrees with the key, has this first argument where one is given, and
-    /// whose age is at least `from`, with its age. Tuples of other keys are not looked at.
+    /// The oldest tuple that agrees with the key, has the arguments that are known, and whose
+    /// age is at least `from`, with its age. Tuples of other keys are not looked at.
     ///
     /// No memory is taken.
     pub fn candidate_like<L: Ledger>(
         &self,
         key: &Key,
-        first: Option<&Term>,
+        known: Known,
         from: u64,
         steps: &mut Steps<L>,
     ) -> Option<(u64, &Ground)>
         ensures found { IfSome result (λ r. IsFirst
-            (IsCandidateLike key.now (lent_tree first.entry) from)
+            (IsCandidateLike key.now known.entry from)
             self.now.now (row r.0 r.1.now)) }
         ensures none { IfNone result (NoneOf
-            (IsCandidateLike key.now (lent_tree first.entry) from)
+            (IsCandidateLike key.now known.entry from)
             self.now.now) }
 
         // How many tuples are looked at.
@@ -133,23 +133,23 @@ impl Bag {
         ensures limit { self.now.next < 2 ^ 64 }
         ensures tuples { All (λ r. IsTuple r.tuple) self.now.now }
     {
-        self.first_candidate(key.lend(), first, from, steps)
+        self.first_candidate(key.lend(), known, from, steps)
     }
 
     /// As `candidate_like` with the template's key, which isn't copied.
     pub fn candidate_for<L: Ledger>(
         &self,
         template: &Term,
-        first: Option<&Term>,
+        known: Known,
         from: u64,
         steps: &mut Steps<L>,
     ) -> Option<(u64, &Ground)>
         requires { Fits (tree_of template.now) }
         ensures found { IfSome result (λ r. IsFirst (IsCandidateLike
-            (key_of (tree_of template.now)) (lent_tree first.entry) from)
+            (key_of (tree_of template.now)) known.entry from)
             self.now.now (row r.0 r.1.now)) }
         ensures none { IfNone result (NoneOf (IsCandidateLike
-            (key_of (tree_of template.now)) (lent_tree first.entry) from)
+            (key_of (tree_of template.now)) known.entry from)
             self.now.now) }
 
         // How many tuples are looked at.
@@ -164,26 +164,26 @@ impl Bag {
         ensures limit { self.now.next < 2 ^ 64 }
         ensures tuples { All (λ r. IsTuple r.tuple) self.now.now }
     {
-        self.first_candidate(Lent::of(template), first, from, steps)
+        self.first_candidate(Lent::of(template), known, from, steps)
     }
 
     // The same by a key that is lent.
     fn first_candidate<L: Ledger>(
         &self,
         key: Lent,
-        first: Option<&Term>,
+        known: Known,
         from: u64,
         steps: &mut Steps<L>,
     ) -> Option<(u64, &Ground)>
         ensures found { IfSome result (λ r. IsFirst (IsCandidateLike
-            (lent_key key.entry) (lent_tree first.entry) from)
+            (lent_key key.entry) known.entry from)
             self.now.now (row r.0 r.1.now)) }
         ensures none { IfNone result (NoneOf (IsCandidateLike
-            (lent_key key.entry) (lent_tree first.entry) from)
+            (lent_key key.entry) known.entry from)
             self.now.now) }
-        ensures plain { lent_tree first.entry ≡ None
+        ensures plain { known.entry ≡ nothing_known
             → IfSome result (λ r. steps.new ≡ steps.old + 1) }
-        ensures plain_none { lent_tree first.entry ≡ None
+        ensures plain_none { known.entry ≡ nothing_known
             → IfNone result (steps.new ≡ steps.old) }
         ensures looked { IfSome result (λ r. steps.new
             ≤ steps.old + like_between (lent_key key.entry) from (r.0 + 1) self.now.now) }
@@ -196,7 +196,22 @@ impl Bag {
     {
         // Reading it tells that it is a number of 64 bits.
         let _next = self.next;
-        self.rows.first_like(key, first, from, steps)
+        self.rows.first_like(key, known, from, steps)
+    }
+
+    /// Gets ready to search for tuples that this template matches, where many tuples are there and
+    /// the template's second argument tells them apart. What is there stays the same.
+    ///
+    /// Takes the time of all tuples where it hasn't been called for as many puts, and else O(1).
+    /// Where memory ends, searches take longer.
+    #[inline(always)]
+    pub fn prepare(&mut self, template: &Term)
+        requires { Fits (tree_of template.now) }
+        ensures { self.new ≡ self.old }
+    {
+        if self.rows.are_many() {
+            self.rows.prepare(Lent::of(template), known_of(template));
+        }
     }
 
     /// The age that the next tuple that is put will have, above those of all that are there.

@@ -33,7 +33,14 @@ impl ByBlock {
         }
     }
 
+    /// Removes each age.
+    pub(crate) fn clear(&mut self) {
+        self.masks.clear();
+        self.far.clear();
+    }
+
     /// The least age of this code that is at least `from`.
+    #[inline(always)]
     pub(crate) fn next(&self, code: u64, from: u64) -> Option<u64>
         ensures found { IfSome result (λ age. (from ≤ age)
             × ((a : ℕ) → from ≤ a → a < age → HasAgeByBlock self.now code a → ⊥)) }
@@ -96,6 +103,7 @@ impl ByBlock {
     }
 
     /// Enters an age.
+    #[inline(always)]
     pub(crate) fn enter(&mut self, code: u64, age: u64) -> Result<(), NoMemory>
         ensures entered { OnOk result (HasAgeByBlock self.new code age) }
         ensures kept { (c a : ℕ) → HasAgeByBlock self.old c a → HasAgeByBlock self.new c a }
@@ -113,6 +121,7 @@ impl ByBlock {
     }
 
     /// Removes an age, where it is there.
+    #[inline(always)]
     pub(crate) fn leave(&mut self, code: u64, age: u64)
         ensures kept { (c a : ℕ) → a ≢ age
             → HasAgeByBlock self.old c a → HasAgeByBlock self.new c a }

@@ -27,6 +27,7 @@ impl ByCode {
     }
 
     /// The least age of this code that is at least `from`.
+    #[inline(always)]
     pub(crate) fn next(&self, code: u64, from: u64) -> Option<u64>
         ensures found { IfSome result (λ age. (from ≤ age)
             × ((a : ℕ) → from ≤ a → a < age → HasAge self.now code a → ⊥)) }

@@ -1,19 +1,24 @@
 //! Rows by age, and an index of their ages.
 use crate::codes::{Code, Codes, code_like, codes_of};
 use crate::index::Index;
-use crate::key::Lent;
+use crate::key::{Known, Lent};
 use crate::places::Places;
 use std::alloc::Global;
 use std::marker::Model;
 use std::sync::ledger::Ledger;
 use tc_lists::NoMemory;
 use tc_steps::Steps;
-use tc_term::{Ground, Term};
+use tc_term::Ground;
+
+// Among fewer rows a search needs no codes of second arguments.
+const MANY: usize = 64;
 
 /// Rows by age, also those that were taken while a mark may bring them back.
 ///
 /// No row below the age `start` is there. The index has the age of each row that is there twice: by
-/// the code of its key, and by that of its key and first argument. Where memory ended when a row
+/// the code of its key, and by that of its key and first argument; and by that of its second
+/// argument, from when a search had use for that until as many rows were put as there are with no
+/// such search between them. Where memory ended when a row
 /// came back to it, it isn't `whole`, and searches go through the rows.
 #[derive(Drop)]
 pub(crate) struct Held {
@@ -21,6 +26,8 @@ pub(crate) struct Held {
     index: Index,
     whole: bool,
     start: u64,
+    // How many rows were put since a search had use for second arguments.
+    unasked: usize,
 }
 
 impl Model for Held {
@@ -42,12 +49,11 @@ impl Model for Held {
 impl Held {
     ghost use Rattle.std.specs.Prelude.{◌≡◌, ◌<◌, ◌≤◌, ◌+◌, ◌^◌, IsTrue, List, [], ◌∷◌, ◌++◌};
     ghost use Rattle.std.specs.Prelude.{length, map, filter, slice_get, is_some, All, OnOk};
-    ghost use Rattle.std.specs.Prelude.{OnErr, IfErr, IfSome, IfNone, Option, Some, None};
+    ghost use Rattle.std.specs.Prelude.{Bool, OnErr, IfErr, IfSome, IfNone};
     ghost use Rattle.std.specs.Option.{option_copied};
     ghost use Rattle.tc_lists.specs.Firsts.{NoneOf, IsFirst};
-    ghost use Rattle.tc_term.specs.Tree.{Tree};
-    ghost use Rattle.tc_term.specs.TreeView.{tree_of};
-    ghost use Rattle.tc_bag.specs.Lent.{lent_key, lent_tree};
+    ghost use Rattle.tc_bag.specs.Lent.{lent_key, nothing_known};
+    ghost use Rattle.tc_bag.specs.declared.key.Known.{Known};
     ghost use Rattle.tc_bag.specs.Codes.{code_like};
     ghost use Rattle.tc_bag.specs.Looks.{like_between, like_from};
     ghost use Rattle.tc_bag.specs.Slots.{Slot, slot, InOrder, IsThereLike, is_there, IsYoungest};
@@ -64,6 +70,7 @@ impl Held {
             index: Index::new(alloc),
             whole: true,
             start: 0,
+            unasked: 0,
         }
     }
 
@@ -96,26 +103,26 @@ impl Held {
         self.places.get_older(age, next)
     }
 
-    /// The first row that is there, is not older than `from`, agrees with the key and has this
-    /// first argument, where one is given. Only tuples that agree with the key are looked at.
+    /// The first row that is there, is not older than `from`, agrees with the key and has the
+    /// arguments that are known. Only tuples that agree with the key are looked at.
     pub(crate) fn first_like<L: Ledger>(
         &self,
         key: Lent,
-        first: Option<&Term>,
+        known: Known,
         from: u64,
         steps: &mut Steps<L>,
     ) -> Option<(u64, &Ground)>
         requires order { InOrder self.now }
         requires limit { All (λ s. s.age < 2 ^ 64) self.now }
         ensures found { IfSome result (λ r. IsFirst
-            (IsThereLike (lent_key key.entry) (lent_tree first.entry) from)
+            (IsThereLike (lent_key key.entry) known.entry from)
             self.now (slot r.0 r.1.now)) }
         ensures none { IfNone result (NoneOf
-            (IsThereLike (lent_key key.entry) (lent_tree first.entry) from)
+            (IsThereLike (lent_key key.entry) known.entry from)
             self.now) }
-        ensures plain { lent_tree first.entry ≡ None
+        ensures plain { known.entry ≡ nothing_known
             → IfSome result (λ r. steps.new ≡ steps.old + 1) }
-        ensures plain_none { lent_tree first.entry ≡ None
+        ensures plain_none { known.entry ≡ nothing_known
             → IfNone result (steps.new ≡ steps.old) }
         ensures looked { IfSome result (λ r. steps.new ≤ steps.old
             + like_between (lent_key key.entry) from (r.0 + 1) (rows_now self.now)) }
@@ -123,10 +130,10 @@ impl Held {
             + like_from (lent_key key.entry) from (rows_now self.now)) }
         ensures rises { steps.old ≤ steps.new }
     {
-        let code = code_like(key, first);
+        let code = code_like(key, known, self.index.is_on());
         let mut at = from;
         while let Some(age) = self.next_age(key, code, at) {
-            if let Some(tuple) = self.places.like_at(age, key, first, steps) {
+            if let Some(tuple) = self.places.like_at(age, key, known, steps) {
                 return Some((age, tuple));
             }
             if age == u64::MAX {
@@ -141,14 +148,14 @@ impl Held {
     // else is asked; that of a row where the key is any or the index isn't whole.
     fn next_age(&self, key: Lent, code: Code, from: u64) -> Option<u64>
         requires order { InOrder self.now }
-        ensures found { IfSome result (λ age. (from ≤ age) × ((first : Option Tree)
-            → code ≡ code_like (lent_key key.entry) first
+        ensures found { IfSome result (λ age. (from ≤ age) × ((all : Bool) (known : Known)
+            → code ≡ code_like all (lent_key key.entry) known
             → All (λ s. from ≤ s.age → s.age < age
-            → IsThereLike (lent_key key.entry) first from s → ⊥) self.now)) }
-        ensures none { IfNone result ((first : Option Tree)
-            → code ≡ code_like (lent_key key.entry) first
+            → IsThereLike (lent_key key.entry) known from s → ⊥) self.now)) }
+        ensures none { IfNone result ((all : Bool) (known : Known)
+            → code ≡ code_like all (lent_key key.entry) known
             → All (λ s. from ≤ s.age
-            → IsThereLike (lent_key key.entry) first from s → ⊥) self.now) }
+            → IsThereLike (lent_key key.entry) known from s → ⊥) self.now) }
     {
         if !self.whole {
             return self.oldest_from(from);
@@ -169,6 +176,52 @@ impl Held {
         Some(age)
     }
 
+    /// Gets ready for searches for tuples with a key and the arguments that are known: where many
+    /// rows are to be looked at and the second argument tells them apart, the index has that too
+    /// from now on. Takes time for each row where it begins to, and else none.
+    pub(crate) fn prepare(&mut self, key: Lent, known: Known)
+        ensures { self.new ≡ self.old }
+    {
+        let code = code_like(key, known, true);
+        if let None = code.second {
+            return;
+        }
+        self.unasked = 0;
+        if !self.index.is_on() && self.index.is_common(code.base) {
+            self.start_seconds();
+        }
+    }
+
+    /// Whether so many rows are held that a search may have use for second arguments.
+    pub(crate) fn are_many(&self) -> bool {
+        self.places.len() >= MANY
+    }
+
+    // Has each row that is there in the index by its second argument, where memory lasts.
+    fn start_seconds(&mut self)
+        ensures { self.new ≡ self.old }
+    {
+        self.index.start();
+        match self.places.enter_all(&mut self.index) {
+            Ok(()) => self.whole = true,
+            Err(_) => self.index.stop(),
+        }
+    }
+
+    // Notes that a row is put, and gives second arguments up where no search has had use for them
+    // for long.
+    fn note_put(&mut self)
+        ensures { self.new ≡ self.old }
+    {
+        if !self.index.is_on() {
+            return;
+        }
+        self.unasked = self.unasked.saturating_add(1);
+        if self.unasked > self.places.len() {
+            self.index.stop();
+        }
+    }
+
     /// The tuple of this place, from 0, of those whose rows are there.
     pub(crate) fn nth(&self, i: usize) -> Option<&Ground>
         ensures { option_copied result ≡ slice_get (tuples_there self.now) i }
@@ -183,7 +236,18 @@ impl Held {
         ensures same { OnErr result (self.new ≡ self.old) }
         ensures returned { IfErr result (λ back. back ≡ tuple) }
     {
-        let codes = codes_of(tuple.term());
+        self.note_put();
+        self.push_row(age, tuple)
+    }
+
+    // The same, once it is noted.
+    fn push_row(&mut self, age: u64, tuple: Ground) -> Result<(), Ground>
+        requires { All (λ s. s.age < age) self.old }
+        ensures pushed { OnOk result (self.new ≡ self.old ++ slot age tuple ∷ []) }
+        ensures same { OnErr result (self.new ≡ self.old) }
+        ensures returned { IfErr result (λ back. back ≡ tuple) }
+    {
+        let codes = codes_of(tuple.term(), self.index.is_on());
         if let Err(_) = self.index.enter_row(age, codes) {
             self.index.leave_row(age, codes);
             return Err(tuple);
@@ -280,7 +344,7 @@ impl Held {
         ensures taken { self.new ≡ map (taken_at age n) self.old }
         ensures told { result ≡ is_some (tuple_there age self.old) }
     {
-        match self.places.codes_there(age) {
+        match self.places.codes_there(age, self.index.is_on()) {
             Some(codes) => {
                 self.set_gone(age, codes, n);
                 self.skip_gone();
@@ -345,7 +409,7 @@ impl Held {
         requires order { InOrder self.old }
         ensures { self.new ≡ map (with_taken age 0) self.old }
     {
-        if let Some(codes) = self.places.codes(age) {
+        if let Some(codes) = self.places.codes(age, self.index.is_on()) {
             self.whole = self.index.enter_again(self.whole, age, codes);
             self.start = self.start.min(age);
         }

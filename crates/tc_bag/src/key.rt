@@ -1,9 +1,11 @@
 //! Keys of terms: what a tuple that a template matches has in common with it at its top.
-ghost use Rattle.std.specs.Prelude.{◌≡◌, ◌↔◌, IfOk, IsTrue};
+ghost use Rattle.std.specs.Prelude.{◌≡◌, ◌↔◌, ◌<◌, length, IfOk, IsTrue, Some};
 ghost use Rattle.tc_term.specs.Tree.{Fits};
-ghost use Rattle.tc_term.specs.TreeView.{tree_of};
-ghost use Rattle.tc_bag.specs.Keys.{known_first, HasFirst};
-ghost use Rattle.tc_bag.specs.Lent.{lent_key, lent_tree};
+ghost use Rattle.tc_term.specs.TreeView.{tree_of, trees_of};
+ghost use Rattle.tc_bag.specs.Keys.{known_first, known_second, repeats_first, if_ground, is_again, second_of};
+ghost use Rattle.tc_bag.specs.Keys.{HasFirst, HasSecond, HasKnown};
+ghost use Rattle.tc_bag.specs.Lent.{lent_key, lent_tree, term_in};
+ghost use Rattle.tc_bag.specs.declared.key.Second.TheVariants.{AsFirst};
 
 use std::alloc::Global;
 use tc_lists::NoMemory;
@@ -100,8 +102,49 @@ impl<'n> Lent<'n> {
     }
 }
 
-/// The first argument of a term, where there is one and no variable stands in it.
-pub fn known_first(t: &Term) -> Option<&Term>
+/// What is known of the first two arguments of each tuple that a template matches.
+#[derive(Clone, Copy)]
+pub struct Known<'t> {
+    /// The first argument, where that is known.
+    pub first: Option<&'t Term>,
+    pub second: Second<'t>,
+}
+
+/// What is known of a second argument.
+#[derive(Clone, Copy)]
+pub enum Second<'t> {
+    Unknown,
+    Is(&'t Term),
+    /// That it is there, and the same as the first.
+    AsFirst,
+}
+
+impl<'t> Known<'t> {
+    /// Nothing is known.
+    pub const NOTHING: Known<'static> = Known {
+        first: None,
+        second: Second::Unknown,
+    };
+}
+
+/// What a template tells of the first two arguments of a tuple that it matches: one in which no
+/// variable stands is the tuple's, and where both are one variable, the tuple's are the same.
+pub fn known_of(template: &Term) -> Known
+    ensures first { lent_tree result.first ≡ known_first (tree_of template.now) }
+    ensures second { lent_tree (term_in result.second) ≡ known_second (tree_of template.now) }
+    ensures same { (result.second ≡ AsFirst) ↔ IsTrue (repeats_first (tree_of template.now)) }
+{
+    let Term::Comp(_, args) = template else {
+        return Known::NOTHING;
+    };
+    Known {
+        first: known_first(template),
+        second: second_of(args.items()),
+    }
+}
+
+// The first argument of a term, where there is one and no variable stands in it.
+fn known_first(t: &Term) -> Option<&Term>
     ensures { lent_tree result ≡ known_first (tree_of t.now) }
 {
     let Term::Comp(_, args) = t else {
@@ -111,10 +154,35 @@ pub fn known_first(t: &Term) -> Option<&Term>
     if first.is_ground() { Some(first) } else { None }
 }
 
-/// Whether a term has this first argument, where one is given.
-pub(crate) fn has_first(first: Option<&Term>, t: &Term) -> bool
-    ensures { IsTrue result
-        ↔ HasFirst (lent_tree first.entry) (tree_of t.now) }
+// What is known of the second argument, by the arguments of a template.
+fn second_of(args: &[Term]) -> Second
+    requires { 0 < length args.now }
+    ensures second { lent_tree (term_in result) ≡ if_ground (second_of (trees_of args.now)) }
+    ensures same { (result ≡ AsFirst) ↔ IsTrue (is_again (trees_of args.now)) }
+{
+    if args.len() < 2 {
+        return Second::Unknown;
+    }
+    let second = &args[1];
+    if second.is_ground() {
+        Second::Is(second)
+    } else if args[0] == *second {
+        Second::AsFirst
+    } else {
+        Second::Unknown
+    }
+}
+
+/// Whether a tuple has the arguments that are known.
+pub(crate) fn has_known(known: Known, t: &Term) -> bool
+    ensures { IsTrue result ↔ HasKnown known.entry (tree_of t.now) }
+{
+    has_first(known.first, t) && has_second(known.second, t)
+}
+
+// Whether a term has this first argument, where one is given.
+fn has_first(first: Option<&Term>, t: &Term) -> bool
+    ensures { IsTrue result ↔ HasFirst (lent_tree first.entry) (tree_of t.now) }
 {
     let Some(first) = first else {
         return true;
@@ -123,4 +191,24 @@ pub(crate) fn has_first(first: Option<&Term>, t: &Term) -> bool
         Term::Comp(_, args) => args.items()[0] == *first,
         _ => false,
     }
+}
+
+// Whether a term has a second argument that is as is known.
+fn has_second(second: Second, t: &Term) -> bool
+    ensures { IsTrue result ↔ HasSecond second.entry (tree_of t.now) }
+{
+    match (second, t) {
+        (Second::Unknown, _) => true,
+        (Second::Is(given), Term::Comp(_, args)) => is_second(given, args.items()),
+        (Second::AsFirst, Term::Comp(_, args)) => is_second(&args.items()[0], args.items()),
+        _ => false,
+    }
+}
+
+// Whether the second of some arguments is there, and is this term.
+fn is_second(term: &Term, args: &[Term]) -> bool
+    requires { 0 < length args.now }
+    ensures { IsTrue result ↔ (second_of (trees_of args.now) ≡ Some (tree_of term.now)) }
+{
+    args.len() > 1 && args[1] == *term
 }

@@ -1,10 +1,11 @@
 //! Laws of keys and of looks, each the contract of a function that does nothing.
-ghost use Rattle.std.specs.Prelude.{ℕ, ◌+◌, ◌≤◌, List, Contains};
+ghost use Rattle.std.specs.Prelude.{ℕ, ◌≡◌, ◌+◌, ◌≤◌, List, Contains, IfSome, IsTrue, Some};
 ghost use Rattle.tc_term.specs.Equations.{Equation, Matches};
 ghost use Rattle.tc_term.specs.Tree.{Tree, IsTuple};
 ghost use Rattle.tc_steps.specs.Tops.{agreeing};
 ghost use Rattle.tc_bag.specs.declared.key.Key.{Key};
-ghost use Rattle.tc_bag.specs.Keys.{key_of, known_first, IsOfKey, HasFirst};
+ghost use Rattle.tc_bag.specs.Keys.{key_of, known_first, known_second, repeats_first};
+ghost use Rattle.tc_bag.specs.Keys.{second_argument, BeginsTwice, IsOfKey, HasFirst};
 ghost use Rattle.tc_bag.specs.Looks.{like_between, like_from};
 ghost use Rattle.tc_bag.specs.Stock.{Row, tuples_of, IsCandidate};
 
@@ -18,6 +19,19 @@ pub fn matching_tuple_agrees()
 pub fn matching_tuple_has_first()
     ensures { (n : ℕ) (es : List Equation) (t u : Tree)
         → Matches n es t u → IsTuple u → HasFirst (known_first t) u }
+{}
+
+/// A tuple that a template matches has the template's second argument, where that is ground.
+pub fn matching_tuple_has_second()
+    ensures { (n : ℕ) (es : List Equation) (t u : Tree) → Matches n es t u → IsTuple u
+        → IfSome (known_second t) (λ second. second_argument u ≡ Some second) }
+{}
+
+/// The first two arguments of a tuple that a template matches are the same, where the template's
+/// are.
+pub fn matching_tuple_begins_twice()
+    ensures { (n : ℕ) (es : List Equation) (t u : Tree)
+        → Matches n es t u → IsTuple u → IsTrue (repeats_first t) → BeginsTwice u }
 {}
 
 /// What searches may look at that go on from one another: one after another they look at no more

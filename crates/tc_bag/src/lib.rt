@@ -8,7 +8,7 @@
 //! let mut bag = Bag::new(alloc);
 //! bag.add(tuple)?;
 //! let key = Key::of(alloc, template)?;
-//! let found = bag.candidate_like(&key, known_first(template), 0, steps);
+//! let found = bag.candidate_like(&key, known_of(template), 0, steps);
 //! ```
 #![tactic(auto)]
 
@@ -28,8 +28,11 @@ mod slots;
 
 pub use bag::{Bag, PutFault};
 pub use codes::top_code;
-pub use key::{Key, known_first};
-pub use laws::{looks_add_up, matching_tuple_agrees, matching_tuple_has_first};
+pub use key::{Key, Known, Second, known_of};
+pub use laws::{
+    looks_add_up, matching_tuple_agrees, matching_tuple_begins_twice, matching_tuple_has_first,
+    matching_tuple_has_second,
+};
 pub use pairs::Pairs;
 pub use rows::Rows;
 pub use tc_lists::NoMemory;

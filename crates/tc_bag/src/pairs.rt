@@ -44,6 +44,13 @@ impl Pairs {
         self.pairs.remove(&(first, second));
     }
 
+    /// Removes each pair.
+    pub fn clear(&mut self)
+        ensures { (c a : ℕ) → HasPair self.new c a → ⊥ }
+    {
+        self.pairs.clear();
+    }
+
     /// The least second number with this first one that is at least `from`.
     pub fn next(&self, first: u64, from: u64) -> Option<u64>
         ensures there { IfSome result (λ second. HasPair self.now first second) }

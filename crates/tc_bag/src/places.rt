@@ -13,7 +13,7 @@ ghost use Rattle.tc_bag.specs.Places.{HasTuple, IsFirstFilled, IsCleared};
 use crate::bag::PutFault;
 use crate::codes::Codes;
 use crate::index::Index;
-use crate::key::{Lent, has_first};
+use crate::key::{Known, Lent, has_known};
 use crate::rows::Rows;
 use crate::slots::{NO_ROW, Place};
 use std::alloc::Global;
@@ -21,7 +21,7 @@ use std::marker::{Brand, Model};
 use std::sync::ledger::{Blank, Ledger};
 use tc_lists::NoMemory;
 use tc_steps::Steps;
-use tc_term::{Ground, Term};
+use tc_term::Ground;
 
 /// Rows in order of age, and how many they are. Each place has the number of its tuple.
 ///
@@ -52,15 +52,14 @@ impl Model for Places {
 
 impl Places {
     ghost use Rattle.std.specs.Prelude.{ℕ, ◌≡◌, ◌<◌, ◌≤◌, ◌+◌, ◌^◌, [], ◌∷◌, ◌++◌, length, map};
-    ghost use Rattle.std.specs.Prelude.{filter, slice_get, is_some, All, Option, Some, None};
+    ghost use Rattle.std.specs.Prelude.{filter, slice_get, is_some, All, Option, Some};
     ghost use Rattle.std.specs.Prelude.{OnOk, OnErr, IfErr, IfSome, IfNone};
     ghost use Rattle.std.specs.Option.{option_copied, option_map};
     ghost use Rattle.tc_term.specs.Tree.{Tree};
-    ghost use Rattle.tc_bag.specs.Ages.{Has};
+    ghost use Rattle.tc_bag.specs.Ages.{Keeps};
     ghost use Rattle.tc_bag.specs.Codes.{codes_of};
-    ghost use Rattle.tc_bag.specs.declared.codes.Code.{Code};
     ghost use Rattle.tc_bag.specs.Keys.{IsLike};
-    ghost use Rattle.tc_bag.specs.Lent.{lent_key, lent_tree};
+    ghost use Rattle.tc_bag.specs.Lent.{lent_key, nothing_known};
     ghost use Rattle.tc_bag.specs.Looks.{like_between};
     ghost use Rattle.tc_bag.specs.Places.{slot_at, tuple_older, IsEntered};
     ghost use Rattle.tc_bag.specs.Slots.{slot, rows_now, tuple_there, tuples_there, is_there};
@@ -139,23 +138,23 @@ impl Places {
         None
     }
 
-    /// The tuple of this age, where its row is there, agrees with the key and has this first
-    /// argument, where one is given. Only a tuple that agrees with the key is looked at.
+    /// The tuple of this age, where its row is there, agrees with the key and has the
+    /// arguments that are known. Only a tuple that agrees with the key is looked at.
     #[inline]
     pub(crate) fn like_at<L: Ledger>(
         &self,
         age: u64,
         key: Lent,
-        first: Option<&Term>,
+        known: Known,
         steps: &mut Steps<L>,
     ) -> Option<&Ground>
         ensures found { IfSome result (λ t. (tuple_there age self.now ≡ Some t.now)
-            × IsLike (lent_key key.entry) (lent_tree first.entry) t.now) }
+            × IsLike (lent_key key.entry) known.entry t.now) }
         ensures none { IfNone result ((t : Tree) → tuple_there age self.now ≡ Some t
-            → IsLike (lent_key key.entry) (lent_tree first.entry) t → ⊥) }
+            → IsLike (lent_key key.entry) known.entry t → ⊥) }
         ensures plain { IfSome result (λ t. steps.new ≡ steps.old + 1) }
         ensures plain_none { IfNone result
-            (lent_tree first.entry ≡ None → steps.new ≡ steps.old) }
+            (known.entry ≡ nothing_known → steps.new ≡ steps.old) }
         ensures looked { steps.new
             ≤ steps.old + like_between (lent_key key.entry) age (age + 1) (rows_now self.now) }
         ensures rises { steps.old ≤ steps.new }
@@ -165,35 +164,36 @@ impl Places {
             return None;
         }
         let tuple = self.rows.look(row, steps);
-        if has_first(first, tuple.term()) {
+        if has_known(known, tuple.term()) {
             Some(tuple)
         } else {
             None
         }
     }
 
-    /// The codes of the tuple of this age, also where its row was taken.
-    pub(crate) fn codes(&self, age: u64) -> Option<Codes>
-        ensures { result ≡ option_map (λ s. codes_of s.tuple) (slot_at age self.now) }
+    /// The codes of the tuple of this age, all or without its second argument, also where its row
+    /// was taken.
+    pub(crate) fn codes(&self, age: u64, all: bool) -> Option<Codes>
+        ensures { result ≡ option_map (λ s. codes_of all s.tuple) (slot_at age self.now) }
     {
-        Some(self.rows.codes(row_of(&self.places, age)?))
+        Some(self.rows.codes(row_of(&self.places, age)?, all))
     }
 
-    /// The codes of the tuple of this age, where its row is there.
-    pub(crate) fn codes_there(&self, age: u64) -> Option<Codes>
-        ensures { result ≡ option_map codes_of (tuple_there age self.now) }
+    /// The same, where its row is there.
+    pub(crate) fn codes_there(&self, age: u64, all: bool) -> Option<Codes>
+        ensures { result ≡ option_map (codes_of all) (tuple_there age self.now) }
     {
-        Some(self.rows.codes(row_there(&self.places, age)?))
+        Some(self.rows.codes(row_there(&self.places, age)?, all))
     }
 
-    /// Enters each row that is there in an index.
+    /// Enters each row that is there in an index, by all codes where that is on.
     pub(crate) fn enter_all(&self, index: &mut Index) -> Result<(), NoMemory>
         ensures entered { OnOk result (All (IsEntered index.new) self.now) }
-        ensures kept { (c : Code) (a : ℕ) → Has index.old c a → Has index.new c a }
+        ensures kept { (a : ℕ) → Keeps index.old index.new a }
     {
         for place in self.places.as_slice() {
             if let Some(row) = place.there() {
-                index.enter_row(place.age, self.rows.codes(row))?;
+                index.enter_row(place.age, self.rows.codes(row, index.is_on()))?;
             }
         }
         Ok(())

@@ -102,12 +102,12 @@ impl Rows {
         }
     }
 
-    /// The codes of the tuple at a row. They tell of its top and of its first argument's, and it
-    /// isn't handed out.
-    pub(crate) fn codes(&self, row: usize) -> Codes
+    /// The codes of the tuple at a row, all or without its second argument. They tell of its top and
+    /// of those of its first two arguments, and it isn't handed out.
+    pub(crate) fn codes(&self, row: usize, all: bool) -> Codes
         requires { IsSome (tuple_in row self.now) }
-        ensures { IfSome (tuple_in row self.now) (λ t. result ≡ codes_of t) }
+        ensures { IfSome (tuple_in row self.now) (λ t. result ≡ codes_of all t) }
     {
-        codes_of(self.slab[row].term())
+        codes_of(self.slab[row].term(), all)
     }
 }

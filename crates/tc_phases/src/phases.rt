@@ -116,6 +116,31 @@ pub fn search<L: Ledger>(
     ensures adds { AddsYounger bag.old bag.new }
     ensures rises { steps.old ≤ steps.new }
 {
+    bag.prepare(template.term());
+    search_prepared(alloc, store, regime, wants, template, bag, steps)
+}
+
+// The same, in a bag that is prepared for the search.
+fn search_prepared<L: Ledger>(
+    alloc: Global,
+    store: &mut Store,
+    regime: &Regime,
+    wants: Wants,
+    template: &Pattern,
+    bag: &mut Bag,
+    steps: &mut Steps<L>,
+) -> Result<(Option<Ground>, Cascade), NoMemory>
+    requires regime { IsRegime regime.now }
+    requires next { bag.old.next + most_ages + 1 ≤ u64.MAX }
+    ensures search { IfOk result
+        (λ x. IsSearch regime.now wants template.now bag.old bag.new x.0 x.1) }
+    ensures same { OnErr result (bag.new ≡ bag.old) }
+    ensures next { IfOk result
+        (λ x. bag.new.next ≤ bag.old.next + 1 + MOST_GOALS * length (items_of x.1)) }
+    ensures saved { bag.new.saved ≡ bag.old.saved }
+    ensures adds { AddsYounger bag.old bag.new }
+    ensures rises { steps.old ≤ steps.new }
+{
     let Some((age, tuple)) = oldest_match_of(template, bag, steps) else {
         let trigger = missing(wants, template);
         let end = run_phase(alloc, store, regime, &trigger, &Change::Nothing, bag, steps)?;

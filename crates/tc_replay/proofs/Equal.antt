@@ -1,12 +1,19 @@
 -- The first tuple of a bag that is equal to one.
-use Rattle.std.proofs.Common.{◌≡◌, ℕ, cond, true, false, Option, Some, None, inr, List, ◌∷◌, Contains, refl, sym, ap, subst, ◌∙◌}
+use Rattle.std.proofs.Common.{◌≡◌, ◌&&◌, ℕ, cond, not, Bool, true, false, IsTrue, IfSome, Some, None, inr, List, ◌∷◌, Contains, refl, sym, ap, subst, ◌∙◌}
 use Rattle.std.proofs.lemmas.List.{map-append}
 use Rattle.std.proofs.lemmas.List.Elements.{All-map}
 use Rattle.tc_lists.specs.Firsts.{NoneOf, IsFirst}
 use Rattle.tc_lists.proofs.Firsts.{NoneOf-from_All, IsFirst-contains}
-use Rattle.tc_term.specs.Tree.{Tree, Variable, Atomic, Number, Compound, is_ground}
+use Rattle.std.proofs.lemmas.Bool.{true≢false}
+use Rattle.tc_term.specs.Same.{same_tree, same_tree-Decides}
+use Rattle.tc_term.specs.Tree.{Tree, Variable, Atomic, Number, Compound, Last, More, is_ground}
 use Rattle.tc_bag.specs.declared.key.Key.{Key}
-use Rattle.tc_bag.specs.Keys.{key_of, known_first, first_of, HasFirst, IsOfKey, IsLike}
+use Rattle.tc_bag.specs.declared.key.Known.{Known}
+use Rattle.tc_bag.specs.declared.key.Second.{Second}
+use Rattle.tc_bag.specs.declared.key.Second.TheVariants.{Unknown, Is, AsFirst}
+use Rattle.tc_bag.specs.Keys.{key_of, known_first, known_second, repeats_first, first_of, second_argument}
+use Rattle.tc_bag.specs.Keys.{BeginsTwice, HasFirst, HasSecond, HasKnown, IsOfKey, IsLike}
+use Rattle.tc_bag.specs.Lent.{lent_tree, term_in}
 use Rattle.tc_bag.specs.Stock.{Row, AgesRiseBelow, tuples_of}
 use Rattle.tc_model.proofs.Removals.{without-first}
 use Rattle.tc_model.specs.Tuples.{without_first}
@@ -27,12 +34,52 @@ has_own_first (Compound name args) =
       | false ↦ tt
     ]
 
--- a tuple that is equal has the key and the first argument
-pub equal_likes : (tuple : Tree) (key : Key) (first : Option Tree) (rows : List Row) → key ≡ key_of tuple → first ≡ known_first tuple
-    → IsKey (Equals tuple) (IsLike key first) rows
-equal_likes tuple key first rows keyed known k d inside same =
-    subst (IsLike key first) (sym same)
-    (subst (λ x. IsOfKey x tuple) (sym keyed) (inr refl), subst (λ f. HasFirst f tuple) (sym known) (has_own_first tuple))
+has_own_second : (t : Tree) → IfSome (known_second t) (λ s. second_argument t ≡ Some s)
+has_own_second (Variable n) = tt
+has_own_second (Atomic name) = tt
+has_own_second (Number n) = tt
+has_own_second (Compound name (Last t)) = tt
+has_own_second (Compound name (More t ts)) =
+    elim (is_ground (first_of ts)) as (λ b. IfSome (cond b (Some (first_of ts)) None) (λ s. Some (first_of ts) ≡ Some s)) [
+      | true ↦ refl
+      | false ↦ tt
+    ]
+
+right_true : (a b : Bool) → (a && b) ≡ true → b ≡ true
+right_true true b is = is
+right_true false b is = absurd (true≢false (sym is))
+
+begins_as_told : (t : Tree) → IsTrue (repeats_first t) → BeginsTwice t
+begins_as_told (Variable n) again = absurd (true≢false (sym again))
+begins_as_told (Atomic name) again = absurd (true≢false (sym again))
+begins_as_told (Number n) again = absurd (true≢false (sym again))
+begins_as_told (Compound name (Last t)) again = absurd (true≢false (sym again))
+begins_as_told (Compound name (More t ts)) again =
+    let same : t ≡ first_of ts = (same_tree-Decides t (first_of ts)).0 (right_true (not (is_ground (first_of ts))) (same_tree t (first_of ts)) again) in
+    record { argument = t; first = refl; second = ap (λ u. Some u) (sym same) }
+
+-- what is known of a tuple by itself it has
+has_own : (t : Tree) (known : Known) → lent_tree known.first ≡ known_first t → lent_tree (term_in known.second) ≡ known_second t
+    → (known.second ≡ AsFirst → IsTrue (repeats_first t)) → HasKnown known t
+has_own t known first second again = (subst (λ f. HasFirst f t) (sym first) (has_own_first t), by_second known.second second again)
+  where
+    by_second : (s : Second) → lent_tree (term_in s) ≡ known_second t → (s ≡ AsFirst → IsTrue (repeats_first t)) → HasSecond s t
+    by_second Unknown is twice = tt
+    by_second (Is term) is twice = subst (λ o. IfSome o (λ u. second_argument t ≡ Some u)) (sym is) (has_own_second t)
+    by_second AsFirst is twice = begins_as_told t (twice refl)
+
+-- a tuple that is equal has the key and the arguments
+pub equal_likes : (tuple : Tree) (key : Key) (known : Known) (rows : List Row) → key ≡ key_of tuple → HasKnown known tuple
+    → IsKey (Equals tuple) (IsLike key known) rows
+equal_likes tuple key known rows keyed has k d inside same =
+    subst (IsLike key known) (sym same) (subst (λ x. IsOfKey x tuple) (sym keyed) (inr refl), has)
+
+-- so where they are read off a term that is the tuple
+pub equal_known : (tuple t : Tree) (known : Known) (rows : List Row) → t ≡ tuple → lent_tree known.first ≡ known_first t
+    → lent_tree (term_in known.second) ≡ known_second t → (known.second ≡ AsFirst → IsTrue (repeats_first t))
+    → IsKey (Equals tuple) (IsLike (key_of t) known) rows
+equal_known tuple t known rows is first second again =
+    equal_likes tuple (key_of t) known rows (ap key_of is) (subst (HasKnown known) is (has_own t known first second again))
 
 -- the first candidate that is equal
 pub equal_found : (tuple : Tree) (Q : Tree → Type 0) (from next : ℕ) (rows : List Row) (row : Row) → AgesRiseBelow rows next

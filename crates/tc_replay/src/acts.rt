@@ -56,7 +56,21 @@ pub fn is_done<L: Ledger>(
     ensures room { bag.new.next ≤ bag.old.next + 1 }
 {
     let mut steps = Steps::<L>::none(blank);
+    prepare(act, bag);
     acts(alloc, act, bag, &mut steps)
+}
+
+// Gets the bag ready for the search that the act makes, if it makes one.
+fn prepare(act: &Act, bag: &mut Bag)
+    ensures { bag.new ≡ bag.old }
+{
+    match act {
+        Act::Put(_) | Act::Ask(_) => {}
+        Act::Take(_, tuple) | Act::Read(_, tuple) | Act::Refute(_, tuple) => {
+            bag.prepare(tuple.term());
+        }
+        Act::Miss(template) | Act::Confirm(template) => bag.prepare(template.term()),
+    }
 }
 
 // The same, counted.

@@ -7,7 +7,7 @@ ghost use Rattle.tc_bag.specs.Stock.{tuples_of};
 ghost use Rattle.tc_replay.specs.Meeting.{IsAgeOf, HasMet, MeetsNot};
 
 use std::sync::ledger::Ledger;
-use tc_bag::{Bag, known_first};
+use tc_bag::{Bag, known_of};
 use tc_lists::NoMemory;
 use tc_steps::Steps;
 use tc_term::{Ground, Term};
@@ -43,15 +43,15 @@ pub fn meet<L: Ledger>(
 
 /// The age of the first tuple of the bag that is equal to this one.
 ///
-/// Those with its key and its first argument are compared, the oldest first. No memory is taken.
+/// Those with its key and its first two arguments are compared, the oldest first. No memory is taken.
 pub fn age_of<L: Ledger>(tuple: &Ground, bag: &Bag, steps: &mut Steps<L>) -> Option<u64>
     ensures found { IfSome result (IsAgeOf tuple.now bag.now.now) }
     ensures none { IfNone result (Contains (tuples_of bag.now.now) tuple.now → ⊥) }
 {
     let term = tuple.term();
-    let first = known_first(term);
+    let known = known_of(term);
     let mut start = 0;
-    while let Some((age, other)) = bag.candidate_for(term, first, start, steps) {
+    while let Some((age, other)) = bag.candidate_for(term, known, start, steps) {
         if *other.term() == *term {
             return Some(age);
         }

@@ -1,10 +1,11 @@
 -- How many steps a search makes that goes on from row to row.
-use Rattle.std.proofs.Common.{◌≡◌, ◌≤◌, ◌+◌, ◌*◌, ℕ, Option, List, ap, arith}
+use Rattle.std.proofs.Common.{◌≡◌, ◌≤◌, ◌+◌, ◌*◌, ℕ, List, ap, arith}
 use Rattle.tc_lists.specs.Firsts.{IsFirst}
 use Rattle.tc_lists.proofs.Firsts.{IsFirst-contains}
 use Rattle.tc_steps.specs.Tops.{agreeing}
 use Rattle.tc_term.specs.Tree.{Tree}
 use Rattle.tc_bag.specs.declared.key.Key.{Key}
+use Rattle.tc_bag.specs.declared.key.Known.{Known}
 use Rattle.tc_bag.specs.Keys.{key_of}
 use Rattle.tc_bag.specs.Looks.{like_between, like_from}
 use Rattle.tc_bag.specs.Stock.{Row, tuples_of, IsCandidateLike}
@@ -33,8 +34,8 @@ module _ (t : Tree) (key : Key) (rows : List Row) (from : ℕ) where
       → new ≤ before + like_from key from rows → new ≤ old + 2 * agreeing t (tuples_of rows)
   tried_none old before new same so_far look = omega (arith, all same, past, so_far, look)
 
-module _ (key : Key) (first : Option Tree) (rows : List Row) (from : ℕ) (row : Row) (old before looked : ℕ)
-    (found : IsFirst (IsCandidateLike key first from) rows row) where
+module _ (key : Key) (known : Known) (rows : List Row) (from : ℕ) (row : Row) (old before looked : ℕ)
+    (found : IsFirst (IsCandidateLike key known from) rows row) where
   up_to : like_between key 0 from rows + like_between key from (row.age + 1) rows ≤ like_between key 0 (row.age + 1) rows
   up_to = like-between key 0 from (row.age + 1) rows (omega arith) (omega (arith, found.has.0))
 
@@ -47,18 +48,18 @@ module _ (key : Key) (first : Option Tree) (rows : List Row) (from : ℕ) (row :
   pub tried_more : (new : ℕ) → before ≤ old + 2 * like_between key 0 from rows → looked ≤ before + like_between key from (row.age + 1) rows
       → new ≡ looked + 1 → new ≤ old + 2 * like_between key 0 (row.age + 1) rows
   tried_more new so_far look try =
-      let counts = like-found key from rows row (IsFirst-contains (IsCandidateLike key first from) rows row found) (found.has.0, found.has.1.0) in
+      let counts = like-found key from rows row (IsFirst-contains (IsCandidateLike key known from) rows row found) (found.has.0, found.has.1.0) in
       omega (arith, up_to, counts, so_far, look, try)
 
 -- the search ends at that row
-pub looked_now : (t : Tree) (key : Key) (first : Option Tree) (rows : List Row) (from : ℕ) (row : Row) (old before looked : ℕ)
-    → IsFirst (IsCandidateLike key first from) rows row → key ≡ key_of t → before ≤ old + like_between key 0 from rows
+pub looked_now : (t : Tree) (key : Key) (known : Known) (rows : List Row) (from : ℕ) (row : Row) (old before looked : ℕ)
+    → IsFirst (IsCandidateLike key known from) rows row → key ≡ key_of t → before ≤ old + like_between key 0 from rows
     → looked ≤ before + like_between key from (row.age + 1) rows → looked ≤ old + agreeing t (tuples_of rows)
-looked_now t key first rows from row old before looked found same so_far look =
-    looked_all t key rows (row.age + 1) old looked same (looked_more key first rows from row old before looked found so_far look)
+looked_now t key known rows from row old before looked found same so_far look =
+    looked_all t key rows (row.age + 1) old looked same (looked_more key known rows from row old before looked found so_far look)
 
-pub tried_now : (t : Tree) (key : Key) (first : Option Tree) (rows : List Row) (from : ℕ) (row : Row) (old before looked : ℕ)
-    → IsFirst (IsCandidateLike key first from) rows row → (new : ℕ) → key ≡ key_of t → before ≤ old + 2 * like_between key 0 from rows
+pub tried_now : (t : Tree) (key : Key) (known : Known) (rows : List Row) (from : ℕ) (row : Row) (old before looked : ℕ)
+    → IsFirst (IsCandidateLike key known from) rows row → (new : ℕ) → key ≡ key_of t → before ≤ old + 2 * like_between key 0 from rows
     → looked ≤ before + like_between key from (row.age + 1) rows → new ≡ looked + 1 → new ≤ old + 2 * agreeing t (tuples_of rows)
-tried_now t key first rows from row old before looked found new same so_far look try =
-    tried_all t key rows (row.age + 1) old new same (tried_more key first rows from row old before looked found new so_far look try)
+tried_now t key known rows from row old before looked found new same so_far look try =
+    tried_all t key rows (row.age + 1) old new same (tried_more key known rows from row old before looked found new so_far look try)

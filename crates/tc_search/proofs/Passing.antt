@@ -1,5 +1,5 @@
 -- Passing over rows in order of age.
-use Rattle.std.proofs.Common.{◌≡◌, ◌<◌, ◌≤◌, Option, ◌+◌, ℕ, inl, inr, List, [], ◌∷◌, ◌++◌, Some, All, get_or, refl, ap, sym, subst, ◌∙◌, arith}
+use Rattle.std.proofs.Common.{◌≡◌, ◌<◌, ◌≤◌, ◌+◌, ℕ, inl, inr, List, [], ◌∷◌, ◌++◌, Some, All, get_or, refl, ap, sym, subst, ◌∙◌, arith}
 use Rattle.std.proofs.lemmas.Bool.{cases_lt}
 use Rattle.std.proofs.lemmas.List.{map-append}
 use Rattle.std.proofs.lemmas.List.Elements.{All-head, All-weaker, All-append, All-cons, All-map}
@@ -9,11 +9,12 @@ use Rattle.tc_lists.proofs.Firsts.{NoneOf-from_All, All-from_NoneOf}
 use Rattle.tc_term.specs.Equations.{Equation, Matches}
 use Rattle.tc_term.specs.Tree.{Tree, IsTuple}
 use Rattle.tc_bag.specs.declared.key.Key.{Key}
+use Rattle.tc_bag.specs.declared.key.Known.{Known}
 use Rattle.tc_bag.specs.Keys.{key_of, IsOfKey, IsLike}
 use Rattle.tc_bag.specs.Stock.{Row, AgesRiseBelow, tuples_of, tuple_at, without_age}
 use Rattle.tc_bag.proofs.Agreement.{Agrees-match}
 use Rattle.tc_bag.proofs.Ages.{AgesRiseBelow-all, others_before, without_age-at, tuple_at-at}
-use Rattle.tc_search.specs.Found.{IsFound, MatchesHaveFirst}
+use Rattle.tc_search.specs.Found.{IsFound, MatchesHaveKnown}
 
 -- the rows behind a row are younger
 pub AgesRiseBelow-behind : (xs ys : List Row) (r : Row) (next : ℕ) → AgesRiseBelow (xs ++ r ∷ ys) next → All (λ s. r.age < s.age) ys
@@ -121,11 +122,11 @@ found_row n es template Q from next rows row rises keys passed first match =
       left = without_age-row rows first.before first.behind row next rises first.split;
     }
 
--- what a template matches agrees with its key, and is like it where it has this first argument
-pub likes_agree : (n : ℕ) (es : List Equation) (template : Tree) (key : Key) (first : Option Tree) (rows : List Row) → key ≡ key_of template
-    → MatchesHaveFirst n es template first → All (λ r. IsTuple r.tuple) rows → IsKey (Matches n es template) (IsLike key first) rows
-likes_agree n es template key first rows same have tuples =
-    All-weaker (λ r. IsTuple r.tuple) (λ r. Matches n es template r.tuple → IsLike key first r.tuple)
+-- what a template matches agrees with its key, and is like it where it has the arguments that are known
+pub likes_agree : (n : ℕ) (es : List Equation) (template : Tree) (key : Key) (known : Known) (rows : List Row) → key ≡ key_of template
+    → MatchesHaveKnown n es template known → All (λ r. IsTuple r.tuple) rows → IsKey (Matches n es template) (IsLike key known) rows
+likes_agree n es template key known rows same have tuples =
+    All-weaker (λ r. IsTuple r.tuple) (λ r. Matches n es template r.tuple → IsLike key known r.tuple)
     (λ r tuple match. (
       subst (λ k. IsOfKey k r.tuple) (sym same) (Agrees-match n es template r.tuple match tuple),
       have r.tuple match tuple,

@@ -4,9 +4,9 @@ ghost use Rattle.tc_term.specs.Equations.{Equation};
 ghost use Rattle.tc_term.specs.Tree.{Tree};
 ghost use Rattle.tc_term.specs.TreeView.{tree_of};
 ghost use Rattle.tc_term.specs.Variables.{var_bound};
-ghost use Rattle.tc_bag.specs.Lent.{lent_tree};
-ghost use Rattle.tc_search.specs.Found.{MatchesHaveFirst};
+ghost use Rattle.tc_search.specs.Found.{MatchesHaveFirst, MatchesHaveKnown};
 
+use tc_bag::Known;
 use tc_lists::NoMemory;
 use tc_term::{Ground, Term};
 use tc_unify::{Part, Store};
@@ -54,15 +54,19 @@ fn bound_first(store: &Store, template: &Term) -> Result<Option<Ground>, NoMemor
     })
 }
 
-/// This value, where there is one, and else what is known without it.
-pub(crate) fn first_of<'a>(value: &'a Option<Ground>, known: Option<&'a Term>) -> Option<&'a Term>
+/// What is known, with this value for the first argument, where there is one.
+#[inline(always)]
+pub(crate) fn with_first<'a>(value: &'a Option<Ground>, known: Known<'a>) -> Known<'a>
     ensures { (n : ℕ) (es : List Equation) (template : Tree)
         → MatchesHaveFirst n es template value.now
-        → MatchesHaveFirst n es template (lent_tree known.entry)
-        → MatchesHaveFirst n es template (lent_tree result) }
+        → MatchesHaveKnown n es template known.entry
+        → MatchesHaveKnown n es template result }
 {
     match value {
-        Some(value) => Some(value.term()),
+        Some(value) => Known {
+            first: Some(value.term()),
+            second: known.second,
+        },
         None => known,
     }
 }

@@ -10,10 +10,10 @@ ghost use Rattle.tc_bag.specs.Stock.{tuples_of};
 ghost use Rattle.tc_steps.specs.Tops.{agreeing};
 ghost use Rattle.tc_search.specs.Found.{IsFound};
 
-use crate::firsts::{first_of, value_after};
+use crate::firsts::{value_after, with_first};
 use crate::matching::does_match;
 use std::sync::ledger::Ledger;
-use tc_bag::{Bag, Key, known_first};
+use tc_bag::{Bag, Key, known_of};
 use tc_lists::NoMemory;
 use tc_steps::Steps;
 use tc_term::{Ground, Pattern, Term};
@@ -53,11 +53,11 @@ pub fn oldest_match<'a, L: Ledger>(
         ≤ steps.old + 2 * agreeing (tree_of template.now) (tuples_of bag.now.now) }
     ensures rises { steps.old ≤ steps.new }
 {
-    let known = known_first(template);
+    let known = known_of(template);
     let mut value = None;
     let mut tried: u32 = 0;
     let mut from = 0;
-    while let Some((age, tuple)) = bag.candidate_like(key, first_of(&value, known), from, steps) {
+    while let Some((age, tuple)) = bag.candidate_like(key, with_first(&value, known), from, steps) {
         if is_added(store, template, tuple, steps)? {
             return Ok(Some((age, tuple)));
         }
@@ -86,9 +86,9 @@ pub fn oldest_match_of<'a, L: Ledger>(
     ensures rises { steps.old ≤ steps.new }
 {
     let term = template.term();
-    let first = known_first(term);
+    let known = known_of(term);
     let mut start = 0;
-    while let Some((age, tuple)) = bag.candidate_for(term, first, start, steps) {
+    while let Some((age, tuple)) = bag.candidate_for(term, known, start, steps) {
         if does_match(template, tuple) {
             return Some((age, tuple));
         }

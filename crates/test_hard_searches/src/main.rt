@@ -1,5 +1,5 @@
 //! Bags and lists of requests that are made so that a search is slow or mistaken: terms of one code,
-//! very many tuples of one key, very large first arguments, many takes under one mark.
+//! very many tuples of one key, very large first arguments, many takes under one mark, many pairs.
 //!
 //! For each it prints whether what was found is what has to be found.
 #![tactic(auto)]
@@ -7,6 +7,7 @@
 mod bags;
 mod fault;
 mod requests;
+mod seconds;
 mod terms;
 
 use std::process::ExitCode;
@@ -14,7 +15,7 @@ use std::process::ExitCode;
 fn main(rt: HostRuntime) -> anyhow::Result<ExitCode> {
     let alloc = rt.alloc();
     let mut all = true;
-    let rows: [(&str, bool); 11] = [
+    let rows: [(&str, bool); 12] = [
         ("a million tuples of one key", bags::a_million(alloc)?),
         ("many takes under one mark", bags::many_takes(alloc)?),
         ("first arguments of one code", bags::first_arguments(alloc)?),
@@ -23,6 +24,7 @@ fn main(rt: HostRuntime) -> anyhow::Result<ExitCode> {
             bags::large_arguments(alloc)?,
         ),
         ("names of one code", bags::names(alloc)?),
+        ("second arguments", seconds::second_arguments(alloc)?),
         ("requests of one code", requests::names(alloc)?),
         ("requests that come back", requests::returns(alloc)?),
         ("the oldest request", requests::oldest(alloc)?),

@@ -5,7 +5,7 @@ use crate::fault::Fault;
 use std::alloc::Global;
 use std::marker::Brand;
 use std::sync::ledger::{Blank, Ledger};
-use tc_bag::{Bag, Key};
+use tc_bag::{Bag, Key, Known, Second};
 use tc_lists::NoMemory;
 use tc_steps::Steps;
 use tc_term::{Args, Ground, Name, Term};
@@ -103,6 +103,10 @@ fn first_of<L: Ledger>(bag: &Bag, key: &Key, argument: &Term, blank: Blank) -> O
     requires some { 0 < blank.parts }
 {
     let mut steps = Steps::<L>::none(blank);
-    bag.candidate_like(key, Some(argument), 0, &mut steps)
+    let known = Known {
+        first: Some(argument),
+        second: Second::Unknown,
+    };
+    bag.candidate_like(key, known, 0, &mut steps)
         .map(|row| row.0)
 }

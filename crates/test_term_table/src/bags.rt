@@ -17,7 +17,7 @@ use anyhow::anyhow;
 use std::alloc::Global;
 use std::marker::Brand;
 use std::sync::ledger::{Blank, Ledger};
-use tc_bag::{Bag, Key};
+use tc_bag::{Bag, Key, Known, Second};
 use tc_lists::{NoMemory, append_number};
 use tc_search::{does_match, oldest_match_of};
 use tc_steps::Steps;
@@ -94,7 +94,11 @@ fn tell<L: Ledger>(
         }
         (b"next", [term, first, Term::Int(from)]) => {
             let key = key_of(alloc, term)?;
-            let found = bag.candidate_like(&key, Some(first), u64::try_from(*from)?, &mut steps);
+            let known = Known {
+                first: Some(first),
+                second: Second::Unknown,
+            };
+            let found = bag.candidate_like(&key, known, u64::try_from(*from)?, &mut steps);
             append_age(found.map(|row| row.0), into)?;
         }
         _ => return Err(anyhow!("no step has this form")),

@@ -5,7 +5,7 @@ use Rattle.tc_term.specs.Tree.{IsTuple}
 use Rattle.tc_bag.specs.Stock.{Stock, row, AgesRiseBelow, IsCandidateLike}
 use Rattle.tc_bag.specs.Slots.{IsThereLike, most_rows}
 use Rattle.tc_bag.specs.Looks.{like_between, like_from}
-use Rattle.tc_bag.specs.Lent.{lent_key, lent_tree}
+use Rattle.tc_bag.specs.Lent.{lent_key}
 use Rattle.std.proofs.Common.{vec_capacity}
 use Rattle.std.proofs.lemmas.Option.{IfSome_then}
 use Rattle.tc_bag.proofs.Stocks.{sound-rises, sound-tuples, first-like, none-like}
@@ -13,22 +13,22 @@ use Rattle.tc_bag.proofs.bag.Bag.first_candidate.Goals as goal
 
 pub returns-clause-found : goal.returns-clause-found
 returns-clause-found g c =
-    let first = lent_tree c.args.first in
+    let known = c.args.known in
     let key = lent_key c.args.key in
     let from = c.args.from in
     IfSome_then c.first_like.result c.first_like.ensures.found
-    (λ r found. subst (λ (stock : Stock). IsFirst (IsCandidateLike key first from) stock.now (row r.0 r.1.now)) c.self.view_is
-    (first-like key first from c.self.inside.rows r.0 r.1.now found))
+    (λ r found. subst (λ (stock : Stock). IsFirst (IsCandidateLike key known from) stock.now (row r.0 r.1.now)) c.self.view_is
+    (first-like key known from c.self.inside.rows r.0 r.1.now found))
 
 pub returns-clause-none : goal.returns-clause-none
 returns-clause-none g c =
-    let first = lent_tree c.args.first in
+    let known = c.args.known in
     let key = lent_key c.args.key in
     let from = c.args.from in
-    IfNone-weaker c.first_like.result (NoneOf (IsThereLike key first from) c.self.inside.rows)
-    (NoneOf (IsCandidateLike key first from) c.args.self.now.now)
-    (λ none. subst (λ (stock : Stock). NoneOf (IsCandidateLike key first from) stock.now) c.self.view_is
-    (none-like key first from c.self.inside.rows none)) c.first_like.ensures.none
+    IfNone-weaker c.first_like.result (NoneOf (IsThereLike key known from) c.self.inside.rows)
+    (NoneOf (IsCandidateLike key known from) c.args.self.now.now)
+    (λ none. subst (λ (stock : Stock). NoneOf (IsCandidateLike key known from) stock.now) c.self.view_is
+    (none-like key known from c.self.inside.rows none)) c.first_like.ensures.none
 
 pub returns-clause-rises : goal.returns-clause-rises
 returns-clause-rises g c =

@@ -20,17 +20,19 @@ invariant_of-self c =
           let codes = w.in-Some.codes in
           let whole = w.enter_again-self-inside.result in
           let index = w.enter_again-self-inside.new.self in
-          let same = slot_at-codes age ss codes order (sym c.codes.ensures ∙ w.in-Some.is) in
+          let all = c.is_on.result in
+          let same = slot_at-codes all age ss codes order (sym c.codes.ensures ∙ w.in-Some.is) in
+          let on : index.on ≡ all = w.enter_again-self-inside.ensures.on ∙ sym c.is_on.ensures in
           let less : min own.start age ≤ own.start = omega arith in
           let before : min own.start age ≤ age = omega arith in
           let start : w.min-self-inside.result ≡ min own.start age = w.min-self-inside.ensures in
           subst Finds (sym w.self-inside-is)
           (λ is. subst (λ (n : ℕ). All (IsFindable n whole index) new) (sym start)
           (subst (All (IsFindable (min own.start age) whole index)) (sym is)
-          (findable_again own.start own.whole own.index index (min own.start age) age whole codes ss less before
-          w.enter_again-self-inside.ensures.kept w.enter_again-self-inside.ensures.entered same c.self.invariant))) c.set_taken.ensures
+          (findable_again own.start own.whole own.index index (min own.start age) age whole all codes ss less before
+          w.enter_again-self-inside.ensures.kept w.enter_again-self-inside.ensures.entered on same c.self.invariant))) c.set_taken.ensures
       | in_default w ↦
-          let others = slot_at-no_codes age ss (sym c.codes.ensures ∙ w.in_default.is) in
+          let others = slot_at-no_codes c.is_on.result age ss (sym c.codes.ensures ∙ w.in_default.is) in
           subst Finds (sym w.self-inside-is)
           (λ is. subst (All (IsFindable own.start own.whole own.index))
           (sym (is ∙ map-others (with_taken age 0) age ss (with_taken-other age 0) others)) c.self.invariant) c.set_taken.ensures

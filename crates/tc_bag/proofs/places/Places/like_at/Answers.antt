@@ -8,8 +8,8 @@ use Rattle.tc_bag.specs.Slots.{tuple_there}
 use Rattle.tc_bag.proofs.Looks.{like-there}
 use Rattle.tc_bag.proofs.places.Places.like_at.Goals as goal
 
-pub returns-then-has_first-clause-looked : goal.returns-then-has_first-clause-looked
-returns-then-has_first-clause-looked g c =
+pub returns-then-has_known-clause-looked : goal.returns-then-has_known-clause-looked
+returns-then-has_known-clause-looked g c =
     let rows = c.self.inside.rows in
     let row = c.in_ok-row.row in
     let age = c.args.age in
@@ -24,8 +24,8 @@ returns-then-has_first-clause-looked g c =
     c.if-not-has_key.false in
     omega (arith, c.look-tuple.ensures.counted, like-there key age t c.args.self.now there agrees)
 
-pub returns-else-has_first-clause-looked : goal.returns-else-has_first-clause-looked
-returns-else-has_first-clause-looked g c =
+pub returns-else-has_known-clause-looked : goal.returns-else-has_known-clause-looked
+returns-else-has_known-clause-looked g c =
     let rows = c.self.inside.rows in
     let row = c.in_ok-row.row in
     let age = c.args.age in

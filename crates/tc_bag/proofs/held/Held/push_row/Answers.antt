@@ -1,12 +1,13 @@
 use Rattle.std.proofs.Common.{◌≢◌, ◌<◌, ◌++◌, [], ◌∷◌, ℕ, List, All, ap, sym, subst, ◌∙◌, arith}
 use Rattle.std.proofs.lemmas.List.Elements.{All-push}
-use Rattle.tc_bag.specs.Ages.{HasCodes}
+use Rattle.tc_bag.specs.Ages.{HasCodes, HasRow}
 use Rattle.tc_bag.specs.Codes.{codes_of}
 use Rattle.tc_bag.specs.Places.{IsFindable}
 use Rattle.tc_bag.specs.Slots.{Slot, slot}
 use Rattle.tc_bag.proofs.ByAge.{findable_kept, findable_more}
-use Rattle.tc_bag.proofs.held.Held.push.Goals as goal
-use Rattle.tc_bag.proofs.held.Held.push.Goals.{then-empty, else-empty}
+use Rattle.tc_bag.proofs.Keeping.{HasRow-by}
+use Rattle.tc_bag.proofs.held.Held.push_row.Goals as goal
+use Rattle.tc_bag.proofs.held.Held.push_row.Goals.{then-empty, else-empty}
 
 -- older rows have other ages
 others : (age : ℕ) (ss : List Slot) → All (λ s. s.age < age) ss → All (λ s. s.age ≢ age) ss
@@ -35,8 +36,10 @@ invariant_of-self-in-Ok c =
     let own = c.self.inside in
     let new = c.enter_row.new.self in
     let one = slot c.args.age c.args.tuple in
-    let has : HasCodes new c.args.age (codes_of c.args.tuple) =
-    subst (HasCodes new c.args.age) (c.codes_of-codes.ensures ∙ ap codes_of c.term.ensures.term) c.in_default.ensures.entered in
+    let all = c.is_on.result in
+    let has : HasRow new c.args.age c.args.tuple =
+    HasRow-by new c.args.age c.args.tuple all (c.enter_row.ensures.on ∙ sym c.is_on.ensures)
+    (subst (HasCodes new c.args.age) (c.codes_of-codes.ensures ∙ ap (codes_of all) c.term.ensures.term) c.in_default.ensures.entered) in
     subst (All (IsFindable c.if-empty.self own.whole new)) (sym c.in-Ok.ensures.pushed)
     (elim c.if-empty.branch [
       | then-empty w ↦

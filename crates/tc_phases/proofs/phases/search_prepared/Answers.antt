@@ -6,7 +6,7 @@ use Rattle.tc_model.specs.State.{after_taking}
 use Rattle.tc_phases.specs.Phases.{IsPhase, IsOldest}
 use Rattle.tc_phases.specs.Running.{changed, event_in}
 use Rattle.tc_phases.proofs.Removals.{found-left}
-use Rattle.tc_phases.proofs.phases.search.Goals as goal
+use Rattle.tc_phases.proofs.phases.search_prepared.Goals as goal
 
 pub returns-clause-search : goal.returns-clause-search
 returns-clause-search g c =
